@@ -1,0 +1,88 @@
+-- Laws of byte strings that are walked from the front.
+use mathlib.Core.Path.{_≡_, refl, sym, ap, ap₂, _∙_}
+use mathlib.Core.Bool.{Bool, true, false}
+use mathlib.Core.List.{List, [], _∷_, _++_}
+use Prim.Native.Nat.{ℕ, zero, suc, _+_, _-_, _≤_, _<_}
+use native.Mathlib.Nat.{add-zero, sub-zero}
+use native.Mathlib.Omega.{arith}
+use borrow.Author.Tests.{eq-eqb, ne-eqb, eqb-true}
+use lib.Dec.{eqb}
+use lib.ListN.{length, getD, take, drop, length-drop}
+use lib.Seq.{drop-cons, length-take-le}
+use Rattle.words.specs.Test.{_and_, _or_, same, among}
+use Rattle.words.specs.Check.{part}
+use Rattle.words.proofs.Tests.{both-true}
+
+pub part-length : (l : List ℕ) (at n : ℕ) → at + n ≤ length l → length (part l at n) ≡ n
+part-length l at n h = length-take-le n (drop at l) (omega (arith, length-drop at l))
+
+pub part-some : (l : List ℕ) (at n : ℕ) → at + n ≤ length l → 1 ≤ n → 1 ≤ length (part l at n)
+part-some l at n h m = omega (arith, part-length l at n h)
+
+-- what is left of a part, after i bytes
+abbrev pub rest : List ℕ → ℕ → ℕ → ℕ → List ℕ
+rest l at n i = part l (at + i) (n - i)
+
+pub rest-all : (l : List ℕ) (at n : ℕ) → part l at n ≡ rest l at n 0
+rest-all l at n = ap₂ (part l) (sym (add-zero at)) (sym (sub-zero n))
+
+pub rest-none : (l : List ℕ) (at n i : ℕ) → n ≤ i → rest l at n i ≡ []
+rest-none l at n i h = ap (part l (at + i)) zero-left
+  where
+    zero-left : n - i ≡ 0
+    zero-left = omega arith
+
+pub rest-cons : (l : List ℕ) (at n i : ℕ) → i < n → at + n ≤ length l → rest l at n i ≡ getD l (at + i) 0 ∷ rest l at n (i + 1)
+rest-cons l at n i h e =
+    ap (λ (m : ℕ). take m (drop (at + i) l)) one-more ∙ ap (take (suc (n - (i + 1)))) (drop-cons l (at + i) 0 inside)
+    ∙ ap (λ (a : ℕ). getD l (at + i) 0 ∷ take (n - (i + 1)) (drop a l)) next
+  where
+    one-more : n - i ≡ suc (n - (i + 1))
+    one-more = omega arith
+
+    inside : at + i < length l
+    inside = omega arith
+
+    next : suc (at + i) ≡ at + (i + 1)
+    next = omega arith
+
+-- ---- a byte among them
+module _ (l : List ℕ) (at n i x : ℕ) (h : i < n) (e : at + n ≤ length l) where
+  pub among-here : getD l (at + i) 0 ≡ x → true ≡ among (rest l at n i) x
+  among-here q = sym (ap (λ (s : List ℕ). among s x) (rest-cons l at n i h e) ∙ ap (λ (b : Bool). b or among (rest l at n (i + 1)) x) (eq-eqb _ _ (sym q)))
+
+  pub among-later : (getD l (at + i) 0 ≡ x → ⊥) → among (rest l at n i) x ≡ among (rest l at n (i + 1)) x
+  among-later q = ap (λ (s : List ℕ). among s x) (rest-cons l at n i h e) ∙ ap (λ (b : Bool). b or among (rest l at n (i + 1)) x) (ne-eqb _ _ (λ r. q (sym r)))
+
+-- ---- two of them compared
+module _ (l m : List ℕ) (a b n i : ℕ) (h : i < n) (e : a + n ≤ length l) (f : b + n ≤ length m) where
+  stepped : same (rest l a n i) (rest m b n i) ≡ (eqb (getD l (a + i) 0) (getD m (b + i) 0) and same (rest l a n (i + 1)) (rest m b n (i + 1)))
+  stepped = ap₂ same (rest-cons l a n i h e) (rest-cons m b n i h f)
+
+  pub same-later : getD l (a + i) 0 ≡ getD m (b + i) 0 → same (rest l a n i) (rest m b n i) ≡ same (rest l a n (i + 1)) (rest m b n (i + 1))
+  same-later q = stepped ∙ ap (λ (x : Bool). x and same (rest l a n (i + 1)) (rest m b n (i + 1))) (eq-eqb _ _ q)
+
+  pub same-not : (getD l (a + i) 0 ≡ getD m (b + i) 0 → ⊥) → false ≡ same (rest l a n i) (rest m b n i)
+  same-not q = sym (stepped ∙ ap (λ (x : Bool). x and same (rest l a n (i + 1)) (rest m b n (i + 1))) (ne-eqb _ _ q))
+
+pub same-ends : (l m : List ℕ) (a b n i : ℕ) → n ≤ i → true ≡ same (rest l a n i) (rest m b n i)
+same-ends l m a b n i h = sym (ap₂ same (rest-none l a n i h) (rest-none m b n i h))
+
+-- byte strings that are the same are equal; of different lengths none are the same
+pub same-eq : (s t : List ℕ) → same s t ≡ true → s ≡ t
+same-eq [] [] e = refl
+same-eq [] (y ∷ t) e = let z : _≡_ {A = ℕ} 0 1 = cc in absurd (omega arith)
+same-eq (x ∷ s) [] e = let z : _≡_ {A = ℕ} 0 1 = cc in absurd (omega arith)
+same-eq (x ∷ s) (y ∷ t) e =
+    let b = both-true (eqb x y) (same s t) e in
+    ap₂ (λ (u : ℕ) (v : List ℕ). u ∷ v) (eqb-true x y (b .0)) (same-eq s t (b .1))
+
+pub same-long : (s t : List ℕ) → (length s ≡ length t → ⊥) → false ≡ same s t
+same-long [] [] h = absurd (h refl)
+same-long [] (y ∷ t) h = refl
+same-long (x ∷ s) [] h = refl
+same-long (x ∷ s) (y ∷ t) h = by (eqb x y) (same-long s t (λ q. h (ap suc q)))
+  where
+    by : (b : Bool) → false ≡ same s t → false ≡ (b and same s t)
+    by true e = e
+    by false e = refl

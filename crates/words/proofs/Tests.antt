@@ -1,0 +1,133 @@
+-- Laws of the tests that the definitions are made of, and of class words.
+use mathlib.Core.Path.{_≡_, refl, sym, ap, ap₂, _∙_}
+use mathlib.Core.Bool.{Bool, true, false, not}
+use mathlib.Core.List.{List, [], _∷_, _++_}
+use mathlib.Core.Logic.{_⊎_, inl, inr, ⊎-elim}
+use Prim.Native.Nat.{ℕ, zero, suc, _+_, _-_, _*_, _/_, _%_, _^_, _≤_, _<_}
+use native.Mathlib.Nat.{zero-div, eq-or-lt-of-le}
+use native.Mathlib.Numerals.{one-add}
+use native.Mathlib.Omega.{arith}
+use lib.Dec.{eqb}
+use lib.ListN.{length, getD, length-append, List·getD-append}
+use lib.Seq.{getD-at}
+use lib.Pow.{shr-shr}
+use borrow.Author.Tests.{eq-eqb, ne-eqb}
+use Rattle.words.specs.Test.{_and_, _or_, among}
+use Rattle.words.specs.Class.{bit, packed, table, classes-of, class-word, class-words, in-class}
+use Rattle.words.specs.Word.{end}
+use Rattle.words.specs.Cursor.{word-at, second-half, left, on-line, first-byte, end-byte}
+
+pub lt-or-le : (a b : ℕ) → (a < b) ⊎ (b ≤ a)
+lt-or-le a zero = inr (omega arith)
+lt-or-le zero (suc b) = inl (omega arith)
+lt-or-le (suc a) (suc b) = ⊎-elim (λ p. inl (omega arith)) (λ q. inr (omega arith)) (lt-or-le a b)
+
+pub and-true : (b : Bool) → b and true ≡ b
+and-true true = refl
+and-true false = refl
+
+-- a number among those of a list
+pub among-first : (x : ℕ) (l : List ℕ) (k : ℕ) → k ≡ x → among (x ∷ l) k ≡ true
+among-first x l k e = ap (λ (b : Bool). b or among l k) (eq-eqb k x e)
+
+pub among-next : (x : ℕ) (l : List ℕ) (k : ℕ) → (k ≡ x → ⊥) → among (x ∷ l) k ≡ among l k
+among-next x l k e = ap (λ (b : Bool). b or among l k) (ne-eqb k x e)
+
+pub among-last : (x k : ℕ) → among (x ∷ []) k ≡ eqb k x
+among-last x k = by (eqb k x)
+  where
+    by : (b : Bool) → (b or false) ≡ b
+    by true = refl
+    by false = refl
+
+-- a test passes at every number below n
+abbrev pub every-below : ℕ → (ℕ → Bool) → Bool
+every-below zero f = true
+every-below (suc n) f = f n and every-below n f
+
+and-left : (a b : Bool) → a and b ≡ true → a ≡ true
+and-left true b e = refl
+and-left false b e = e
+
+and-right : (a b : Bool) → a and b ≡ true → b ≡ true
+and-right true b e = e
+and-right false b e = let z : _≡_ {A = ℕ} 0 1 = cc in absurd (omega arith)
+
+pub both-true : (a b : Bool) → a and b ≡ true → (a ≡ true) × (b ≡ true)
+both-true a b e = (and-left a b e, and-right a b e)
+
+pub below-each : (n : ℕ) (f : ℕ → Bool) → every-below n f ≡ true → (k : ℕ) → k < n → f k ≡ true
+below-each zero f e k h = absurd (omega arith)
+below-each (suc n) f e k h =
+    ⊎-elim (λ q. ap f (suc-one q) ∙ and-left (f n) (every-below n f) e) (λ l. below-each n f (and-right (f n) (every-below n f) e) k (omega arith))
+    (eq-or-lt-of-le h)
+  where
+    suc-one : suc k ≡ suc n → k ≡ n
+    suc-one q = omega arith
+
+-- ---- class words
+pub bit-test : (b : Bool) → eqb (bit b) 1 ≡ b
+bit-test true = refl
+bit-test false = refl
+
+bit-small : (b : Bool) → bit b < 2
+bit-small true = omega arith
+bit-small false = omega arith
+
+-- bit j of packed classes is class j
+pub packed-bit : (bs : List Bool) (j : ℕ) → packed bs / 2 ^ j % 2 ≡ bit (getD bs j false)
+packed-bit [] j = ap (λ (x : ℕ). x % 2) (zero-div (2 ^ j))
+packed-bit (b ∷ bs) zero = omega (arith, bit-small b)
+packed-bit (b ∷ bs) (suc j) =
+    ap (λ (x : ℕ). x % 2)
+    (ap (λ (x : ℕ). packed (b ∷ bs) / 2 ^ x) (sym (one-add j)) ∙ sym (shr-shr (packed (b ∷ bs)) 1 j) ∙ ap (λ (x : ℕ). x / 2 ^ j) half)
+    ∙ packed-bit bs j
+  where
+    half : (bit b + 2 * packed bs) / 2 ≡ packed bs
+    half = omega (arith, bit-small b)
+
+-- ---- tables
+pub table-length : (n : ℕ) (f : ℕ → ℕ) → length (table n f) ≡ n
+table-length zero f = refl
+table-length (suc n) f = length-append (table n f) (f n ∷ []) ∙ ap (λ (x : ℕ). x + 1) (table-length n f) ∙ omega arith
+
+pub table-at : (n : ℕ) (f : ℕ → ℕ) (k : ℕ) → k < n → getD (table n f) k 0 ≡ f k
+table-at zero f k h = absurd (omega arith)
+table-at (suc n) f k h = ⊎-elim last (λ l. below l ∙ table-at n f k (omega arith)) (eq-or-lt-of-le h)
+  where
+    last : suc k ≡ suc n → getD (table n f ++ (f n ∷ [])) k 0 ≡ f k
+    last q =
+        let e : k ≡ n = omega arith in
+        getD-at (table n f) (f n) [] 0 k (table-length n f ∙ sym e) ∙ ap f (sym e)
+
+    below : suc k < suc n → getD (table n f ++ (f n ∷ [])) k 0 ≡ getD (table n f) k 0
+    below l = List·getD-append (table n f) (f n ∷ []) 0 k (omega (arith, table-length n f))
+
+-- a class is read off the table
+pub class-read : (classes : List ℕ) (k j : ℕ) → classes ≡ class-words → k < 256 → eqb (getD classes k 0 / 2 ^ j % 2) 1 ≡ in-class j k
+class-read classes k j e h =
+    ap (λ (x : ℕ). eqb (x / 2 ^ j % 2) 1) (ap (λ (l : List ℕ). getD l k 0) e ∙ table-at 256 class-word k h)
+    ∙ ap (λ (x : ℕ). eqb x 1) (packed-bit (classes-of k) j) ∙ bit-test (in-class j k)
+
+-- ---- a half that is used up
+pub left-some : (h k : ℕ) → (h ≡ 0 → ⊥) → second-half k ≡ left h k
+left-some zero k e = absurd (e refl)
+left-some (suc h) k e = refl
+
+pub line-some : (h w : ℕ) → (h ≡ 0 → ⊥) → true ≡ on-line h w
+line-some zero w e = absurd (e refl)
+line-some (suc h) w e = refl
+
+pub end-some : (words : List ℕ) (at h : ℕ) → (h ≡ 0 → ⊥) → first-byte words at h ≡ end-byte words at h
+end-some words at zero e = absurd (e refl)
+end-some words at (suc h) e = refl
+
+pub end-start : (words : List ℕ) (at h : ℕ) → h ≡ 0 → at ≡ 0 → 0 ≡ end-byte words at h
+end-start words at h e f = sym (ap₂ (end-byte words) f e)
+
+pub end-after : (words : List ℕ) (at h : ℕ) → h ≡ 0 → (at ≡ 0 → ⊥) → end (word-at words (at - 1)) ≡ end-byte words at h
+end-after words zero h e f = absurd (f refl)
+end-after words (suc i) h e f = ap (λ (x : ℕ). end (word-at words x)) less ∙ sym (ap (end-byte words (suc i)) e)
+  where
+    less : suc i - 1 ≡ i
+    less = omega arith

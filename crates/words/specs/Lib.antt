@@ -1,0 +1,10 @@
+pub mod Limits
+pub mod Test
+pub mod Word
+pub mod Kind
+pub mod Class
+pub mod Spelling
+pub mod Check
+pub mod Verdict
+pub mod Cursor
+pub mod Ahead

@@ -1,0 +1,75 @@
+-- The spellings that 01's table of kinds fixes, and what a token's bytes must be.
+use Prim.Native.Nat.{ℕ, zero, suc, _+_, _-_, _*_}
+use Prim.Native.Char.{Char, code}
+use Prim.Native.String as S
+use Prim.Native.String.{String}
+use mathlib.Core.Bool.{Bool, true, false, not}
+use mathlib.Core.List.{List, [], _∷_, _++_}
+use lib.Dec.{eqb, leb}
+use lib.ListN.{getD, length}
+use Rattle.words.specs.Test.{_and_, _or_, same, test, some-below, among}
+use Rattle.words.specs.Kind.{Word, LCurly, Any, Extends, OtherReserved}
+use Rattle.words.specs.Class.{fixed, other, table}
+
+-- the bytes of a text of ASCII
+abbrev pub bytes : String → List ℕ
+bytes S.[] = []
+bytes (S._∷_ c s) = code c ∷ bytes s
+
+-- 16 to 40
+abbrev pub marks : List String
+marks =
+    "{" ∷ "}" ∷ "[" ∷ "]" ∷ "(" ∷ ")" ∷ "<" ∷ ">" ∷ "<<" ∷ "<=" ∷ "<<=" ∷ "|" ∷ "&" ∷ "?" ∷ ":" ∷ "," ∷ ";" ∷ "." ∷ "..." ∷ "=>" ∷ "=" ∷ "!" ∷ "-" ∷ "+" ∷ "*" ∷ []
+
+-- 64 to 82
+abbrev pub words : List String
+words =
+    "any" ∷ "bigint" ∷ "boolean" ∷ "never" ∷ "number" ∷ "object" ∷ "string" ∷ "symbol" ∷ "undefined" ∷ "unknown"
+    ∷ "abstract" ∷ "as" ∷ "asserts" ∷ "infer" ∷ "is" ∷ "keyof" ∷ "out" ∷ "readonly" ∷ "unique" ∷ []
+
+-- 96 to 106
+abbrev pub reserved : List String
+reserved = "extends" ∷ "false" ∷ "import" ∷ "in" ∷ "new" ∷ "null" ∷ "this" ∷ "true" ∷ "typeof" ∷ "void" ∷ "const" ∷ []
+
+-- the spelling of a kind: nothing where none is fixed
+abbrev pub shown : ℕ → String
+shown k =
+    test (leb Extends k) (λ _. getD reserved (k - Extends) "") (λ _.
+    test (leb Any k) (λ _. getD words (k - Any) "") (λ _.
+    test (leb LCurly k) (λ _. getD marks (k - LCurly) "") (λ _. "")))
+
+abbrev pub spelling : ℕ → List ℕ
+spelling k = bytes (shown k)
+
+-- s is the fixed spelling of kind k
+abbrev pub spelled-as : List ℕ → ℕ → Bool
+spelled-as s k = fixed k and same (spelling k) s
+
+-- s is the fixed spelling of some kind
+abbrev pub spelled-as-any : List ℕ → Bool
+spelled-as-any s = some-below OtherReserved (spelled-as s)
+
+abbrev pub backslash : ℕ
+backslash = 92
+
+-- 01: a fixed kind is spelled as shown, the other words and marks as none of those, and a Word holds no backslash
+abbrev pub spelled-right : ℕ → List ℕ → Bool
+spelled-right k s =
+    test (fixed k) (λ _. same (spelling k) s) (λ _.
+    test (other k) (λ _. not (spelled-as-any s) and not (eqb k Word and among s backslash)) (λ _.
+    true))
+
+-- ---- the spellings one after the other, as the code keeps them
+abbrev pub letters-below : ℕ → List ℕ
+letters-below zero = []
+letters-below (suc k) = letters-below k ++ spelling k
+
+-- where a kind's spelling stands among them, and its length
+abbrev pub place : ℕ → ℕ
+place k = length (letters-below k) * 16 + length (spelling k)
+
+abbrev pub fixed-letters : List ℕ
+fixed-letters = letters-below OtherReserved
+
+abbrev pub fixed-places : List ℕ
+fixed-places = table 256 place

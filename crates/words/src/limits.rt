@@ -1,0 +1,74 @@
+// The limits of document 01, each once, under the name of what it limits.
+ghost use mathlib.Core.Path.{_≡_};
+ghost use Rattle.words.specs.Limits.{most-text, most-tokens, most-open, tallest, longest, most-notes, most-key};
+
+pub struct Text {}
+
+impl Text {
+    pub const MOST: usize = 65535;
+}
+
+pub struct Tokens {}
+
+impl Tokens {
+    pub const MOST: usize = 16384;
+}
+
+// Type rules that are open at once.
+pub struct OpenRules {}
+
+impl OpenRules {
+    pub const MOST: usize = 64;
+}
+
+pub struct Tree {}
+
+impl Tree {
+    pub const TALLEST: usize = 256;
+}
+
+pub struct List {}
+
+impl List {
+    pub const LONGEST: usize = 4095;
+}
+
+// Diagnostics of one reading.
+pub struct Notes {}
+
+impl Notes {
+    pub const MOST: usize = 32;
+}
+
+pub struct Key {}
+
+impl Key {
+    pub const MOST: usize = 262144;
+}
+
+// All of them: what the code has is what the definitions have.
+pub struct Limits {
+    pub text: usize,
+    pub tokens: usize,
+    pub open: usize,
+    pub tall: usize,
+    pub list: usize,
+    pub notes: usize,
+    pub key: usize,
+}
+
+impl Limits {
+    pub fn all() -> Limits
+        ensures { λ r. ⌜ (r .text ≡ most-text) × (r .tokens ≡ most-tokens) × (r .open ≡ most-open) × (r .tall ≡ tallest) × (r .list ≡ longest) × (r .notes ≡ most-notes) × (r .key ≡ most-key) ⌝ }
+    {
+        Limits {
+            text: Text::MOST,
+            tokens: Tokens::MOST,
+            open: OpenRules::MOST,
+            tall: Tree::TALLEST,
+            list: List::LONGEST,
+            notes: Notes::MOST,
+            key: Key::MOST,
+        }
+    }
+}

@@ -1,0 +1,123 @@
+// The fixed spellings, and what a token's bytes must be.
+ghost use mathlib.Core.Path.{_≡_};
+ghost use Prim.Native.Nat.{_+_, _≤_, _<_};
+ghost use lib.ListN.{length};
+ghost use Rattle.words.specs.Test.{among, same};
+ghost use Rattle.words.specs.Spelling.{fixed-letters, fixed-places, backslash, spelled-as-any, spelled-right, spelling};
+ghost use Rattle.words.specs.Check.{part};
+ghost use Rattle.words.specs.Class.{class-words};
+use crate::kind::Class;
+use crate::kind::Kind;
+use crate::kind::in_class;
+use crate::tables::LETTERS;
+use crate::tables::PLACES;
+
+pub fn spelling_places() -> [u16; 256]
+    ensures { λ r. ⌜ r ≡ fixed-places ⌝ }
+{
+    PLACES
+}
+
+pub fn spelling_letters() -> [u8; 189]
+    ensures { λ r. ⌜ r ≡ fixed-letters ⌝ }
+{
+    LETTERS
+}
+
+// Whether n bytes of the text are the same as n of the letters.
+fn same_bytes(text: &[u8], at: usize, letters: &[u8; 189], from: usize, n: usize) -> bool
+    requires { ⌜ (at + n ≤ length (now text)) × (from + n ≤ 189) × (length (now letters) ≡ 189) ⌝ }
+    ensures { λ r. ⌜ r ≡ same (part (now (letters .entry)) from n) (part (now (text .entry)) at n) ⌝ }
+{
+    let mut i: usize = 0;
+    while i < n {
+        if letters[from + i] != text[at + i] {
+            return false;
+        }
+        i += 1;
+    }
+    true
+}
+
+// Whether n bytes of the text are the fixed spelling of a kind.
+pub fn spelled(
+    text: &[u8],
+    at: usize,
+    n: usize,
+    places: &[u16; 256],
+    letters: &[u8; 189],
+    kind: usize,
+) -> bool
+    requires { ⌜ (at + n ≤ length (now text)) × (now places ≡ fixed-places) × (now letters ≡ fixed-letters) × (kind < 107) ⌝ }
+    ensures { λ r. ⌜ r ≡ same (spelling kind) (part (now (text .entry)) at n) ⌝ }
+{
+    let place = places[kind] as usize;
+    if place % 16 != n {
+        return false;
+    }
+    same_bytes(text, at, letters, place / 16, n)
+}
+
+// Whether n bytes of the text, at least one, are the fixed spelling of any kind.
+pub fn spelled_as_any(
+    text: &[u8],
+    at: usize,
+    n: usize,
+    places: &[u16; 256],
+    letters: &[u8; 189],
+) -> bool
+    requires { ⌜ (at + n ≤ length (now text)) × (1 ≤ n) × (now places ≡ fixed-places) × (now letters ≡ fixed-letters) ⌝ }
+    ensures { λ r. ⌜ r ≡ spelled-as-any (part (now (text .entry)) at n) ⌝ }
+{
+    let mut kind = Kind::OTHER_RESERVED;
+    while 0 < kind {
+        kind -= 1;
+        if spelled(text, at, n, places, letters, kind) {
+            return true;
+        }
+    }
+    false
+}
+
+// Whether n bytes of the text hold a backslash.
+fn backslash_in(text: &[u8], at: usize, n: usize) -> bool
+    requires { ⌜ at + n ≤ length (now text) ⌝ }
+    ensures { λ r. ⌜ r ≡ among (part (now (text .entry)) at n) backslash ⌝ }
+{
+    let mut j: usize = 0;
+    while j < n {
+        if text[at + j] == b'\\' {
+            return true;
+        }
+        j += 1;
+    }
+    false
+}
+
+// Whether n bytes of the text, at least one, may stand for a token of a kind.
+pub fn spelled_right(
+    text: &[u8],
+    at: usize,
+    n: usize,
+    classes: &[u16; 256],
+    places: &[u16; 256],
+    letters: &[u8; 189],
+    kind: usize,
+) -> bool
+    requires { ⌜ (at + n ≤ length (now text)) × (1 ≤ n) × (now classes ≡ class-words) × (now places ≡ fixed-places) × (now letters ≡ fixed-letters) × (kind < 256) ⌝ }
+    ensures { λ r. ⌜ r ≡ spelled-right kind (part (now (text .entry)) at n) ⌝ }
+{
+    if in_class(classes, kind, Class::FIXED) {
+        return spelled(text, at, n, places, letters, kind);
+    }
+    if !in_class(classes, kind, Class::OTHER) {
+        return true;
+    }
+    if spelled_as_any(text, at, n, places, letters) {
+        return false;
+    }
+    if kind != Kind::WORD {
+        return true;
+    }
+    !backslash_in(text, at, n)
+}

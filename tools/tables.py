@@ -1,0 +1,60 @@
+#!/usr/bin/env python3
+"""Writes the constant tables of crates/words/src/tables.rt: class words, places of spellings, letters.
+
+    tools/tables.py          write them
+    tools/tables.py --check  say whether they are as they would be written
+
+The tables are proved to be what the definitions say; this script only spares typing them.
+"""
+import os
+import re
+import sys
+
+sys.path.insert(0, os.path.dirname(os.path.abspath(__file__)))
+import model
+
+ROOT = os.path.dirname(os.path.dirname(os.path.abspath(__file__)))
+
+
+def classes(kind):
+    word = model.binding(kind), model.name(kind), model.starts(kind), model.modifier(kind)
+    word += model.valid(kind), kind in model.SPELL, kind in (1, 41, 83, 107)
+    return sum(1 << j for j, on in enumerate(word) if on)
+
+
+def letters():
+    text, places = b"", []
+    for kind in range(256):
+        spelling = model.SPELL.get(kind, b"")
+        places.append(len(text) * 16 + len(spelling))
+        text += spelling
+    return text, places
+
+
+def array(name, kind, values):
+    rows = ["    " + ", ".join(str(v) for v in values[i:i + 16]) + ",\n" for i in range(0, len(values), 16)]
+    return "pub const %s: [%s; %d] = [\n%s];\n" % (name, kind, len(values), "".join(rows))
+
+
+def tables():
+    text, places = letters()
+    yield "pub const LETTERS: [u8; %d] = *b\"%s\";\n" % (len(text), text.decode())
+    yield array("CLASSES", "u16", [classes(k) for k in range(256)])
+    yield array("PLACES", "u16", places)
+
+
+def main():
+    path = os.path.join(ROOT, "crates", "words", "src", "tables.rt")
+    old = new = open(path).read()
+    for text in tables():
+        const = re.match(r"pub const (\w+)", text).group(1)
+        new = re.sub(r"pub const %s: \[[^\]]*\] = [^;]*;.*?\n(?=\n|$)" % const if const != "LETTERS" else r'pub const LETTERS: .*";\n', lambda _: text, new)
+    same = re.sub(r"\s", "", new) == re.sub(r"\s", "", old)
+    print("the tables are as they would be written" if same else "the tables differ" if "--check" in sys.argv else "written")
+    if "--check" in sys.argv:
+        sys.exit(not same)
+    if not same:
+        open(path, "w").write(new)
+
+
+main()
