@@ -8,10 +8,10 @@ use borrow.Author.Tests.{eqb-true, leb-true, ltb-true, lt-leb}
 use lib.Dec.{eqb, leb, ltb}
 use lib.ListN.{length, getD, take, drop}
 use mathlib.Core.Logic.{⊎-elim}
-use Rattle.words.specs.Test.{_and_, _or_, same, some-below, between}
+use Rattle.words.specs.Test.{_and_, _or_, same, someBelow, between}
 use Rattle.words.specs.Kind.{LCurly, Star, Any, Unique, Extends, Const}
 use Rattle.words.specs.Class.{fixed, table}
-use Rattle.words.specs.Spelling.{spelling, spelled-as, spelled-as-any, place, fixed-letters, fixed-places}
+use Rattle.words.specs.Spelling.{spelling, spelledAs, spelledAsAny, place, fixedLetters, fixedPlaces}
 use Rattle.words.specs.Check.{part}
 use Rattle.words.proofs.Tests.{every-below, below-each, both-true, table-at, lt-or-le}
 use Rattle.words.proofs.Bytes.{same-eq}
@@ -25,7 +25,7 @@ abbrev stands : ℕ → Bool
 stands k =
     eqb (place k % 16) (length (spelling k))
     and leb (place k / 16 + place k % 16) 189
-    and same (part fixed-letters (place k / 16) (length (spelling k))) (spelling k)
+    and same (part fixedLetters (place k / 16) (length (spelling k))) (spelling k)
     and (fixed k or empty (spelling k))
 
 all-stand : every-below 107 stands ≡ true
@@ -34,7 +34,7 @@ all-stand = refl
 record Stands (k : ℕ) : Type 0 where
   size : place k % 16 ≡ length (spelling k)
   inside : place k / 16 + place k % 16 ≤ 189
-  is : part fixed-letters (place k / 16) (length (spelling k)) ≡ spelling k
+  is : part fixedLetters (place k / 16) (length (spelling k)) ≡ spelling k
   only : (fixed k or empty (spelling k)) ≡ true
 
 stand : (k : ℕ) → k < 107 → Stands k
@@ -45,7 +45,7 @@ stand k h =
     record {
       size = eqb-true (place k % 16) (length (spelling k)) (a .0);
       inside = leb-true (place k / 16 + place k % 16) 189 (b .0);
-      is = same-eq (part fixed-letters (place k / 16) (length (spelling k))) (spelling k) (d .0);
+      is = same-eq (part fixedLetters (place k / 16) (length (spelling k))) (spelling k) (d .0);
       only = d .1;
     }
 
@@ -56,7 +56,7 @@ only-fixed false [] [] h e = absurd (omega arith)
 only-fixed false [] (x ∷ s) h e = refl
 only-fixed false (y ∷ t) s h e = let z : _≡_ {A = ℕ} 0 1 = cc in absurd (omega arith)
 
-spelled-is : (s : List ℕ) (k : ℕ) → 1 ≤ length s → k < 107 → spelled-as s k ≡ same (spelling k) s
+spelled-is : (s : List ℕ) (k : ℕ) → 1 ≤ length s → k < 107 → spelledAs s k ≡ same (spelling k) s
 spelled-is s k h l = only-fixed (fixed k) (spelling k) s h (stand k l .only)
 
 -- a place fits 16 bits
@@ -67,7 +67,7 @@ place-small : (k : ℕ) → k < 107 → place k < 65536
 place-small k h = ltb-true (place k) 65536 (below-each 107 (λ i. ltb (place i) 65536) small k h)
 
 -- what the table of places and the letters say of a kind
-module _ (places letters : List ℕ) (k : ℕ) (p : places ≡ fixed-places) (q : letters ≡ fixed-letters) (h : k < 107) where
+module _ (places letters : List ℕ) (k : ℕ) (p : places ≡ fixedPlaces) (q : letters ≡ fixedLetters) (h : k < 107) where
   abbrev entry : ℕ
   entry = getD places k 0
 
@@ -104,18 +104,18 @@ fixed-low k e = ⊎-elim (λ l. l) (λ g. absurd (never g)) (lt-or-le k 107)
         omega arith
 
 -- one kind more
-some-more : (f : ℕ → Bool) (k : ℕ) → 0 < k → some-below k f ≡ (f (k - 1) or some-below (k - 1) f)
+some-more : (f : ℕ → Bool) (k : ℕ) → 0 < k → someBelow k f ≡ (f (k - 1) or someBelow (k - 1) f)
 some-more f zero h = absurd (omega arith)
-some-more f (suc k) h = ap (λ (i : ℕ). f i or some-below i f) less
+some-more f (suc k) h = ap (λ (i : ℕ). f i or someBelow i f) less
   where
     less : k ≡ suc k - 1
     less = omega arith
 
 pub some-spelled : (s : List ℕ) (k : ℕ) → 1 ≤ length s → 0 < k → k ≤ 107 → {b : Bool} → same (spelling (k - 1)) s ≡ b
-    → some-below k (spelled-as s) ≡ (b or some-below (k - 1) (spelled-as s))
+    → someBelow k (spelledAs s) ≡ (b or someBelow (k - 1) (spelledAs s))
 some-spelled s k l h m e =
-    some-more (spelled-as s) k h ∙ ap (λ (x : Bool). x or some-below (k - 1) (spelled-as s)) (spelled-is s (k - 1) l (omega arith) ∙ e)
+    some-more (spelledAs s) k h ∙ ap (λ (x : Bool). x or someBelow (k - 1) (spelledAs s)) (spelled-is s (k - 1) l (omega arith) ∙ e)
 
-pub none-spelled : (s : List ℕ) (k : ℕ) → k ≤ 0 → some-below k (spelled-as s) ≡ false
+pub none-spelled : (s : List ℕ) (k : ℕ) → k ≤ 0 → someBelow k (spelledAs s) ≡ false
 none-spelled s zero h = refl
 none-spelled s (suc k) h = absurd (omega arith)

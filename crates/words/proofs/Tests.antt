@@ -13,9 +13,9 @@ use lib.Seq.{getD-at}
 use lib.Pow.{shr-shr}
 use borrow.Author.Tests.{eq-eqb, ne-eqb}
 use Rattle.words.specs.Test.{_and_, _or_, among}
-use Rattle.words.specs.Class.{bit, packed, table, classes-of, class-word, class-words, in-class}
+use Rattle.words.specs.Class.{bit, packed, table, classesOf, classWord, classWords, inClass}
 use Rattle.words.specs.Word.{end}
-use Rattle.words.specs.Cursor.{word-at, second-half, left, on-line, first-byte, end-byte}
+use Rattle.words.specs.Cursor.{wordAt, secondHalf, left, onLine, firstByte, endByte}
 
 pub lt-or-le : (a b : ℕ) → (a < b) ⊎ (b ≤ a)
 lt-or-le a zero = inr (omega arith)
@@ -104,30 +104,30 @@ table-at (suc n) f k h = ⊎-elim last (λ l. below l ∙ table-at n f k (omega 
     below l = List·getD-append (table n f) (f n ∷ []) 0 k (omega (arith, table-length n f))
 
 -- a class is read off the table
-pub class-read : (classes : List ℕ) (k j : ℕ) → classes ≡ class-words → k < 256 → eqb (getD classes k 0 / 2 ^ j % 2) 1 ≡ in-class j k
+pub class-read : (classes : List ℕ) (k j : ℕ) → classes ≡ classWords → k < 256 → eqb (getD classes k 0 / 2 ^ j % 2) 1 ≡ inClass j k
 class-read classes k j e h =
-    ap (λ (x : ℕ). eqb (x / 2 ^ j % 2) 1) (ap (λ (l : List ℕ). getD l k 0) e ∙ table-at 256 class-word k h)
-    ∙ ap (λ (x : ℕ). eqb x 1) (packed-bit (classes-of k) j) ∙ bit-test (in-class j k)
+    ap (λ (x : ℕ). eqb (x / 2 ^ j % 2) 1) (ap (λ (l : List ℕ). getD l k 0) e ∙ table-at 256 classWord k h)
+    ∙ ap (λ (x : ℕ). eqb x 1) (packed-bit (classesOf k) j) ∙ bit-test (inClass j k)
 
 -- ---- a half that is used up
-pub left-some : (h k : ℕ) → (h ≡ 0 → ⊥) → second-half k ≡ left h k
+pub left-some : (h k : ℕ) → (h ≡ 0 → ⊥) → secondHalf k ≡ left h k
 left-some zero k e = absurd (e refl)
 left-some (suc h) k e = refl
 
-pub line-some : (h w : ℕ) → (h ≡ 0 → ⊥) → true ≡ on-line h w
+pub line-some : (h w : ℕ) → (h ≡ 0 → ⊥) → true ≡ onLine h w
 line-some zero w e = absurd (e refl)
 line-some (suc h) w e = refl
 
-pub end-some : (words : List ℕ) (at h : ℕ) → (h ≡ 0 → ⊥) → first-byte words at h ≡ end-byte words at h
+pub end-some : (words : List ℕ) (at h : ℕ) → (h ≡ 0 → ⊥) → firstByte words at h ≡ endByte words at h
 end-some words at zero e = absurd (e refl)
 end-some words at (suc h) e = refl
 
-pub end-start : (words : List ℕ) (at h : ℕ) → h ≡ 0 → at ≡ 0 → 0 ≡ end-byte words at h
-end-start words at h e f = sym (ap₂ (end-byte words) f e)
+pub end-start : (words : List ℕ) (at h : ℕ) → h ≡ 0 → at ≡ 0 → 0 ≡ endByte words at h
+end-start words at h e f = sym (ap₂ (endByte words) f e)
 
-pub end-after : (words : List ℕ) (at h : ℕ) → h ≡ 0 → (at ≡ 0 → ⊥) → end (word-at words (at - 1)) ≡ end-byte words at h
+pub end-after : (words : List ℕ) (at h : ℕ) → h ≡ 0 → (at ≡ 0 → ⊥) → end (wordAt words (at - 1)) ≡ endByte words at h
 end-after words zero h e f = absurd (f refl)
-end-after words (suc i) h e f = ap (λ (x : ℕ). end (word-at words x)) less ∙ sym (ap (end-byte words (suc i)) e)
+end-after words (suc i) h e f = ap (λ (x : ℕ). end (wordAt words x)) less ∙ sym (ap (endByte words (suc i)) e)
   where
     less : suc i - 1 ≡ i
     less = omega arith

@@ -8,21 +8,21 @@ use Rattle.words.specs.Test.{_and_, _or_, between, among}
 use Rattle.words.specs.Kind.{Eof, Word, NumberLiteral, TemplateHead, TemplateTail, LCurly, LBrack, LAngle, Pipe, Amp, Question, Bang, Star, Dot3, OtherMark, Any, Abstract, Out, Readonly, Unique, OtherModifier, Extends, New, Import, This, Typeof, Void, Null, True, False, Const, OtherReserved}
 
 -- the kinds that there are
-abbrev pub good-kind : ℕ → Bool
-good-kind k = leb k TemplateTail or between LCurly OtherMark k or between Any OtherModifier k or between Extends OtherReserved k
+abbrev pub goodKind : ℕ → Bool
+goodKind k = leb k TemplateTail or between LCurly OtherMark k or between Any OtherModifier k or between Extends OtherReserved k
 
 -- a word that can name a parameter
-abbrev pub binding-word : ℕ → Bool
-binding-word k = eqb k Word or between Any OtherModifier k
+abbrev pub bindingWord : ℕ → Bool
+bindingWord k = eqb k Word or between Any OtherModifier k
 
 -- a word that can stand after a dot
 abbrev pub name : ℕ → Bool
-name k = binding-word k or between Extends OtherReserved k
+name k = bindingWord k or between Extends OtherReserved k
 
 -- what can begin a type whatever follows it
 abbrev pub starter : ℕ → Bool
 starter k =
-    binding-word k
+    bindingWord k
     or between NumberLiteral TemplateHead k
     or among (LCurly ∷ LBrack ∷ LAngle ∷ Pipe ∷ Amp ∷ Star ∷ Question ∷ Bang ∷ Dot3 ∷ []) k
     or among (New ∷ Import ∷ This ∷ Typeof ∷ Void ∷ Null ∷ True ∷ False ∷ []) k
@@ -40,12 +40,12 @@ abbrev pub other : ℕ → Bool
 other k = among (Word ∷ OtherMark ∷ OtherModifier ∷ OtherReserved ∷ []) k
 
 -- the classes of a kind, in the order of their bits
-abbrev pub classes-of : ℕ → List Bool
-classes-of k = binding-word k ∷ name k ∷ starter k ∷ modifier k ∷ good-kind k ∷ fixed k ∷ other k ∷ []
+abbrev pub classesOf : ℕ → List Bool
+classesOf k = bindingWord k ∷ name k ∷ starter k ∷ modifier k ∷ goodKind k ∷ fixed k ∷ other k ∷ []
 
 -- whether a kind has the class of bit j
-abbrev pub in-class : ℕ → ℕ → Bool
-in-class j k = getD (classes-of k) j false
+abbrev pub inClass : ℕ → ℕ → Bool
+inClass j k = getD (classesOf k) j false
 
 -- a class word: the first class lowest
 abbrev pub bit : Bool → ℕ
@@ -56,8 +56,8 @@ abbrev pub packed : List Bool → ℕ
 packed [] = 0
 packed (b ∷ bs) = bit b + 2 * packed bs
 
-abbrev pub class-word : ℕ → ℕ
-class-word k = packed (classes-of k)
+abbrev pub classWord : ℕ → ℕ
+classWord k = packed (classesOf k)
 
 -- f at 0, 1, .. below n
 abbrev pub table : ℕ → (ℕ → ℕ) → List ℕ
@@ -65,5 +65,5 @@ table zero f = []
 table (suc n) f = table n f ++ (f n ∷ [])
 
 -- the table over the 256 kind numbers
-abbrev pub class-words : List ℕ
-class-words = table 256 class-word
+abbrev pub classWords : List ℕ
+classWords = table 256 classWord

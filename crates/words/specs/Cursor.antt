@@ -9,45 +9,45 @@ use Rattle.words.specs.Word.{kind, newline, start, end}
 use Rattle.words.specs.Kind.{Eof, LAngle, ShiftLeft, LtEq, ShiftLeftEq, Eq}
 
 -- the word at an index; past the list nothing stands but an end
-abbrev pub word-at : List ℕ → ℕ → ℕ
-word-at words i = getD words i 0
+abbrev pub wordAt : List ℕ → ℕ → ℕ
+wordAt words i = getD words i 0
 
 -- the kind of the whole token at an index
-abbrev pub whole-kind : List ℕ → ℕ → ℕ
-whole-kind words i = kind (word-at words i)
+abbrev pub wholeKind : List ℕ → ℕ → ℕ
+wholeKind words i = kind (wordAt words i)
 
 -- what is left of a token whose first half is used up: `<`, `=`, `<=`
-abbrev pub second-half : ℕ → ℕ
-second-half k =
+abbrev pub secondHalf : ℕ → ℕ
+secondHalf k =
     test (eqb k ShiftLeft) (λ _. LAngle) (λ _.
     test (eqb k LtEq) (λ _. Eq) (λ _.
     test (eqb k ShiftLeftEq) (λ _. LtEq) (λ _. Eof)))
 
 abbrev pub left : ℕ → ℕ → ℕ
 left zero k = k
-left (suc h) k = second-half k
+left (suc h) k = secondHalf k
 
 -- the kind at a cursor
-abbrev pub kind-at : List ℕ → ℕ → ℕ → ℕ
-kind-at words at half = left half (whole-kind words at)
+abbrev pub kindAt : List ℕ → ℕ → ℕ → ℕ
+kindAt words at half = left half (wholeKind words at)
 
 -- no line break stands before what is left at a cursor
-abbrev pub on-line : ℕ → ℕ → Bool
-on-line zero w = eqb (newline w) 0
-on-line (suc h) w = true
+abbrev pub onLine : ℕ → ℕ → Bool
+onLine zero w = eqb (newline w) 0
+onLine (suc h) w = true
 
-abbrev pub same-line : List ℕ → ℕ → ℕ → Bool
-same-line words at half = on-line half (word-at words at)
+abbrev pub sameLine : List ℕ → ℕ → ℕ → Bool
+sameLine words at half = onLine half (wordAt words at)
 
 -- the first byte of what is left at a cursor
-abbrev pub first-byte : List ℕ → ℕ → ℕ → ℕ
-first-byte words at half = start (word-at words at) + half
+abbrev pub firstByte : List ℕ → ℕ → ℕ → ℕ
+firstByte words at half = start (wordAt words at) + half
 
 -- the end byte of what was taken last
-abbrev pub taken-end : List ℕ → ℕ → ℕ
-taken-end words zero = 0
-taken-end words (suc i) = end (word-at words i)
+abbrev pub takenEnd : List ℕ → ℕ → ℕ
+takenEnd words zero = 0
+takenEnd words (suc i) = end (wordAt words i)
 
-abbrev pub end-byte : List ℕ → ℕ → ℕ → ℕ
-end-byte words at zero = taken-end words at
-end-byte words at (suc h) = first-byte words at (suc h)
+abbrev pub endByte : List ℕ → ℕ → ℕ → ℕ
+endByte words at zero = takenEnd words at
+endByte words at (suc h) = firstByte words at (suc h)

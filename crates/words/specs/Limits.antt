@@ -2,16 +2,16 @@
 use Prim.Native.Nat.{ℕ}
 
 -- bytes of a text
-abbrev pub most-text : ℕ
-most-text = 65535
+abbrev pub mostText : ℕ
+mostText = 65535
 
 -- tokens of a list, the Eof among them
-abbrev pub most-tokens : ℕ
-most-tokens = 16384
+abbrev pub mostTokens : ℕ
+mostTokens = 16384
 
 -- type rules open at once
-abbrev pub most-open : ℕ
-most-open = 64
+abbrev pub mostOpen : ℕ
+mostOpen = 64
 
 -- the height of a tree
 abbrev pub tallest : ℕ
@@ -22,9 +22,9 @@ abbrev pub longest : ℕ
 longest = 4095
 
 -- diagnostics of a reading
-abbrev pub most-notes : ℕ
-most-notes = 32
+abbrev pub mostNotes : ℕ
+mostNotes = 32
 
 -- bytes of a key
-abbrev pub most-key : ℕ
-most-key = 262144
+abbrev pub mostKey : ℕ
+mostKey = 262144

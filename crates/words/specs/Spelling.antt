@@ -7,7 +7,7 @@ use mathlib.Core.Bool.{Bool, true, false, not}
 use mathlib.Core.List.{List, [], _∷_, _++_}
 use lib.Dec.{eqb, leb}
 use lib.ListN.{getD, length}
-use Rattle.words.specs.Test.{_and_, _or_, same, test, some-below, among}
+use Rattle.words.specs.Test.{_and_, _or_, same, test, someBelow, among}
 use Rattle.words.specs.Kind.{Word, LCurly, Any, Extends, OtherReserved}
 use Rattle.words.specs.Class.{fixed, other, table}
 
@@ -42,34 +42,34 @@ abbrev pub spelling : ℕ → List ℕ
 spelling k = bytes (shown k)
 
 -- s is the fixed spelling of kind k
-abbrev pub spelled-as : List ℕ → ℕ → Bool
-spelled-as s k = fixed k and same (spelling k) s
+abbrev pub spelledAs : List ℕ → ℕ → Bool
+spelledAs s k = fixed k and same (spelling k) s
 
 -- s is the fixed spelling of some kind
-abbrev pub spelled-as-any : List ℕ → Bool
-spelled-as-any s = some-below OtherReserved (spelled-as s)
+abbrev pub spelledAsAny : List ℕ → Bool
+spelledAsAny s = someBelow OtherReserved (spelledAs s)
 
 abbrev pub backslash : ℕ
 backslash = 92
 
 -- 01: a fixed kind is spelled as shown, the other words and marks as none of those, and a Word holds no backslash
-abbrev pub spelled-right : ℕ → List ℕ → Bool
-spelled-right k s =
+abbrev pub spelledRight : ℕ → List ℕ → Bool
+spelledRight k s =
     test (fixed k) (λ _. same (spelling k) s) (λ _.
-    test (other k) (λ _. not (spelled-as-any s) and not (eqb k Word and among s backslash)) (λ _.
+    test (other k) (λ _. not (spelledAsAny s) and not (eqb k Word and among s backslash)) (λ _.
     true))
 
 -- ---- the spellings one after the other, as the code keeps them
-abbrev pub letters-below : ℕ → List ℕ
-letters-below zero = []
-letters-below (suc k) = letters-below k ++ spelling k
+abbrev pub lettersBelow : ℕ → List ℕ
+lettersBelow zero = []
+lettersBelow (suc k) = lettersBelow k ++ spelling k
 
 -- where a kind's spelling stands among them, and its length
 abbrev pub place : ℕ → ℕ
-place k = length (letters-below k) * 16 + length (spelling k)
+place k = length (lettersBelow k) * 16 + length (spelling k)
 
-abbrev pub fixed-letters : List ℕ
-fixed-letters = letters-below OtherReserved
+abbrev pub fixedLetters : List ℕ
+fixedLetters = lettersBelow OtherReserved
 
-abbrev pub fixed-places : List ℕ
-fixed-places = table 256 place
+abbrev pub fixedPlaces : List ℕ
+fixedPlaces = table 256 place

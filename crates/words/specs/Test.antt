@@ -36,6 +36,6 @@ same (x ∷ s) [] = false
 same (x ∷ s) (y ∷ t) = eqb x y and same s t
 
 -- some number below n passes
-abbrev pub some-below : ℕ → (ℕ → Bool) → Bool
-some-below zero f = false
-some-below (suc n) f = f n or some-below n f
+abbrev pub someBelow : ℕ → (ℕ → Bool) → Bool
+someBelow zero f = false
+someBelow (suc n) f = f n or someBelow n f

@@ -3,8 +3,8 @@ ghost use mathlib.Core.Path.{_≡_};
 ghost use Prim.Native.Nat.{_+_, _<_, _^_};
 ghost use lib.ListN.{drop};
 ghost use Rattle.words.specs.Ahead as ahead;
-ghost use Rattle.words.specs.Class.{class-words};
-ghost use Rattle.words.specs.Cursor.{word-at};
+ghost use Rattle.words.specs.Class.{classWords};
+ghost use Rattle.words.specs.Cursor.{wordAt};
 use crate::cursor::Cursor;
 use crate::cursor::whole_kind;
 use crate::cursor::word_at;
@@ -15,7 +15,7 @@ use crate::token;
 
 // Whether the token at i can begin a type. A run of `(` is a loop.
 pub fn starter(words: &[u64], classes: &[u16; 256], i: usize) -> bool
-    requires { ⌜ (now classes ≡ class-words) × (i < 2 ^ 63) ⌝ }
+    requires { ⌜ (now classes ≡ classWords) × (i < 2 ^ 63) ⌝ }
     ensures { λ r. ⌜ r ≡ ahead.starter (now (words .entry)) i ⌝ }
 {
     let mut j = i;
@@ -30,8 +30,8 @@ pub fn starter(words: &[u64], classes: &[u16; 256], i: usize) -> bool
 
 // A starter that is no `(`, by its kind and the next one's.
 fn lone_starter(classes: &[u16; 256], kind: usize, next: usize) -> bool
-    requires { ⌜ (now classes ≡ class-words) × (kind < 256) ⌝ }
-    ensures { λ r. ⌜ r ≡ ahead.lone-starter kind next ⌝ }
+    requires { ⌜ (now classes ≡ classWords) × (kind < 256) ⌝ }
+    ensures { λ r. ⌜ r ≡ ahead.loneStarter kind next ⌝ }
 {
     if kind != Kind::MINUS {
         return in_class(classes, kind, Class::STARTER);
@@ -61,8 +61,8 @@ pub enum FunctionStart {
 
 // A binding word or this.
 pub fn parameter_name(classes: &[u16; 256], kind: usize) -> bool
-    requires { ⌜ (now classes ≡ class-words) × (kind < 256) ⌝ }
-    ensures { λ r. ⌜ r ≡ ahead.parameter-name kind ⌝ }
+    requires { ⌜ (now classes ≡ classWords) × (kind < 256) ⌝ }
+    ensures { λ r. ⌜ r ≡ ahead.parameterName kind ⌝ }
 {
     if in_class(classes, kind, Class::BINDING_WORD) {
         return true;
@@ -72,8 +72,8 @@ pub fn parameter_name(classes: &[u16; 256], kind: usize) -> bool
 
 // Whether the token at j is a modifier word before a parameter's name on its line.
 pub fn modifies(words: &[u64], classes: &[u16; 256], j: usize) -> bool
-    requires { ⌜ (now classes ≡ class-words) × (j < 2 ^ 63) ⌝ }
-    ensures { λ r. ⌜ r ≡ ahead.modifies (word-at (now (words .entry)) j) (word-at (now (words .entry)) (j + 1)) ⌝ }
+    requires { ⌜ (now classes ≡ classWords) × (j < 2 ^ 63) ⌝ }
+    ensures { λ r. ⌜ r ≡ ahead.modifies (wordAt (now (words .entry)) j) (wordAt (now (words .entry)) (j + 1)) ⌝ }
 {
     if !in_class(classes, whole_kind(words, j), Class::MODIFIER) {
         return false;
@@ -87,8 +87,8 @@ pub fn modifies(words: &[u64], classes: &[u16; 256], j: usize) -> bool
 
 // Past any modifier words.
 fn past_modifiers(words: &[u64], classes: &[u16; 256], at: usize) -> usize
-    requires { ⌜ (now classes ≡ class-words) × (at < 2 ^ 62) ⌝ }
-    ensures { λ r. ⌜ (r ≡ ahead.past-modifiers at (drop at (now (words .entry)))) × (r < 2 ^ 63) ⌝ }
+    requires { ⌜ (now classes ≡ classWords) × (at < 2 ^ 62) ⌝ }
+    ensures { λ r. ⌜ (r ≡ ahead.pastModifiers at (drop at (now (words .entry)))) × (r < 2 ^ 63) ⌝ }
 {
     let mut j = at;
     while modifies(words, classes, j) {
@@ -99,7 +99,7 @@ fn past_modifiers(words: &[u64], classes: &[u16; 256], at: usize) -> usize
 
 // Whether a kind may follow a parameter's name.
 fn after_parameter(kind: usize) -> bool
-    ensures { λ r. ⌜ r ≡ ahead.after-parameter kind ⌝ }
+    ensures { λ r. ⌜ r ≡ ahead.afterParameter kind ⌝ }
 {
     if kind == Kind::COLON {
         return true;
@@ -115,8 +115,8 @@ fn after_parameter(kind: usize) -> bool
 
 // A parameter start that ends at j, and what follows it.
 fn parameter_start(words: &[u64], classes: &[u16; 256], j: usize) -> FunctionStart
-    requires { ⌜ (now classes ≡ class-words) × (j < 2 ^ 63) ⌝ }
-    ensures { λ r. ⌜ r ≡ ahead.parameter-start (now (words .entry)) j ⌝ }
+    requires { ⌜ (now classes ≡ classWords) × (j < 2 ^ 63) ⌝ }
+    ensures { λ r. ⌜ r ≡ ahead.parameterStart (now (words .entry)) j ⌝ }
 {
     if !parameter_name(classes, whole_kind(words, j)) {
         return FunctionStart::Nothing;
@@ -141,7 +141,7 @@ fn followed(words: &[u64], j: usize, next: usize) -> FunctionStart
 // The same where a `)` follows.
 fn lone_parameter(words: &[u64], j: usize) -> FunctionStart
     requires { ⌜ j < 2 ^ 63 ⌝ }
-    ensures { λ r. ⌜ r ≡ ahead.before-arrow (now (words .entry)) j ⌝ }
+    ensures { λ r. ⌜ r ≡ ahead.beforeArrow (now (words .entry)) j ⌝ }
 {
     if whole_kind(words, j + 2) == Kind::ARROW {
         return FunctionStart::LoneParameter(j);
@@ -151,8 +151,8 @@ fn lone_parameter(words: &[u64], j: usize) -> FunctionStart
 
 // After a `(`, at j.
 fn in_brackets(words: &[u64], classes: &[u16; 256], j: usize) -> FunctionStart
-    requires { ⌜ (now classes ≡ class-words) × (j < 2 ^ 62) ⌝ }
-    ensures { λ r. ⌜ r ≡ ahead.in-brackets (now (words .entry)) j ⌝ }
+    requires { ⌜ (now classes ≡ classWords) × (j < 2 ^ 62) ⌝ }
+    ensures { λ r. ⌜ r ≡ ahead.inBrackets (now (words .entry)) j ⌝ }
 {
     let kind = whole_kind(words, j);
     if kind == Kind::R_PAREN {
@@ -166,8 +166,8 @@ fn in_brackets(words: &[u64], classes: &[u16; 256], j: usize) -> FunctionStart
 
 // Whether a function type begins at a cursor, and by which case.
 pub fn function_start(words: &[u64], classes: &[u16; 256], c: Cursor) -> FunctionStart
-    requires { ⌜ (now classes ≡ class-words) × (c .at < 2 ^ 61) ⌝ }
-    ensures { λ r. ⌜ r ≡ ahead.function-start (now (words .entry)) (c .at) (c .half) ⌝ }
+    requires { ⌜ (now classes ≡ classWords) × (c .at < 2 ^ 61) ⌝ }
+    ensures { λ r. ⌜ r ≡ ahead.functionStart (now (words .entry)) (c .at) (c .half) ⌝ }
 {
     let at = c.at;
     match c.kind(words) {
@@ -182,7 +182,7 @@ pub fn function_start(words: &[u64], classes: &[u16; 256], c: Cursor) -> Functio
 // After an `abstract`, at `at`.
 fn abstract_start(words: &[u64], at: usize) -> FunctionStart
     requires { ⌜ at < 2 ^ 61 ⌝ }
-    ensures { λ r. ⌜ r ≡ ahead.abstract-start (now (words .entry)) at ⌝ }
+    ensures { λ r. ⌜ r ≡ ahead.abstractStart (now (words .entry)) at ⌝ }
 {
     if whole_kind(words, at + 1) == Kind::NEW {
         return FunctionStart::AbstractNew;
@@ -202,15 +202,15 @@ fn skip(words: &[u64], j: usize) -> usize
 
 // Whether a token of a kind stands after the one at j.
 fn then_is(words: &[u64], j: usize, kind: usize) -> bool
-    ensures { λ r. ⌜ r ≡ ahead.then-is (now (words .entry)) j kind ⌝ }
+    ensures { λ r. ⌜ r ≡ ahead.thenIs (now (words .entry)) j kind ⌝ }
 {
     whole_kind(words, skip(words, j)) == kind
 }
 
 // Whether a key and `in` stand at j.
 fn key_in(words: &[u64], classes: &[u16; 256], j: usize) -> bool
-    requires { ⌜ now classes ≡ class-words ⌝ }
-    ensures { λ r. ⌜ r ≡ ahead.key-in (now (words .entry)) j ⌝ }
+    requires { ⌜ now classes ≡ classWords ⌝ }
+    ensures { λ r. ⌜ r ≡ ahead.keyIn (now (words .entry)) j ⌝ }
 {
     let kind = whole_kind(words, j);
     if kind == Kind::L_BRACK {
@@ -224,8 +224,8 @@ fn key_in(words: &[u64], classes: &[u16; 256], j: usize) -> bool
 
 // Whether the `{` at i opens a mapped type, by the look-ahead of types.rs.
 pub fn mapped_start(words: &[u64], classes: &[u16; 256], i: usize) -> bool
-    requires { ⌜ now classes ≡ class-words ⌝ }
-    ensures { λ r. ⌜ r ≡ ahead.mapped-start (now (words .entry)) i ⌝ }
+    requires { ⌜ now classes ≡ classWords ⌝ }
+    ensures { λ r. ⌜ r ≡ ahead.mappedStart (now (words .entry)) i ⌝ }
 {
     let j = skip(words, i);
     let kind = whole_kind(words, j);

@@ -5,8 +5,8 @@ ghost use Prim.Native.Nat.{_^_, _<_};
 ghost use lib.ListN.{length};
 ghost use Rattle.words.specs.Check as check;
 ghost use Rattle.words.specs.Verdict.{verdict};
-ghost use Rattle.words.specs.Spelling.{fixed-letters, fixed-places};
-ghost use Rattle.words.specs.Class.{class-words};
+ghost use Rattle.words.specs.Spelling.{fixedLetters, fixedPlaces};
+ghost use Rattle.words.specs.Class.{classWords};
 use crate::kind::Class;
 use crate::kind::Kind;
 use crate::kind::class_words;
@@ -29,7 +29,7 @@ pub enum Checked {
 
 // Whether the Eof stands last and nowhere else, and alone has no bytes.
 fn ends_well(kind: usize, length: usize, last: bool) -> bool
-    ensures { λ r. ⌜ r ≡ check.ends-well kind length last ⌝ }
+    ensures { λ r. ⌜ r ≡ check.endsWell kind length last ⌝ }
 {
     if kind == Kind::EOF {
         if length == 0 { last } else { false }
@@ -62,8 +62,8 @@ fn good_word(
     places: &[u16; 256],
     letters: &[u8; 189],
 ) -> bool
-    requires { ⌜ (now classes ≡ class-words) × (now places ≡ fixed-places) × (now letters ≡ fixed-letters) ⌝ }
-    ensures { λ r. ⌜ r ≡ check.good-word (now (text .entry)) before last word ⌝ }
+    requires { ⌜ (now classes ≡ classWords) × (now places ≡ fixedPlaces) × (now letters ≡ fixedLetters) ⌝ }
+    ensures { λ r. ⌜ r ≡ check.goodWord (now (text .entry)) before last word ⌝ }
 {
     let kind = token::kind(word);
     let zeros = token::zeros(word);
@@ -95,8 +95,8 @@ fn words_from(
     places: &[u16; 256],
     letters: &[u8; 189],
 ) -> Checked
-    requires { ⌜ (now classes ≡ class-words) × (now places ≡ fixed-places) × (now letters ≡ fixed-letters) ⌝ }
-    ensures { λ r. ⌜ verdict r ≡ check.words-from (now (text .entry)) 0 0 (now (words .entry)) ⌝ }
+    requires { ⌜ (now classes ≡ classWords) × (now places ≡ fixedPlaces) × (now letters ≡ fixedLetters) ⌝ }
+    ensures { λ r. ⌜ verdict r ≡ check.wordsFrom (now (text .entry)) 0 0 (now (words .entry)) ⌝ }
 {
     let mut before: usize = 0;
     let mut i: usize = 0;

@@ -32,7 +32,7 @@ impl Cursor {
 
     // The kind at the cursor; past the list nothing stands but an end.
     pub fn kind(self, words: &[u64]) -> usize
-        ensures { λ r. ⌜ r ≡ cursor.kind-at (now (words .entry)) (self .at) (self .half) ⌝ }
+        ensures { λ r. ⌜ r ≡ cursor.kindAt (now (words .entry)) (self .at) (self .half) ⌝ }
         ensures { λ r. ⌜ r ≤ 255 * (length (now (words .entry)) - self .at) ⌝ }
     {
         let whole = whole_kind(words, self.at);
@@ -44,7 +44,7 @@ impl Cursor {
 
     // Whether no line break stands before what is left here.
     pub fn same_line(self, words: &[u64]) -> bool
-        ensures { λ r. ⌜ r ≡ cursor.same-line (now (words .entry)) (self .at) (self .half) ⌝ }
+        ensures { λ r. ⌜ r ≡ cursor.sameLine (now (words .entry)) (self .at) (self .half) ⌝ }
     {
         if self.half == 0 {
             token::newline(word_at(words, self.at)) == 0
@@ -56,7 +56,7 @@ impl Cursor {
     // The first byte of what is left here.
     pub fn first_byte(self, words: &[u64]) -> usize
         requires { ⌜ self .half ≤ 1 ⌝ }
-        ensures { λ r. ⌜ r ≡ cursor.first-byte (now (words .entry)) (self .at) (self .half) ⌝ }
+        ensures { λ r. ⌜ r ≡ cursor.firstByte (now (words .entry)) (self .at) (self .half) ⌝ }
     {
         token::start(word_at(words, self.at)) + self.half
     }
@@ -64,7 +64,7 @@ impl Cursor {
     // The end byte of what was taken last.
     pub fn end_byte(self, words: &[u64]) -> usize
         requires { ⌜ self .half ≤ 1 ⌝ }
-        ensures { λ r. ⌜ r ≡ cursor.end-byte (now (words .entry)) (self .at) (self .half) ⌝ }
+        ensures { λ r. ⌜ r ≡ cursor.endByte (now (words .entry)) (self .at) (self .half) ⌝ }
     {
         if self.half != 0 {
             return self.first_byte(words);
@@ -78,14 +78,14 @@ impl Cursor {
 
 // The word at an index, 0 past the list.
 pub fn word_at(words: &[u64], i: usize) -> u64
-    ensures { λ r. ⌜ r ≡ cursor.word-at (now (words .entry)) i ⌝ }
+    ensures { λ r. ⌜ r ≡ cursor.wordAt (now (words .entry)) i ⌝ }
 {
     if i < words.len() { words[i] } else { 0 }
 }
 
 // The kind of the whole token at an index.
 pub fn whole_kind(words: &[u64], i: usize) -> usize
-    ensures { λ r. ⌜ r ≡ cursor.whole-kind (now (words .entry)) i ⌝ }
+    ensures { λ r. ⌜ r ≡ cursor.wholeKind (now (words .entry)) i ⌝ }
     ensures { λ r. ⌜ r ≤ 255 * (length (now (words .entry)) - i) ⌝ }
 {
     if i < words.len() {
@@ -97,7 +97,7 @@ pub fn whole_kind(words: &[u64], i: usize) -> usize
 
 // What is left of a token whose first half is used up.
 fn second_half(kind: usize) -> usize
-    ensures { λ r. ⌜ (r ≡ cursor.second-half kind) × (r ≤ 255) × (r ≤ 255 * kind) ⌝ }
+    ensures { λ r. ⌜ (r ≡ cursor.secondHalf kind) × (r ≤ 255) × (r ≤ 255 * kind) ⌝ }
 {
     match kind {
         Kind::SHIFT_LEFT => Kind::L_ANGLE,

@@ -1,7 +1,7 @@
 // The kinds of tokens, under the names that types.rs gives them, and the table of their classes.
 ghost use mathlib.Core.Path.{_≡_};
 ghost use Prim.Native.Nat.{_<_};
-ghost use Rattle.words.specs.Class.{class-words, in-class};
+ghost use Rattle.words.specs.Class.{classWords, inClass};
 use crate::tables::CLASSES;
 
 // Holds nothing: the kinds are its constants.
@@ -165,15 +165,15 @@ impl Class {
 
 // The table over the 256 kind numbers. A call that asks often takes it once and lends it.
 pub fn class_words() -> [u16; 256]
-    ensures { λ r. ⌜ r ≡ class-words ⌝ }
+    ensures { λ r. ⌜ r ≡ classWords ⌝ }
 {
     CLASSES
 }
 
 // Whether a kind has the class of a bit.
 pub fn in_class(classes: &[u16; 256], kind: usize, class: usize) -> bool
-    requires { ⌜ (now classes ≡ class-words) × (kind < 256) × (class < 7) ⌝ }
-    ensures { λ r. ⌜ r ≡ in-class class kind ⌝ }
+    requires { ⌜ (now classes ≡ classWords) × (kind < 256) × (class < 7) ⌝ }
+    ensures { λ r. ⌜ r ≡ inClass class kind ⌝ }
 {
     (classes[kind] >> class) % 2 == 1
 }

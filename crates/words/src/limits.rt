@@ -1,6 +1,6 @@
 // The limits of document 01, each once, under the name of what it limits.
 ghost use mathlib.Core.Path.{_≡_};
-ghost use Rattle.words.specs.Limits.{most-text, most-tokens, most-open, tallest, longest, most-notes, most-key};
+ghost use Rattle.words.specs.Limits.{mostText, mostTokens, mostOpen, tallest, longest, mostNotes, mostKey};
 
 pub struct Text {}
 
@@ -59,7 +59,7 @@ pub struct Limits {
 
 impl Limits {
     pub fn all() -> Limits
-        ensures { λ r. ⌜ (r .text ≡ most-text) × (r .tokens ≡ most-tokens) × (r .open ≡ most-open) × (r .tall ≡ tallest) × (r .list ≡ longest) × (r .notes ≡ most-notes) × (r .key ≡ most-key) ⌝ }
+        ensures { λ r. ⌜ (r .text ≡ mostText) × (r .tokens ≡ mostTokens) × (r .open ≡ mostOpen) × (r .tall ≡ tallest) × (r .list ≡ longest) × (r .notes ≡ mostNotes) × (r .key ≡ mostKey) ⌝ }
     {
         Limits {
             text: Text::MOST,

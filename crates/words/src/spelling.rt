@@ -3,9 +3,9 @@ ghost use mathlib.Core.Path.{_≡_};
 ghost use Prim.Native.Nat.{_+_, _≤_, _<_};
 ghost use lib.ListN.{length};
 ghost use Rattle.words.specs.Test.{among, same};
-ghost use Rattle.words.specs.Spelling.{fixed-letters, fixed-places, backslash, spelled-as-any, spelled-right, spelling};
+ghost use Rattle.words.specs.Spelling.{fixedLetters, fixedPlaces, backslash, spelledAsAny, spelledRight, spelling};
 ghost use Rattle.words.specs.Check.{part};
-ghost use Rattle.words.specs.Class.{class-words};
+ghost use Rattle.words.specs.Class.{classWords};
 use crate::kind::Class;
 use crate::kind::Kind;
 use crate::kind::in_class;
@@ -13,13 +13,13 @@ use crate::tables::LETTERS;
 use crate::tables::PLACES;
 
 pub fn spelling_places() -> [u16; 256]
-    ensures { λ r. ⌜ r ≡ fixed-places ⌝ }
+    ensures { λ r. ⌜ r ≡ fixedPlaces ⌝ }
 {
     PLACES
 }
 
 pub fn spelling_letters() -> [u8; 189]
-    ensures { λ r. ⌜ r ≡ fixed-letters ⌝ }
+    ensures { λ r. ⌜ r ≡ fixedLetters ⌝ }
 {
     LETTERS
 }
@@ -48,7 +48,7 @@ pub fn spelled(
     letters: &[u8; 189],
     kind: usize,
 ) -> bool
-    requires { ⌜ (at + n ≤ length (now text)) × (now places ≡ fixed-places) × (now letters ≡ fixed-letters) × (kind < 107) ⌝ }
+    requires { ⌜ (at + n ≤ length (now text)) × (now places ≡ fixedPlaces) × (now letters ≡ fixedLetters) × (kind < 107) ⌝ }
     ensures { λ r. ⌜ r ≡ same (spelling kind) (part (now (text .entry)) at n) ⌝ }
 {
     let place = places[kind] as usize;
@@ -66,8 +66,8 @@ pub fn spelled_as_any(
     places: &[u16; 256],
     letters: &[u8; 189],
 ) -> bool
-    requires { ⌜ (at + n ≤ length (now text)) × (1 ≤ n) × (now places ≡ fixed-places) × (now letters ≡ fixed-letters) ⌝ }
-    ensures { λ r. ⌜ r ≡ spelled-as-any (part (now (text .entry)) at n) ⌝ }
+    requires { ⌜ (at + n ≤ length (now text)) × (1 ≤ n) × (now places ≡ fixedPlaces) × (now letters ≡ fixedLetters) ⌝ }
+    ensures { λ r. ⌜ r ≡ spelledAsAny (part (now (text .entry)) at n) ⌝ }
 {
     let mut kind = Kind::OTHER_RESERVED;
     while 0 < kind {
@@ -104,8 +104,8 @@ pub fn spelled_right(
     letters: &[u8; 189],
     kind: usize,
 ) -> bool
-    requires { ⌜ (at + n ≤ length (now text)) × (1 ≤ n) × (now classes ≡ class-words) × (now places ≡ fixed-places) × (now letters ≡ fixed-letters) × (kind < 256) ⌝ }
-    ensures { λ r. ⌜ r ≡ spelled-right kind (part (now (text .entry)) at n) ⌝ }
+    requires { ⌜ (at + n ≤ length (now text)) × (1 ≤ n) × (now classes ≡ classWords) × (now places ≡ fixedPlaces) × (now letters ≡ fixedLetters) × (kind < 256) ⌝ }
+    ensures { λ r. ⌜ r ≡ spelledRight kind (part (now (text .entry)) at n) ⌝ }
 {
     if in_class(classes, kind, Class::FIXED) {
         return spelled(text, at, n, places, letters, kind);

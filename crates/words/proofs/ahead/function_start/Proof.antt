@@ -25,14 +25,14 @@ returns c =
     let args = c .before .before .before .args in
     let kind = c .before .kind in
     let match = c .match in
-    ap (spec.start-by (args .words .now) (args .c .at)) (sym (match .keys1) ∙ kind .ensures .0)
+    ap (spec.startBy (args .words .now) (args .c .at)) (sym (match .keys1) ∙ kind .ensures .0)
 
 returns-2 : tie.Need-returns-2
 returns-2 c =
     let args = c .before .before .before .args in
     let kind = c .before .kind in
     let match = c .match in
-    ap (spec.start-by (args .words .now) (args .c .at)) (sym (match .keys2) ∙ kind .ensures .0)
+    ap (spec.startBy (args .words .now) (args .c .at)) (sym (match .keys2) ∙ kind .ensures .0)
 
 returns-3 : tie.Need-returns-3
 returns-3 c =
@@ -40,7 +40,7 @@ returns-3 c =
     let kind = c .before .before .kind in
     let match = c .before .match in
     let abstract-start = c .abstract-start in
-    abstract-start .ensures ∙ ap (spec.start-by (args .words .now) (args .c .at)) (sym (match .keys3) ∙ kind .ensures .0)
+    abstract-start .ensures ∙ ap (spec.startBy (args .words .now) (args .c .at)) (sym (match .keys3) ∙ kind .ensures .0)
 
 returns-4 : tie.Need-returns-4
 returns-4 c =
@@ -48,14 +48,14 @@ returns-4 c =
     let kind = c .before .before .kind in
     let match = c .before .match in
     let in-brackets = c .in-brackets in
-    in-brackets .ensures ∙ ap (spec.start-by (args .words .now) (args .c .at)) (sym (match .keys4) ∙ kind .ensures .0)
+    in-brackets .ensures ∙ ap (spec.startBy (args .words .now) (args .c .at)) (sym (match .keys4) ∙ kind .ensures .0)
 
 returns-5 : tie.Need-returns-5
 returns-5 c =
     let args = c .before .before .before .args in
     let kind = c .before .kind in
     let match = c .match in
-    no-start (args .words .now) (args .c .at) (kind .result) (match .rest .0 .0 .0 .1) (match .rest .0 .0 .1) (match .rest .0 .1) (match .rest .1) ∙ ap (spec.start-by (args .words .now) (args .c .at)) (kind .ensures .0)
+    no-start (args .words .now) (args .c .at) (kind .result) (match .rest .0 .0 .0 .1) (match .rest .0 .0 .1) (match .rest .0 .1) (match .rest .1) ∙ ap (spec.startBy (args .words .now) (args .c .at)) (kind .ensures .0)
 
 pub function-start-spec : {M : Type 1} → statement M
 function-start-spec =

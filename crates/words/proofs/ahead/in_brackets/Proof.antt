@@ -16,7 +16,7 @@ returns c =
     let args = c .before .before .before .args in
     let whole-kind = c .before .whole-kind in
     let if1 = c .if1 in
-    sym (brackets-is (args .words .now) (args .j) (at.whole-kind (args .words .now) (args .j)) (eq-eqb _ _ (sym (whole-kind .ensures .0) ∙ if1 .taken)) refl)
+    sym (brackets-is (args .words .now) (args .j) (at.wholeKind (args .words .now) (args .j)) (eq-eqb _ _ (sym (whole-kind .ensures .0) ∙ if1 .taken)) refl)
 
 returns-2 : tie.Need-returns-2
 returns-2 c =
@@ -24,7 +24,7 @@ returns-2 c =
     let whole-kind = c .before .before .whole-kind in
     let if1 = c .before .if1 in
     let if2 = c .if2 in
-    sym (brackets-is (args .words .now) (args .j) (at.whole-kind (args .words .now) (args .j)) (ne-eqb _ _ (λ q. if1 .left (whole-kind .ensures .0 ∙ q))) (eq-eqb _ _ (sym (whole-kind .ensures .0) ∙ if2 .taken)))
+    sym (brackets-is (args .words .now) (args .j) (at.wholeKind (args .words .now) (args .j)) (ne-eqb _ _ (λ q. if1 .left (whole-kind .ensures .0 ∙ q))) (eq-eqb _ _ (sym (whole-kind .ensures .0) ∙ if2 .taken)))
 
 past-modifiers-requires : tie.Need-past-modifiers-requires
 past-modifiers-requires c κs = search needs
@@ -43,7 +43,7 @@ returns-3 c =
     let if2 = c .before .before .if2 in
     let past-modifiers = c .before .past-modifiers in
     let parameter-start = c .parameter-start in
-    parameter-start .ensures ∙ ap (spec.parameter-start (args .words .now)) (past-modifiers .ensures .0) ∙ sym (brackets-is (args .words .now) (args .j) (at.whole-kind (args .words .now) (args .j)) (ne-eqb _ _ (λ q. if1 .left (whole-kind .ensures .0 ∙ q))) (ne-eqb _ _ (λ q. if2 .left (whole-kind .ensures .0 ∙ q))))
+    parameter-start .ensures ∙ ap (spec.parameterStart (args .words .now)) (past-modifiers .ensures .0) ∙ sym (brackets-is (args .words .now) (args .j) (at.wholeKind (args .words .now) (args .j)) (ne-eqb _ _ (λ q. if1 .left (whole-kind .ensures .0 ∙ q))) (ne-eqb _ _ (λ q. if2 .left (whole-kind .ensures .0 ∙ q))))
 
 pub in-brackets-spec : {M : Type 1} → statement M
 in-brackets-spec =

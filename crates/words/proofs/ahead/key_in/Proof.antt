@@ -28,7 +28,7 @@ returns c =
     let if1 = c .before .before .if1 in
     let skip = c .before .skip in
     let then-is = c .then-is in
-    then-is .ensures ∙ ap (λ (j : ℕ). spec.then-is (args .words .now) j In) (skip .ensures) ∙ sym (key-is (args .words .now) (args .j) (at.whole-kind (args .words .now) (args .j)) (eq-eqb _ _ (sym (whole-kind .ensures .0) ∙ if1 .taken)) refl)
+    then-is .ensures ∙ ap (λ (j : ℕ). spec.thenIs (args .words .now) j In) (skip .ensures) ∙ sym (key-is (args .words .now) (args .j) (at.wholeKind (args .words .now) (args .j)) (eq-eqb _ _ (sym (whole-kind .ensures .0) ∙ if1 .taken)) refl)
 
 in-class-requires : tie.Need-in-class-requires
 in-class-requires c κs =
@@ -43,7 +43,7 @@ returns-2 c =
     let if1 = c .before .before .if1 in
     let in-class = c .before .in-class in
     let if2 = c .if2 in
-    sym (key-is (args .words .now) (args .j) (at.whole-kind (args .words .now) (args .j)) (ne-eqb _ _ (λ q. if1 .left (whole-kind .ensures .0 ∙ q))) (ap class.name (sym (whole-kind .ensures .0)) ∙ sym (in-class .ensures) ∙ if2 .taken))
+    sym (key-is (args .words .now) (args .j) (at.wholeKind (args .words .now) (args .j)) (ne-eqb _ _ (λ q. if1 .left (whole-kind .ensures .0 ∙ q))) (ap class.name (sym (whole-kind .ensures .0)) ∙ sym (in-class .ensures) ∙ if2 .taken))
 
 then-is-requires-2 : tie.Need-then-is-requires-2
 then-is-requires-2 c κs = search needs
@@ -56,7 +56,7 @@ returns-3 c =
     let in-class = c .before .before .in-class in
     let if2 = c .before .if2 in
     let then-is2 = c .then-is2 in
-    then-is2 .ensures ∙ sym (key-is (args .words .now) (args .j) (at.whole-kind (args .words .now) (args .j)) (ne-eqb _ _ (λ q. if1 .left (whole-kind .ensures .0 ∙ q))) (ap class.name (sym (whole-kind .ensures .0)) ∙ sym (in-class .ensures) ∙ if2 .left))
+    then-is2 .ensures ∙ sym (key-is (args .words .now) (args .j) (at.wholeKind (args .words .now) (args .j)) (ne-eqb _ _ (λ q. if1 .left (whole-kind .ensures .0 ∙ q))) (ap class.name (sym (whole-kind .ensures .0)) ∙ sym (in-class .ensures) ∙ if2 .left))
 
 pub key-in-spec : {M : Type 1} → statement M
 key-in-spec =

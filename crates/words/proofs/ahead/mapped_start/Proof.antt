@@ -56,7 +56,7 @@ returns-3 c =
     let if3 = c .before .before .if3 in
     let skip2 = c .before .skip2 in
     let key-in = c .key-in in
-    key-in .ensures ∙ ap (spec.key-in (args .words .now)) (skip2 .ensures) ∙ sym (mapped-is (args .words .now) (skip .result) (whole-kind .result) (ne-eqb _ _ (if1 .left)) (ne-eqb _ _ (if2 .left)) (eq-eqb _ _ (if3 .taken))) ∙ mapped-moved (args .words .now) (args .i) (skip .ensures) (whole-kind .ensures .0)
+    key-in .ensures ∙ ap (spec.keyIn (args .words .now)) (skip2 .ensures) ∙ sym (mapped-is (args .words .now) (skip .result) (whole-kind .result) (ne-eqb _ _ (if1 .left)) (ne-eqb _ _ (if2 .left)) (eq-eqb _ _ (if3 .taken))) ∙ mapped-moved (args .words .now) (args .i) (skip .ensures) (whole-kind .ensures .0)
 
 key-in-requires-2 : tie.Need-key-in-requires-2
 key-in-requires-2 c κs = search needs

@@ -1,13 +1,8 @@
 -- A modifier word, a parameter's name after it, no line break between.
-use mathlib.Core.Path.{_≡_, refl, ap, sym, _∙_}
-use mathlib.Core.Bool.{Bool, true, false}
-use Prim.Native.Nat.{ℕ, _+_}
+use mathlib.Core.Path.{_≡_, refl, sym, _∙_}
+use Prim.Native.Nat.{_+_}
 use borrow.Author.Tests.{not-true, not-false}
-use lib.Dec.{eqb}
-use Rattle.words.specs.Word as five
-use Rattle.words.specs.Class as class
-use Rattle.words.specs.Ahead as spec
-use Rattle.words.specs.Cursor as at
+use Rattle.words.specs.Cursor as spec
 use Rattle.words.proofs.Looks.{modifies-is}
 use borrow.Author.Needs.{needs}
 use Rattle.words.proofs.ahead.modifies.Statement.{statement}
@@ -25,7 +20,8 @@ returns c =
     let whole-kind = c .before .before .whole-kind in
     let in-class = c .before .in-class in
     let if1 = c .if1 in
-    sym (modifies-is (at.word-at (args .words .now) (args .j)) (at.word-at (args .words .now) (args .j + 1)) (ap class.modifier (sym (whole-kind .ensures .0)) ∙ sym (in-class .ensures) ∙ not-true _ (if1 .taken)) refl refl)
+    modifies-is (spec.wordAt (args .words .now) (args .j)) (spec.wordAt (args .words .now) (args .j + 1)) (whole-kind .ensures .0) refl refl refl
+    (sym (in-class .ensures) ∙ not-true _ (if1 .taken)) refl refl
 
 add-word-at : tie.Need-add-word-at
 add-word-at c = search needs
@@ -49,7 +45,8 @@ returns-2 c =
     let kind = c .before .before .kind in
     let parameter-name = c .before .parameter-name in
     let if2 = c .if2 in
-    sym (modifies-is (at.word-at (args .words .now) (args .j)) (at.word-at (args .words .now) (args .j + 1)) (ap class.modifier (sym (whole-kind .ensures .0)) ∙ sym (in-class .ensures) ∙ not-false _ (if1 .left)) (ap (λ (w : ℕ). spec.parameter-name (five.kind w)) (sym (word-at .ensures)) ∙ ap spec.parameter-name (sym (kind .ensures)) ∙ sym (parameter-name .ensures) ∙ not-true _ (if2 .taken)) refl)
+    modifies-is (spec.wordAt (args .words .now) (args .j)) (spec.wordAt (args .words .now) (args .j + 1)) (whole-kind .ensures .0) (word-at .ensures) (kind .ensures) refl
+    (sym (in-class .ensures) ∙ not-false _ (if1 .left)) (sym (parameter-name .ensures) ∙ not-true _ (if2 .taken)) refl
 
 newline-requires : tie.Need-newline-requires
 newline-requires c κs = search needs
@@ -65,7 +62,8 @@ returns-3 c =
     let parameter-name = c .before .before .parameter-name in
     let if2 = c .before .if2 in
     let newline = c .newline in
-    sym (modifies-is (at.word-at (args .words .now) (args .j)) (at.word-at (args .words .now) (args .j + 1)) (ap class.modifier (sym (whole-kind .ensures .0)) ∙ sym (in-class .ensures) ∙ not-false _ (if1 .left)) (ap (λ (w : ℕ). spec.parameter-name (five.kind w)) (sym (word-at .ensures)) ∙ ap spec.parameter-name (sym (kind .ensures)) ∙ sym (parameter-name .ensures) ∙ not-false _ (if2 .left)) (ap (λ (w : ℕ). eqb (five.newline w) 0) (sym (word-at .ensures)) ∙ ap (λ (x : ℕ). eqb x 0) (sym (newline .ensures))))
+    modifies-is (spec.wordAt (args .words .now) (args .j)) (spec.wordAt (args .words .now) (args .j + 1)) (whole-kind .ensures .0) (word-at .ensures) (kind .ensures) (newline .ensures)
+    (sym (in-class .ensures) ∙ not-false _ (if1 .left)) (sym (parameter-name .ensures) ∙ not-false _ (if2 .left)) refl
 
 pub modifies-spec : {M : Type 1} → statement M
 modifies-spec =

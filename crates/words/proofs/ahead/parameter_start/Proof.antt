@@ -23,7 +23,7 @@ returns c =
     let whole-kind = c .before .before .whole-kind in
     let parameter-name = c .before .parameter-name in
     let if1 = c .if1 in
-    start-not (args .words .now) (args .j) (ap spec.parameter-name (sym (whole-kind .ensures .0)) ∙ sym (parameter-name .ensures) ∙ not-true _ (if1 .taken))
+    start-not (args .words .now) (args .j) (ap spec.parameterName (sym (whole-kind .ensures .0)) ∙ sym (parameter-name .ensures) ∙ not-true _ (if1 .taken))
 
 add-whole-kind : tie.Need-add-whole-kind
 add-whole-kind c =
@@ -44,7 +44,7 @@ returns-2 c =
     let if1 = c .before .before .if1 in
     let whole-kind2 = c .before .whole-kind2 in
     let followed = c .followed in
-    followed .ensures ∙ ap (spec.followed (args .words .now) (args .j)) (whole-kind2 .ensures .0) ∙ sym (start-followed (args .words .now) (args .j) (ap spec.parameter-name (sym (whole-kind .ensures .0)) ∙ sym (parameter-name .ensures) ∙ not-false _ (if1 .left)))
+    followed .ensures ∙ ap (spec.followed (args .words .now) (args .j)) (whole-kind2 .ensures .0) ∙ sym (start-followed (args .words .now) (args .j) (ap spec.parameterName (sym (whole-kind .ensures .0)) ∙ sym (parameter-name .ensures) ∙ not-false _ (if1 .left)))
 
 pub parameter-start-spec : {M : Type 1} → statement M
 parameter-start-spec =

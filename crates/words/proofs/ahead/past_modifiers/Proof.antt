@@ -10,7 +10,7 @@ use Rattle.words.proofs.ahead.past_modifiers.Statement.{statement}
 use Rattle.words.proofs.ahead.past_modifiers.Tie as tie
 
 abbrev Inv-loop : tie.InvT-loop
-Inv-loop words classes at j₀ j = (j ≤ at + length words) × (spec.past-modifiers at (drop at words) ≡ spec.past-modifiers j (drop j words))
+Inv-loop words classes at j₀ j = (j ≤ at + length words) × (spec.pastModifiers at (drop at words) ≡ spec.pastModifiers j (drop j words))
 
 abbrev μ-loop : tie.MeasureT-loop
 μ-loop words classes at j₀ j = length words - j

@@ -85,7 +85,7 @@ returns-2 c =
     let whole-kind3 = c .before .before .whole-kind3 in
     let whole-kind4 = c .before .whole-kind4 in
     let lone-starter = c .lone-starter in
-    lone-starter .ensures ∙ ap₂ spec.lone-starter (whole-kind3 .ensures .0) (whole-kind4 .ensures .0) ∙ starts-lone (args .words .now) (loop .j) (λ q. if1 .left (whole-kind .ensures .0 ∙ q)) ∙ sym (loop .inv .1)
+    lone-starter .ensures ∙ ap₂ spec.loneStarter (whole-kind3 .ensures .0) (whole-kind4 .ensures .0) ∙ starts-lone (args .words .now) (loop .j) (λ q. if1 .left (whole-kind .ensures .0 ∙ q)) ∙ sym (loop .inv .1)
 
 pub starter-spec : {M : Type 1} → statement M
 starter-spec =

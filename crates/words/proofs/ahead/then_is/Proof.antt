@@ -18,7 +18,7 @@ returns c =
     let args = c .before .before .before .args in
     let skip = c .before .skip in
     let whole-kind = c .whole-kind in
-    ap (λ (x : ℕ). eqb x (args .kind)) (whole-kind .ensures .0 ∙ ap (spec.whole-kind (args .words .now)) (skip .ensures))
+    ap (λ (x : ℕ). eqb x (args .kind)) (whole-kind .ensures .0 ∙ ap (spec.wholeKind (args .words .now)) (skip .ensures))
 
 pub then-is-spec : {M : Type 1} → statement M
 then-is-spec = tie.close (tie.spec skip-requires whole-kind-requires returns)

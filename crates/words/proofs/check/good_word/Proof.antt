@@ -2,7 +2,7 @@
 use mathlib.Core.Path.{_≡_, refl, ap, sym, _∙_}
 use Prim.Native.Nat.{ℕ}
 use borrow.Author.Tests.{eq-eqb, ne-eqb, not-true, not-false}
-use Rattle.words.specs.Spelling.{spelled-right}
+use Rattle.words.specs.Spelling.{spelledRight}
 use Rattle.words.specs.Check as spec
 use Rattle.words.proofs.Walk.{word-is, inside, bytes-there}
 use borrow.Author.Needs.{needs}
@@ -113,7 +113,7 @@ returns-5 c =
     word-is (args .text .now) _ _ _ (kind .ensures) (zeros .ensures) (length .ensures) (start .ensures)
     (sym (in-class .ensures) ∙ not-false _ (if1 .left)) (eq-eqb _ _ (if2 .left)) (sym (placed .ensures) ∙ not-false _ (if3 .left))
     (sym (ends-well .ensures) ∙ not-false _ (if4 .left))
-    (ap (λ (k : ℕ). spelled-right k (spec.part (args .text .now) (start .result) (length .result))) (if5 .taken))
+    (ap (λ (k : ℕ). spelledRight k (spec.part (args .text .now) (start .result) (length .result))) (if5 .taken))
 
 spelled-right-requires : tie.Need-spelled-right-requires
 spelled-right-requires c κs =
@@ -140,10 +140,10 @@ returns-6 c =
     let if3 = c .before .before .before .before .if3 in
     let ends-well = c .before .before .before .ends-well in
     let if4 = c .before .before .if4 in
-    let spelled-right = c .spelled-right in
+    let spelledRight = c .spelled-right in
     word-is (args .text .now) _ _ _ (kind .ensures) (zeros .ensures) (length .ensures) (start .ensures)
     (sym (in-class .ensures) ∙ not-false _ (if1 .left)) (eq-eqb _ _ (if2 .left)) (sym (placed .ensures) ∙ not-false _ (if3 .left))
-    (sym (ends-well .ensures) ∙ not-false _ (if4 .left)) (sym (spelled-right .ensures))
+    (sym (ends-well .ensures) ∙ not-false _ (if4 .left)) (sym (spelledRight .ensures))
 
 pub good-word-spec : {M : Type 1} → statement M
 good-word-spec =

@@ -11,7 +11,7 @@ use Rattle.words.proofs.check.words_from.Statement.{statement}
 use Rattle.words.proofs.check.words_from.Tie as tie
 
 abbrev Inv-loop : tie.InvT-loop
-Inv-loop text words classes places letters before₀ i₀ before i = (i ≤ length words) × (spec.words-from text 0 0 words ≡ spec.words-from text before i (drop i words))
+Inv-loop text words classes places letters before₀ i₀ before i = (i ≤ length words) × (spec.wordsFrom text 0 0 words ≡ spec.wordsFrom text before i (drop i words))
 
 abbrev μ-loop : tie.MeasureT-loop
 μ-loop text words classes places letters before₀ i₀ before i = length words - i
@@ -56,7 +56,7 @@ loop-again c =
     let good-word = c .before .before .good-word in
     let if1 = c .before .if1 in
     let end = c .end in
-    (omega (arith, loop-test .taken), loop .inv .1 ∙ word-good (args .text .now) (loop .before) (args .words .now) (loop .i) (loop-test .taken) (sym (good-word .ensures) ∙ not-false _ (if1 .left)) ∙ ap (λ (b : ℕ). spec.words-from (args .text .now) b (loop .i + 1) (drop (loop .i + 1) (args .words .now))) (sym (end .ensures)))
+    (omega (arith, loop-test .taken), loop .inv .1 ∙ word-good (args .text .now) (loop .before) (args .words .now) (loop .i) (loop-test .taken) (sym (good-word .ensures) ∙ not-false _ (if1 .left)) ∙ ap (λ (b : ℕ). spec.wordsFrom (args .text .now) b (loop .i + 1) (drop (loop .i + 1) (args .words .now))) (sym (end .ensures)))
 
 returns-2 : tie.Need-returns-2 Inv-loop μ-loop
 returns-2 c =

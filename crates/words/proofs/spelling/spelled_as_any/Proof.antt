@@ -1,7 +1,7 @@
 -- The invariant: no kind from `kind` up is spelled so. Assumes nothing.
 use mathlib.Core.Path.{_≡_, refl, sym, _∙_}
 use Prim.Native.Nat.{_≤_}
-use Rattle.words.specs.Test.{some-below}
+use Rattle.words.specs.Test.{someBelow}
 use Rattle.words.specs.Check.{part}
 use Rattle.words.specs.Spelling as spec
 use Rattle.words.proofs.Bytes.{part-some}
@@ -12,7 +12,7 @@ use Rattle.words.proofs.spelling.spelled_as_any.Statement.{statement}
 use Rattle.words.proofs.spelling.spelled_as_any.Tie as tie
 
 abbrev Inv-loop : tie.InvT-loop
-Inv-loop text at n places letters kind₀ kind = (kind ≤ 107) × (spec.spelled-as-any (part text at n) ≡ some-below kind (spec.spelled-as (part text at n)))
+Inv-loop text at n places letters kind₀ kind = (kind ≤ 107) × (spec.spelledAsAny (part text at n) ≡ someBelow kind (spec.spelledAs (part text at n)))
 
 abbrev μ-loop : tie.MeasureT-loop
 μ-loop text at n places letters kind₀ kind = kind

@@ -18,7 +18,7 @@ returns c =
     let args = c .before .before .before .before .args in
     let whole-kind = c .before .before .whole-kind in
     let if1 = c .if1 in
-    (whole-kind .ensures .0 ∙ ap (λ (h : ℕ). spec.left h (spec.whole-kind (args .words .now) (args .self .at))) (sym (if1 .taken)), search needs)
+    (whole-kind .ensures .0 ∙ ap (λ (h : ℕ). spec.left h (spec.wholeKind (args .words .now) (args .self .at))) (sym (if1 .taken)), search needs)
 
 second-half-requires : tie.Need-second-half-requires
 second-half-requires c κs = search needs
@@ -28,7 +28,7 @@ returns-2 c =
     let whole-kind = c .before .before .before .whole-kind in
     let if1 = c .before .if1 in
     let second-half = c .second-half in
-    (second-half .ensures .0 ∙ ap spec.second-half (whole-kind .ensures .0) ∙ left-some _ _ (if1 .left), omega (arith, second-half .ensures, whole-kind .ensures))
+    (second-half .ensures .0 ∙ ap spec.secondHalf (whole-kind .ensures .0) ∙ left-some _ _ (if1 .left), omega (arith, second-half .ensures, whole-kind .ensures))
 
 pub kind-spec : {M : Type 1} → statement M
 kind-spec = tie.close (tie.spec whole-kind-requires returns second-half-requires returns-2)

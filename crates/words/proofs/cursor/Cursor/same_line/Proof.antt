@@ -23,7 +23,7 @@ returns c =
     let if1 = c .before .before .if1 in
     let word-at = c .before .word-at in
     let newline = c .newline in
-    ap (λ (x : ℕ). eqb x 0) (newline .ensures ∙ ap five.newline (word-at .ensures)) ∙ ap (λ (h : ℕ). spec.on-line h (spec.word-at (args .words .now) (args .self .at))) (sym (if1 .taken))
+    ap (λ (x : ℕ). eqb x 0) (newline .ensures ∙ ap five.newline (word-at .ensures)) ∙ ap (λ (h : ℕ). spec.onLine h (spec.wordAt (args .words .now) (args .self .at))) (sym (if1 .taken))
 
 returns-2 : tie.Need-returns-2
 returns-2 c =
