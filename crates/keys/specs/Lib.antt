@@ -1,0 +1,16 @@
+pub mod Bits
+pub mod Limits
+pub mod Form
+pub mod Table
+pub mod Placed
+pub mod Key
+pub mod Store
+pub mod Fitting
+pub mod BitsLaws
+pub mod FormLaws
+pub mod KeyLaws
+pub mod RefusalLaws
+pub mod StoreLaws
+pub mod TakeLaws
+pub mod Makers
+pub mod Theorems

@@ -1,0 +1,58 @@
+-- The numbers of the key, each once and under the name of what it limits or measures (01, The two calls; The key; Refusal numbers).
+use mathlib.Core.Path.{_≡_, refl}
+use Prim.Native.Nat.{ℕ, suc, _^_}
+use Rattle.words.specs.Limits as most
+
+-- A key has at most so many bytes.
+abbrev pub longestKey : ℕ
+longestKey = most.mostKey
+
+-- A tree is at most so high.
+abbrev pub tallest : ℕ
+tallest = most.tallest
+
+-- The width of a list's count.
+abbrev pub countWidth : ℕ
+countWidth = 12
+
+-- A count holds every length that a list may have, and no more.
+pub count-holds : 2 ^ countWidth ≡ suc most.longest
+count-holds = refl
+
+-- The width of a spelling's length.
+abbrev pub lengthWidth : ℕ
+lengthWidth = 16
+
+-- The width of a tag.
+abbrev pub tagWide : ℕ
+tagWide = 6
+
+-- The width of the edition.
+abbrev pub editionWidth : ℕ
+editionWidth = 4
+
+-- The edition of the keys we write.
+abbrev pub edition : ℕ
+edition = 1
+
+-- The words of a node's record in the store.
+abbrev pub recordWords : ℕ
+recordWords = 4
+
+-- ---- The refusals that taking back meets, by their names (Refusal numbers)
+
+-- 6: a node with 256 above it.
+abbrev pub tooTall : ℕ
+tooTall = 6
+
+-- 8: no node left.
+abbrev pub noRoom : ℕ
+noRoom = 8
+
+-- 10: a key that is too long, or the first field the node table disallows.
+abbrev pub badKey : ℕ
+badKey = 10
+
+-- 11: spellings that don't fit.
+abbrev pub noSpace : ℕ
+noSpace = 11

@@ -1,0 +1,150 @@
+-- The node table as data: a form for each tag of each class, over the width c of a count (01, The key).
+use mathlib.Core.Bool.{Bool, true, false}
+use mathlib.Core.List.{List, [], _∷_}
+use Prim.Native.Nat.{ℕ, zero, suc}
+use lib.Dec.{leb, ltb}
+use lib.ListN.{getD}
+use Rattle.keys.specs.Form.{Form, never, one, word, choose, both, child, Grammar}
+use Rattle.keys.specs.Limits.{lengthWidth, tagWide, editionWidth}
+
+infixr 5 _⊗_
+-- One field and then the others.
+abbrev pub _⊗_ : Form → Form → Form
+f ⊗ g = both f g
+
+-- A form where a test holds, else none.
+abbrev pub when : Bool → Form → Form
+when true f = f
+when false f = never
+
+-- The listed form at a place; none past the end.
+abbrev pub oneOf : List Form → ℕ → Form
+oneOf fs k = getD fs k never
+
+-- A form n times.
+abbrev pub times : ℕ → Form → Form
+times zero f = one
+times (suc n) f = let r = times n f in both f r
+
+-- One bit.
+abbrev pub flag : Form
+flag = choose 1 (λ k. one)
+
+-- w bits, a number below n.
+abbrev pub below : ℕ → ℕ → Form
+below w n = choose w (λ k. when (ltb k n) one)
+
+-- "opt": one bit first (The key).
+abbrev pub opt : Form → Form
+opt f = choose 1 (oneOf (one ∷ f ∷ []))
+
+-- An opt that is needed, as a predicate's type is unless it asserts: its bit is 1.
+abbrev pub needed : Form → Form
+needed f = choose 1 (oneOf (never ∷ f ∷ []))
+
+-- A spelling: length 16, at least 1, and any bytes (The key).
+abbrev pub spelling : Form
+spelling = word lengthWidth
+
+-- ---- The six classes of nodes (The key: "20 to 22 only in tuples")
+
+-- A type: 1 to 19, 23, 24.
+abbrev pub type : Form
+type = child 0
+
+-- An element of a tuple: a type, 20, 21, 22.
+abbrev pub element : Form
+element = child 1
+
+-- What stands under a 21: a type or 22.
+abbrev pub underRest : Form
+underRest = child 2
+
+-- What stands under a 22: a type, 20 or 21.
+abbrev pub underName : Form
+underName = child 3
+
+-- A type parameter.
+abbrev pub typeParam : Form
+typeParam = child 4
+
+-- A parameter.
+abbrev pub param : Form
+param = child 5
+
+-- What follows each kind of literal: string, number, bigint, true, false, -number, -bigint; no spelling after true and false.
+abbrev pub literals : List Form
+literals = spelling ∷ spelling ∷ spelling ∷ one ∷ one ∷ spelling ∷ spelling ∷ []
+
+-- Whose predicate it is: "this bit or spelling".
+abbrev pub subject : Form
+subject = choose 1 (oneOf (spelling ∷ one ∷ []))
+
+-- 22 named: spelling, `?` bit, type, 20 or 21.
+abbrev pub namedRow : Form
+namedRow = spelling ⊗ flag ⊗ underName
+
+-- The type parameter, which has no tag: spelling, opt, opt.
+abbrev pub typeParamRow : Form
+typeParamRow = spelling ⊗ opt type ⊗ opt type
+
+-- The parameter, which has no tag: rest bit, spelling, `?` bit, opt.
+abbrev pub paramRow : Form
+paramRow = flag ⊗ spelling ⊗ flag ⊗ opt type
+
+module _ (c : ℕ) where
+  -- A list: its count, at least so many, and its entries (The key).
+  abbrev pub list : ℕ → Form → Form
+  list least f = choose c (λ n. when (leb least n) (times n f))
+
+  -- "args": a list of types.
+  abbrev pub args : Form
+  args = list 0 type
+
+  -- The rows of tags 0 to 24, where those of 20, 21 and 22 are handed over.
+  abbrev pub rows : Form → Form → Form → List Form
+  rows row20 row21 row22 =
+      never  -- 0 is no tag
+      ∷ (list 1 spelling ⊗ opt args)  -- 1 reference
+      ∷ below 4 13  -- 2 keyword
+      ∷ choose 3 (oneOf literals)  -- 3 literal
+      ∷ type  -- 4 parens
+      ∷ list 1 type  -- 5 union
+      ∷ list 1 type  -- 6 intersection
+      ∷ type  -- 7 array
+      ∷ (type ⊗ type)  -- 8 indexed
+      ∷ (type ⊗ type ⊗ type ⊗ type)  -- 9 conditional
+      ∷ (spelling ⊗ opt type)  -- 10 infer
+      ∷ (below 2 3 ⊗ type)  -- 11 operator
+      ∷ (opt (list 0 typeParam) ⊗ opt (opt type) ⊗ list 0 param ⊗ type)  -- 12 function
+      ∷ (flag ⊗ opt (list 0 typeParam) ⊗ list 0 param ⊗ type)  -- 13 constructor
+      ∷ (below 2 4 ⊗ spelling ⊗ type ⊗ opt type ⊗ below 2 4 ⊗ opt type)  -- 14 mapped
+      ∷ choose c (λ n. spelling ⊗ times n (type ⊗ spelling))  -- 15 template
+      ∷ choose 1 (oneOf ((subject ⊗ needed type) ∷ (subject ⊗ opt type) ∷ []))  -- 16 predicate
+      ∷ (list 1 spelling ⊗ opt args)  -- 17 typeof
+      ∷ (flag ⊗ spelling ⊗ list 0 spelling ⊗ opt args)  -- 18 import
+      ∷ list 0 element  -- 19 tuple
+      ∷ row20  -- 20 optional
+      ∷ row21  -- 21 rest
+      ∷ row22  -- 22 named
+      ∷ type  -- 23 `!`
+      ∷ type  -- 24 `?`
+      ∷ []
+
+  -- The rows of each class: 20 to 22 only in tuples; under 21 a type or 22, under 22 a type, 20 or 21.
+  abbrev pub rowsOf : ℕ → List Form
+  rowsOf zero = rows never never never  -- a type
+  rowsOf (suc zero) = rows type underRest namedRow  -- a tuple element
+  rowsOf (suc (suc zero)) = rows never never namedRow  -- under a rest
+  rowsOf (suc (suc (suc zero))) = rows type underRest never  -- under a name
+  rowsOf (suc (suc (suc (suc zero)))) = typeParamRow ∷ []
+  rowsOf (suc (suc (suc (suc (suc zero))))) = paramRow ∷ []
+  rowsOf (suc (suc (suc (suc (suc (suc k)))))) = []
+
+  -- The node table: four classes with a tag of 6 bits and two with none.
+  abbrev pub table : Grammar
+  table = record { tagWidth = λ k. getD (tagWide ∷ tagWide ∷ tagWide ∷ tagWide ∷ []) k 0; row = λ k t. oneOf (rowsOf k) t }
+
+-- A whole key but for its last bits: the edition, which is 1, then a type.
+abbrev pub wholeKey : Form
+wholeKey = choose editionWidth (oneOf (never ∷ type ∷ []))

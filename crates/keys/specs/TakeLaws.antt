@@ -1,0 +1,103 @@
+-- The laws of our own keys: from the value of a whole key to its tree, and from a tree to what the call leaves of it.
+use mathlib.Core.Path.{_≡_, refl, sym, ap, _∙_, subst}
+use mathlib.Core.Bool.{Bool, true, false}
+use mathlib.Core.List.{List, []}
+use Prim.Native.Nat.{ℕ, zero, suc, _+_, _-_, _*_, _/_, _^_, _≤_, _<_}
+use native.Mathlib.Omega.{arith}
+use borrow.Author.Tests.{leb-true}
+use lib.Dec.{leb}
+use lib.ListN.{length, take, replicate}
+use lib.Seq.{take-at}
+use Rattle.keys.specs.Bits.{Bits, bitsOfBytes}
+use Rattle.keys.specs.Form.{Value, choice, Bytes, Fits, fits-choose, nodes, names, letters, write, State, state, Result, got, stop}
+use Rattle.keys.specs.Limits.{longestKey, tallest, editionWidth, edition, recordWords}
+use Rattle.keys.specs.Table.{type, wholeKey}
+use Rattle.keys.specs.Placed.{bare, laid}
+use Rattle.keys.specs.Key.{Taken, taken, refused, treeIn, outcome, takeWhole, nodeTable, keyOf, takeWithin, takeKey, IsTree, HasRoom, IsKey}
+use Rattle.keys.specs.Store.{Kept, lent, filled, runOf, nodesOf, namesOf, textOf, done}
+use Rattle.keys.specs.BitsLaws.{clash}
+use Rattle.keys.specs.FormLaws.{some, letters-written}
+use Rattle.keys.specs.KeyLaws.{length-packed, whole-back, Came}
+use Rattle.keys.specs.StoreLaws.{length-records, length-namesIn, under-plant, called-plant, length-textOf, length-filled, bare-laid}
+
+-- ---- What a tree needs
+
+-- Four words for each node.
+pub length-nodesOf : (t : Value) → length (nodesOf (laid t 0)) ≡ 4 * nodes t
+length-nodesOf t =
+    omega (arith, length-records (runOf (laid t 0)) 0 0 0, under-plant nodeTable type (laid t 0) done, ap nodes (bare-laid t 0))
+
+-- One word for each name.
+pub length-namesOf : (t : Value) → length (namesOf (laid t 0)) ≡ length (names t)
+length-namesOf t =
+    omega (arith, length-namesIn (runOf (laid t 0)), called-plant nodeTable type (laid t 0) done, ap (λ (v : Value). length (names v)) (bare-laid t 0))
+
+-- ---- The edition
+
+edition-fits : edition < 2 ^ editionWidth
+edition-fits = omega arith
+
+-- A tree with its edition has the form of a whole key.
+pub with-edition : {t : Value} → Fits nodeTable type t → Fits nodeTable wholeKey (choice edition t)
+with-edition h = fits-choose edition-fits h
+
+-- A whole key is a tree with its edition.
+pub edition-only : {v : Value} → Fits nodeTable wholeKey v → v ≡ choice edition (treeIn v)
+edition-only (fits-choose {k = zero} a b) = clash (cc (some nodeTable b))
+edition-only (fits-choose {k = suc zero} a b) = refl
+edition-only (fits-choose {k = suc (suc k)} a b) = clash (cc (some nodeTable b))
+
+tree-fits : {t : Value} → Fits nodeTable wholeKey (choice edition t) → Fits nodeTable type t
+tree-fits (fits-choose a b) = b
+
+-- ---- What is taken is a key
+module _ (n k m : ℕ) (key : List ℕ) (ok : Bytes key) (t : Value) where
+  came-key : length key ≤ longestKey → Came nodeTable wholeKey tallest n k m (choice edition t) key → IsKey n k m t key
+  came-key short c =
+      record {
+        isTree = record { fits = tree-fits (c .fits); tall = c .tall; short = subst (λ (x : List ℕ). length x ≤ longestKey) (c .is) short };
+        hasRoom = record { forNodes = c .forNodes; forNames = c .forNames; forText = c .forText };
+        is = c .is;
+      }
+
+  got-key : length key ≤ longestKey → (x : Result) → takeWhole nodeTable wholeKey tallest (state n k m (bitsOfBytes key)) ≡ x
+      → outcome (length (bitsOfBytes key)) x ≡ taken t → IsKey n k m t key
+  got-key short (stop a l) i e = clash (cc)
+  got-key short (got v s) i e =
+      let c : Came nodeTable wholeKey tallest n k m v key = whole-back nodeTable wholeKey tallest n k m key ok v s i in
+      let q : treeIn v ≡ t = cc in
+      came-key short (subst (λ (x : Value). Came nodeTable wholeKey tallest n k m x key) (edition-only (c .fits) ∙ ap (choice edition) q) c)
+
+  -- Bytes from which a tree is taken are its key.
+  pub key-back : takeKey n k m key ≡ taken t → IsKey n k m t key
+  key-back e = by (leb (length key) longestKey) refl e
+    where
+      by : (b : Bool) → leb (length key) longestKey ≡ b → takeWithin b n k m key ≡ taken t → IsKey n k m t key
+      by false i j = clash (cc)
+      by true i j =
+          got-key (leb-true (length key) longestKey i) (takeWhole nodeTable wholeKey tallest (state n k m (bitsOfBytes key))) refl j
+
+-- ---- What the call leaves keeps its length
+module _ (a b c : ℕ) where
+  pub kept-taken : (t : Value) → HasRoom (a / recordWords) b c t → Kept a b c (lent a b c (taken t))
+  kept-taken t r =
+      record {
+        nodesKept = length-filled a (nodesOf (laid t 0)) (omega (arith, length-nodesOf t, r .forNodes));
+        namesKept = length-filled b (namesOf (laid t 0)) (omega (arith, length-namesOf t, r .forNames));
+        textKept = length-filled c (textOf t) (omega (arith, length-textOf t, r .forText));
+      }
+
+  pub kept-refused : (n p : ℕ) → Kept a b c (lent a b c (refused n p))
+  kept-refused n p =
+      record { nodesKept = length-filled a [] (omega arith); namesKept = length-filled b [] (omega arith); textKept = length-filled c [] (omega arith) }
+
+-- ---- What it leaves of the names
+
+-- A tree's spellings are short enough for the words of names.
+pub text-small : {t : Value} → IsTree t → letters t < 2 ^ 32
+text-small {t} h =
+    omega (arith, letters-written nodeTable (with-edition (h .fits)), length-packed (write nodeTable wholeKey (choice edition t)), h .short)
+
+-- Its names are the first words left for them.
+pub names-first : (t : Value) (b : ℕ) → take (length (names t)) (filled b (namesOf (laid t 0))) ≡ namesOf (laid t 0)
+names-first t b = take-at (namesOf (laid t 0)) (replicate (b - length (namesOf (laid t 0))) 0) (length (names t)) (length-namesOf t)

@@ -1,0 +1,1 @@
+// The canonical key of a type: its bits, the node table, trees, and what the store holds of them.
