@@ -1,0 +1,23 @@
+-- Document 01's reading rules, in its order: what they are made of, the rules, the call, the rows.
+pub mod Refusal
+pub mod Notes
+pub mod State
+pub mod TypeRule
+pub mod Function
+pub mod TypeParameters
+pub mod Union
+pub mod Operator
+pub mod Infer
+pub mod Postfix
+pub mod Primary
+pub mod Names
+pub mod Arguments
+pub mod Mapped
+pub mod Tuple
+pub mod Template
+pub mod List
+pub mod Reading
+pub mod Rules
+pub mod Read
+pub mod Rows
+pub mod FurtherRows

@@ -1,0 +1,50 @@
+-- Diagnostics, and the records that hold them (01, "The two calls", "Reading rules": Diagnostics).
+use Prim.Native.Nat.{ℕ}
+use mathlib.Core.List.{List, [], _∷_}
+
+-- empty type parameters
+abbrev pub emptyTypeParameters : ℕ
+emptyTypeParameters = 1
+
+-- empty arguments
+abbrev pub emptyArguments : ℕ
+emptyArguments = 2
+
+-- this on a constructor
+abbrev pub thisOnConstructor : ℕ
+thisOnConstructor = 3
+
+-- a required tuple element after an optional one
+abbrev pub requiredAfterOptional : ℕ
+requiredAfterOptional = 4
+
+-- a rest after a label
+abbrev pub restAfterLabel : ℕ
+restAfterLabel = 5
+
+-- a `?` after a labelled type
+abbrev pub askedAfterLabel : ℕ
+askedAfterLabel = 6
+
+-- optional and rest
+abbrev pub optionalAndRest : ℕ
+optionalAndRest = 7
+
+-- a diagnostic: its number, first byte and end byte
+pub record Note : Type 0 where
+  pub number : ℕ
+  pub first : ℕ
+  pub end : ℕ
+
+-- a diagnostic by its three numbers
+abbrev pub note : ℕ → ℕ → ℕ → Note
+note n b e = record { number = n; first = b; end = e }
+
+-- the words of a record
+abbrev pub noteWidth : ℕ
+noteWidth = 3
+
+-- the records of a list of diagnostics
+abbrev pub noteWords : List Note → List ℕ
+noteWords [] = []
+noteWords (n ∷ l) = n .number ∷ n .first ∷ n .end ∷ noteWords l
