@@ -1,4 +1,4 @@
--- A number in a field of w bits, and the taking of such a field, for any w (01, The key: "Bits, most significant first").
+-- A number in a field of w bits, and the taking of such a field, for any w (01, The key).
 use mathlib.Core.Bool.{Bool, true, false}
 use mathlib.Core.List.{List, [], _∷_, _++_}
 use Prim.Native.Nat.{ℕ, zero, suc, _+_, _*_, _/_, _%_, _^_}

@@ -174,7 +174,7 @@ abbrev pub andThen : Result → (Value → State → Result) → Result
 andThen (got v s) k = k v s
 andThen (stop n l) k = stop n l
 
--- A number under which there is no form is 10 at its field: "the first field the node table disallows" (Refusal numbers).
+-- A number that leads to no form is 10, and the place is its field (Refusal numbers).
 abbrev pub allowed : State → (ℕ → Bits → Result) → ℕ → Bits → Bool → Result
 allowed s k t r true = stopAt badKey s
 allowed s k t r false = k t r

@@ -16,7 +16,7 @@ use Rattle.keys.specs.Table.{table, wholeKey, type}
 abbrev pub gap : ℕ → ℕ
 gap n = (8 - n % 8) % 8
 
--- Bits with "zero bits to the byte" after them (The key).
+-- Bits, filled up with zeros until they make whole bytes (The key).
 abbrev pub padded : Bits → Bits
 padded bs = bs ++ replicate (gap (length bs)) false
 
@@ -82,7 +82,7 @@ takeWhole G K high s = closed (takeForm (takeNode G high) K s)
 abbrev pub nodeTable : Grammar
 nodeTable = table countWidth
 
--- The key of a tree: "edition 4 (1), one tree preorder, zero bits to the byte" (The key).
+-- The key of a tree: the edition, then the tree, then zeros to a whole byte (The key).
 abbrev pub keyOf : Value → List ℕ
 keyOf t = bytesBy nodeTable wholeKey (choice edition t)
 

@@ -72,7 +72,7 @@ spellings (s ∷ ss) = spell s ∷ spellings ss
 abbrev pub listedNames : List Spelling → Placed
 listedNames ss = listed (spellings ss)
 
--- "opt": a part that may be absent.
+-- An opt: a part that may be absent.
 abbrev pub maybe : Opt Placed → Placed
 maybe absent = pick 0 void
 maybe (present p) = pick 1 p
@@ -82,7 +82,7 @@ abbrev pub maybeList : Opt (List Placed) → Placed
 maybeList absent = pick 0 void
 maybeList (present ps) = pick 1 (listed ps)
 
--- "this bit and if set opt type".
+-- The `this` of a function: whether there is one, and then whether it has a type.
 abbrev pub maybeThis : Opt (Opt Placed) → Placed
 maybeThis absent = pick 0 void
 maybeThis (present p) = pick 1 (maybe p)
@@ -92,7 +92,7 @@ abbrev pub literalSpelling : Opt Spelling → Placed
 literalSpelling absent = void
 literalSpelling (present s) = spell s
 
--- "this bit or spelling": absent is this.
+-- Whose predicate it is: absent stands for this.
 abbrev pub subjectOf : Opt Spelling → Placed
 subjectOf absent = pick 1 void
 subjectOf (present s) = pick 0 (spell s)
@@ -292,6 +292,6 @@ abbrev pub optionalIf : Bool → Placed → Placed
 optionalIf true p = retag 20 p
 optionalIf false p = p
 
--- "An element that comes out as a `?` node becomes optional, same node" (Mapped, tuple element).
+-- As an element of a tuple, a `?` node turns into an optional one and keeps all else (Mapped, tuple element).
 abbrev pub asElement : Placed → Placed
 asElement p = optionalIf (isAsked p) p

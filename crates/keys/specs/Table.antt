@@ -34,7 +34,7 @@ flag = choose 1 (λ k. one)
 abbrev pub below : ℕ → ℕ → Form
 below w n = choose w (λ k. when (ltb k n) one)
 
--- "opt": one bit first (The key).
+-- An opt: a bit says whether the part is there (The key).
 abbrev pub opt : Form → Form
 opt f = choose 1 (oneOf (one ∷ f ∷ []))
 
@@ -46,7 +46,7 @@ needed f = choose 1 (oneOf (never ∷ f ∷ []))
 abbrev pub spelling : Form
 spelling = word lengthWidth
 
--- ---- The six classes of nodes (The key: "20 to 22 only in tuples")
+-- ---- The six classes of nodes: 20 to 22 stand in tuples alone (The key)
 
 -- A type: 1 to 19, 23, 24.
 abbrev pub type : Form
@@ -76,7 +76,7 @@ param = child 5
 abbrev pub literals : List Form
 literals = spelling ∷ spelling ∷ spelling ∷ one ∷ one ∷ spelling ∷ spelling ∷ []
 
--- Whose predicate it is: "this bit or spelling".
+-- Whose predicate it is: a bit for this, or a spelling.
 abbrev pub subject : Form
 subject = choose 1 (oneOf (spelling ∷ one ∷ []))
 
@@ -97,7 +97,7 @@ module _ (c : ℕ) where
   abbrev pub list : ℕ → Form → Form
   list least f = choose c (λ n. when (leb least n) (times n f))
 
-  -- "args": a list of types.
+  -- Arguments: a list of types.
   abbrev pub args : Form
   args = list 0 type
 
