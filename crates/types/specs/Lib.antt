@@ -21,3 +21,10 @@ pub mod Rules
 pub mod Read
 pub mod Rows
 pub mod FurtherRows
+pub mod TokenLaws
+pub mod Gives
+pub mod PartLaws
+pub mod RuleLaws
+pub mod Call
+pub mod CallLaws
+pub mod Theorems
