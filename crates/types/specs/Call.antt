@@ -2,8 +2,9 @@
 use mathlib.Core.Path.{_≡_}
 use mathlib.Core.Bool.{Bool, true, false}
 use mathlib.Core.List.{List}
-use Prim.Native.Nat.{ℕ}
+use Prim.Native.Nat.{ℕ, _≤_, _<_}
 use lib.ListN.{length, take, replicate}
+use Rattle.keys.specs.Limits.{noSpace}
 use Rattle.keys.specs.Form.{Bytes}
 use Rattle.keys.specs.Placed.{Placed}
 use Rattle.types.specs.State.{State, Result, read as got}
@@ -59,3 +60,10 @@ pub record AllZero (l : Lent) (r : Called) : Type 0 where
   pub namesZero : r .nameWords ≡ replicate (l .names) 0
   pub notesZero : r .noteWords ≡ replicate (l .notes) 0
   pub keyZero : r .key ≡ replicate (l .key) 0
+
+-- A refusal that a call may meet, by its number and place, where the list has so many tokens: 1 and 11 at 0, the others at a token.
+pub data IsRefusal (tokens : ℕ) : ℕ → ℕ → Type 0 where
+  is-badList : IsRefusal tokens 1 0
+  is-badToken : {p : ℕ} → p < tokens → IsRefusal tokens 2 p
+  is-rules : {n p : ℕ} → 3 ≤ n → n ≤ 9 → p < tokens → IsRefusal tokens n p
+  is-noSpace : IsRefusal tokens noSpace 0

@@ -22,6 +22,8 @@ pub mod Read
 pub mod Rows
 pub mod FurtherRows
 pub mod TokenLaws
+pub mod Places
+pub mod PlaceLaws
 pub mod Gives
 pub mod PartLaws
 pub mod RuleLaws

@@ -1,5 +1,5 @@
 -- Laws of what rules make nodes of: how many nodes is in it, and that it is of the node table.
-use mathlib.Core.Path.{_≡_, refl, subst}
+use mathlib.Core.Path.{_≡_, refl, ap, subst}
 use mathlib.Core.Bool.{Bool, true, false, not}
 use mathlib.Core.List.{List, [], _∷_, _++_}
 use Prim.Native.Nat.{ℕ, zero, suc, _+_, _≤_, _<_}
@@ -10,21 +10,18 @@ use borrow.Author.Tests.{leb-true}
 use lib.Dec.{eqb, leb}
 use Rattle.words.specs.Test.{_and_, _or_, between, among, test}
 use Rattle.words.specs.Kind.{Dot, Any, Unknown, True, False, Null, Void}
-use Rattle.keys.specs.Form.{Value, node as nodeValue, height, nodes, Fits, fits-child}
+use Rattle.keys.specs.Form.{Value, node as nodeValue, Fits, fits-child}
 use Rattle.keys.specs.Table.{type, element, underName}
 use Rattle.keys.specs.Placed as node
 use Rattle.keys.specs.Placed.{Placed, void, said, pick, join, tree, bare, Spelling, Opt, absent, present, optionalIf, asElement}
 use Rattle.keys.specs.Key.{nodeTable}
 use Rattle.keys.specs.Fitting.{Is, IsSpelling, Each, IfAny}
 use Rattle.keys.specs.Makers as makers
-use Rattle.types.specs.State.{Given, State, kind, kindAfter, first, end, make}
-use Rattle.types.specs.Names.{name}
+use Rattle.types.specs.State.{Given, State, kind, kindAfter, first, end}
 use Rattle.types.specs.List.{position}
-use Rattle.types.specs.Function.{predicates}
-use Rattle.types.specs.Primary.{keywords, literals, isKeyword, literal}
-use Rattle.types.specs.Template.{pieces}
+use Rattle.types.specs.Primary.{keywords, literals, isKeyword}
 use Rattle.types.specs.TokenLaws.{both-true, among-each}
-use Rattle.types.specs.Gives.{sizeOf, sizeOfAll}
+use Rattle.types.specs.Gives.{sizeOf}
 
 -- ---- Sizes
 
@@ -64,9 +61,9 @@ as-under-name (tree t first end q) i = by (eqb t 24) (makers.asElement-is (tree 
     by true j = makers.optional-under-name first end (record { fits = inner (j .fits) })
     by false j = makers.type-under-name i
 
-pub pieces-size : (l : List (Placed × Spelling)) (t : Placed) (x : Spelling) → sizeOfAll (node.pieces (l ++ ((t, x) ∷ []))) ≡ sizeOfAll (node.pieces l) + sizeOf t
-pieces-size [] t x = omega arith
-pieces-size (p ∷ l) t x = omega (arith, pieces-size l t x)
+pub pieces-more : (l : List (Placed × Spelling)) (p : Placed × Spelling) → node.pieces (l ++ (p ∷ [])) ≡ node.pieces l ++ (join (p .0) (node.spell (p .1)) ∷ [])
+pieces-more [] p = refl
+pieces-more (x ∷ l) p = ap (λ (r : List Placed). join (x .0) (node.spell (x .1)) ∷ r) (pieces-more l p)
 
 -- ---- Keywords, literals, predicates
 

@@ -1,9 +1,9 @@
--- What is proved of readings. Calls and what they leave are named in Call; trees are compared as bare values, positions aside.
+-- What is proved of readings. Call names the calls and what they leave, Places when nodes stand in order; trees are compared as bare values, positions aside.
 use mathlib.Core.Path.{_≡_, refl, sym, ap, _∙_}
 use mathlib.Core.Logic.{_↔_}
 use mathlib.Core.Bool.{Bool, true, false}
 use mathlib.Core.List.{List}
-use Prim.Native.Nat.{ℕ, _/_, _≤_}
+use Prim.Native.Nat.{ℕ, _/_, _≤_, _<_}
 use native.Mathlib.Omega.{arith}
 use lib.ListN.{length}
 use lib.Seq.{take-append-seam}
@@ -17,19 +17,24 @@ use Rattle.keys.specs.Key.{taken, nodeTable, keyOf, IsTree, HasRoom}
 use Rattle.keys.specs.Store.{lent, takeBack}
 use Rattle.keys.specs.Theorems.{same-key, taken-back}
 use Rattle.keys.specs.BitsLaws.{clash}
-use Rattle.types.specs.State.{Given, State, read as got}
+use Rattle.types.specs.State.{Given, State, end, read as got}
 use Rattle.types.specs.Reading.{reading}
-use Rattle.types.specs.Read.{granted, denied, Outcome, outcome, written, read}
-use Rattle.types.specs.Call.{Call, left, ruled, grants, keyLeft, Granted, Kept, AllZero}
-use Rattle.types.specs.Gives.{Got, Good, sizeOf}
+use Rattle.types.specs.Read.{granted, denied, Outcome, outcome, refuses, written, read}
+use Rattle.types.specs.Places.{after, InOrder}
+use Rattle.types.specs.Call.{Call, left, ruled, grants, keyLeft, Granted, Kept, AllZero, IsRefusal}
+use Rattle.types.specs.TokenLaws.{Checked, taken-inside}
+use Rattle.types.specs.Gives.{Got, Good, itself}
 use Rattle.types.specs.RuleLaws.{reading-gives}
-use Rattle.types.specs.CallLaws.{gave, facts, ruled-by, filled-zero, kept-granted, kept-refused}
+use Rattle.types.specs.CallLaws.{gave, facts, ruled-by, filled-zero, kept-granted, kept-refused, call-refusal}
 
 -- ---- What the rules read: tree t and state s, from a text of bytes and a list that passed the check
 module _ (g : Given) (start : ℕ) {t : Placed} {s : State}
     (bytes : Bytes (g .text)) (passed : check (g .text) (g .words) start ≡ sound) (e : reading g start ≡ got t s) where
-  all : Got g (Good type) sizeOf 0 t s
-  all = gave (reading-gives g (record { bytes = bytes; start = start; sound = passed }) start) e
+  abbrev givenChecked : Checked g
+  givenChecked = record { bytes = bytes; start = start; sound = passed }
+
+  all : Got g (Good type) itself 1 0 0 t s
+  all = gave (reading-gives g givenChecked) e
 
   -- The tree is a type of the node table: every list has at most 4,095 entries, every spelling 1 to 65,535 bytes.
   pub tree-fits : Fits nodeTable type (bare t)
@@ -41,21 +46,35 @@ module _ (g : Given) (start : ℕ) {t : Placed} {s : State}
 
   -- The nodes in use are its nodes: what a dropped trial or a dropped `this` took is free again.
   pub nodes-used : s .nodes ≡ nodes (bare t)
-  nodes-used = omega (arith, all .at .used)
+  nodes-used = omega (arith, all .has .at .used)
 
   -- There is room for them.
   pub nodes-roomy : s .nodes ≤ g .room
-  nodes-roomy = all .at .roomy
+  nodes-roomy = all .has .at .roomy
 
   -- There are at most 32 diagnostics.
   pub notes-few : length (s .notes) ≤ mostNotes
-  notes-few = all .at .few
+  notes-few = all .has .at .few
 
   -- Each has a record.
   pub notes-recorded : length (s .notes) ≤ g .records
-  notes-recorded = all .at .recorded
+  notes-recorded = all .has .at .recorded
 
-  -- No half of a token is used up at the end.
+  -- A node's first byte is below its end byte, a child lies inside its parent, and entries of a list come in order without overlap.
+  pub tree-in-order : InOrder 0 t
+  tree-in-order = all .has .spans .inOrder
+
+  -- It ends inside the text.
+  pub tree-in-text : after 0 t ≤ length (g .text)
+  tree-in-text =
+      let inside : end g s ≤ length (g .text) = rw (all .whole) (taken-inside g givenChecked (s .at) (all .has .at .inside)) in
+      omega (arith, all .has .spans .upTo)
+
+  -- The end cursor stands at a token.
+  pub ends-inside : s .at < length (g .words)
+  ends-inside = all .has .at .inside
+
+  -- No half of it is used up.
   pub ends-whole : s .half ≡ 0
   ends-whole = all .whole
 
@@ -99,6 +118,10 @@ call-refused c e = by (outcome (c .text) (c .words) (c .start) (c .parens) (c .l
     by (denied n p h) j =
         let l = c .lent in
         record { nodesZero = filled-zero (l .nodes); namesZero = filled-zero (l .names); notesZero = filled-zero (l .notes); keyZero = filled-zero (l .key) }
+
+-- It refuses under 1 to 9 or 11, at a token of the list, and at 0 for 1 and 11.
+pub refusals : (c : Call) → Bytes (c .text) → {n p h : ℕ} → left c .answer ≡ refuses n p h → IsRefusal (length (c .words)) n p
+refusals c bytes e = call-refusal c bytes e
 
 -- Every output is left as long as it was lent.
 pub lengths-kept : (c : Call) → Bytes (c .text) → Kept (c .lent) (left c)
