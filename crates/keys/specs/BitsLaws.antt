@@ -59,7 +59,7 @@ bits-low (suc w) c j =
     ∙ ap odd (add-mul-div-right j (c * 2) (pow-pos w)) ∙ ap odd (add-comm (j / 2 ^ w) (c * 2)) ∙ odd-even c (j / 2 ^ w))
     (ap (λ (x : ℕ). bitsOf w (x + j)) (shift c w) ∙ bits-low w (c * 2) j)
 
-digit-taken : (w a n : ℕ) → (a * 2 + unit (odd (n / 2 ^ w))) * 2 ^ w + n % 2 ^ w ≡ a * 2 ^ suc w + n % 2 ^ suc w
+pub digit-taken : (w a n : ℕ) → (a * 2 + unit (odd (n / 2 ^ w))) * 2 ^ w + n % 2 ^ w ≡ a * 2 ^ suc w + n % 2 ^ suc w
 digit-taken w a n =
     ap (λ (x : ℕ). (a * 2 + x) * 2 ^ w + n % 2 ^ w) (unit-odd (n / 2 ^ w)) ∙ spread a (n / 2 ^ w % 2) (2 ^ w) (n % 2 ^ w)
     ∙ ap₂ (λ (x y : ℕ). x + y) (sym (shift a w)) (sym (ap (λ (x : ℕ). n % x) (pow-succ' 2 w) ∙ mod-mul n (zero-lt-suc 1) (pow-pos w)))

@@ -6,6 +6,14 @@ pub mod Placed
 pub mod Key
 pub mod Store
 pub mod Fitting
+pub mod Forms
+pub mod Words
+pub mod Take
+pub mod Runs
+pub mod Back
+pub mod Put
+pub mod Holds
+pub mod Out
 pub mod BitsLaws
 pub mod FormLaws
 pub mod KeyLaws
@@ -13,4 +21,9 @@ pub mod RefusalLaws
 pub mod StoreLaws
 pub mod TakeLaws
 pub mod Makers
+pub mod FormsLaws
+pub mod PutLaws
+pub mod OutLaws
+pub mod HoldsLaws
+pub mod KeyedLaws
 pub mod Theorems

@@ -1,1 +1,9 @@
-// The canonical key of a type: its bits, the node table, trees, and what the store holds of them.
+// The canonical key of a type: its bits, the node table, trees, what the store holds of them, key out and key in.
+pub mod back;
+pub mod forms;
+pub mod out;
+pub mod put;
+pub mod refusal;
+pub mod store;
+mod tables;
+pub mod take;

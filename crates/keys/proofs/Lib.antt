@@ -1,0 +1,12 @@
+pub mod Chunks
+pub mod Cells
+pub mod Filling
+pub mod Nevers
+pub mod Steps
+pub mod Spelling
+pub mod Walk
+pub mod Nodes
+pub mod Padding
+pub mod Lines
+pub mod Rows
+pub mod Whole

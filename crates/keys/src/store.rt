@@ -1,0 +1,146 @@
+// The node store and the names: appending, linking, clearing, and what their words say.
+ghost use mathlib.Core.Path.{_≡_};
+ghost use mathlib.Core.List.{[], _∷_, _++_};
+ghost use Prim.Native.Nat.{_+_, _-_, _*_, _^_, _<_, _≤_, _/_, _%_};
+ghost use lib.ListN.{length, take, set, getD};
+ghost use Rattle.keys.specs.Limits.{recordWords};
+ghost use Rattle.keys.specs.Store.{filled};
+ghost use Rattle.keys.specs.Words.{firstNodes, firstNames};
+ghost use Rattle.keys.specs.Holds.{wordAt, childAt, nextAt, startAt, sizeAt};
+
+// Two numbers in one word, the first lowest.
+fn halves(low: usize, high: usize) -> u64
+    requires { ⌜ (low < 2 ^ 63) × (high < 2 ^ 31) ⌝ }
+    ensures { λ r. ⌜ r ≡ low + 2 ^ 32 * high ⌝ }
+{
+    (low as u64) + 4294967296 * (high as u64)
+}
+
+// The record of a finished node, at the next place: its choices, its first and end byte, its first child and first name, no next sibling.
+pub fn append_node(
+    nodes: &mut [u64],
+    at: usize,
+    choices: u64,
+    first: usize,
+    end: usize,
+    child: usize,
+    name: usize,
+)
+    requires { ⌜ (recordWords * (at + 1) ≤ length (now nodes)) × (first < 2 ^ 63) × (end < 2 ^ 31) × (child < 2 ^ 63) × (name < 2 ^ 31) ⌝ }
+    ensures { λ _. ⌜ firstNodes (now (nodes .exit)) (at + 1) ≡ firstNodes (now (nodes .entry)) at ++ (choices ∷ (first + 2 ^ 32 * end) ∷ (child + 2 ^ 32 * name) ∷ 0 ∷ []) ⌝ }
+{
+    let to = at * 4;
+    let place = halves(first, end);
+    let under = halves(child, name);
+    nodes[to] = choices;
+    nodes[to + 1] = place;
+    nodes[to + 2] = under;
+    nodes[to + 3] = 0;
+}
+
+// A node's next sibling.
+pub fn link_node(nodes: &mut [u64], at: usize, next: usize)
+    requires { ⌜ recordWords * (at + 1) ≤ length (now nodes) ⌝ }
+    ensures { λ _. ⌜ now (nodes .exit) ≡ set (now (nodes .entry)) (recordWords * at + 3) next ⌝ }
+{
+    nodes[at * 4 + 3] = next as u64;
+}
+
+// A name's word, at the next place: a spelling's start and length; nothing is stored where there is no such place.
+pub fn append_name(names: &mut [u64], at: usize, start: usize, count: usize)
+    requires { ⌜ (start < 2 ^ 31) × (count < 2 ^ 63) ⌝ }
+    ensures { λ _. ⌜ firstNames (now (names .exit)) (at + 1) ≡ take (length (now (names .entry))) (firstNames (now (names .entry)) at ++ ((start * 2 ^ 32 + count) ∷ [])) ⌝ }
+{
+    let word = halves(count, start);
+    if at < names.len() {
+        names[at] = word;
+        return;
+    }
+}
+
+// Zeros from a word on.
+pub fn clear_words(words: &mut [u64], from: usize)
+    ensures { λ _. ⌜ now (words .exit) ≡ filled (length (now (words .entry))) (take from (now (words .entry))) ⌝ }
+{
+    let mut i = from;
+    while i < words.len() {
+        words[i] = 0;
+        i += 1;
+    }
+}
+
+// Zeros from a byte on.
+pub fn clear_bytes(bytes: &mut [u8], from: usize)
+    ensures { λ _. ⌜ now (bytes .exit) ≡ filled (length (now (bytes .entry))) (take from (now (bytes .entry))) ⌝ }
+{
+    let mut i = from;
+    while i < bytes.len() {
+        bytes[i] = 0;
+        i += 1;
+    }
+}
+
+// ---- Reading the words
+
+// A word of the store, 0 past its end.
+fn stored(words: &[u64], at: usize) -> u64
+    ensures { λ r. ⌜ r ≡ getD (now (words .entry)) at 0 ⌝ }
+{
+    if at < words.len() { words[at] } else { 0 }
+}
+
+// The lower half of a word.
+fn low(x: u64) -> usize
+    ensures { λ r. ⌜ (r ≡ x % 2 ^ 32) × (r < 2 ^ 32) ⌝ }
+{
+    (x % 4294967296) as usize
+}
+
+// The upper half of a word.
+fn high(x: u64) -> usize
+    ensures { λ r. ⌜ (r ≡ x / 2 ^ 32) × (r < 2 ^ 32) ⌝ }
+{
+    (x / 4294967296) as usize
+}
+
+// What a walk of a node starts from: its own choices and its first child.
+pub struct Node {
+    pub word: u64,
+    pub child: usize,
+}
+
+// The node of a number.
+pub fn node_at(nodes: &[u64], at: usize) -> Node
+    requires { ⌜ at < 2 ^ 32 ⌝ }
+    ensures { λ r. ⌜ (r .word ≡ wordAt (now (nodes .entry)) at) × (r .child ≡ childAt (now (nodes .entry)) at) × (r .child < 2 ^ 32) ⌝ }
+{
+    Node {
+        word: stored(nodes, at * 4),
+        child: low(stored(nodes, at * 4 + 2)),
+    }
+}
+
+// A node's next sibling.
+pub fn next_of(nodes: &[u64], at: usize) -> usize
+    requires { ⌜ at < 2 ^ 32 ⌝ }
+    ensures { λ r. ⌜ (r ≡ nextAt (now (nodes .entry)) at) × (r < 2 ^ 32) ⌝ }
+{
+    low(stored(nodes, at * 4 + 3))
+}
+
+// Where a spelling stands in the text.
+pub struct Name {
+    pub start: usize,
+    pub size: usize,
+}
+
+// The name of a number.
+pub fn name_at(names: &[u64], at: usize) -> Name
+    ensures { λ r. ⌜ (r .start ≡ startAt (now (names .entry)) at) × (r .size ≡ sizeAt (now (names .entry)) at) × (r .start < 2 ^ 32) × (r .size < 2 ^ 32) ⌝ }
+{
+    let word = stored(names, at);
+    Name {
+        start: high(word),
+        size: low(word),
+    }
+}
