@@ -1,0 +1,117 @@
+-- Laws of what rules make nodes of: how many nodes is in it, and that it is of the node table.
+use mathlib.Core.Path.{_≡_, refl, ap, subst}
+use mathlib.Core.Bool.{Bool, true, false, not}
+use mathlib.Core.List.{List, [], _∷_, _++_}
+use Prim.Native.Nat.{ℕ, zero, suc, _+_, _≤_, _<_}
+use mathlib.Core.Logic.{⊎-elim}
+use native.Mathlib.Nat.{eq-or-lt-of-le}
+use native.Mathlib.Omega.{arith}
+use borrow.Author.Tests.{leb-true}
+use lib.Dec.{eqb, leb}
+use Rattle.words.specs.Test.{_and_, _or_, between, among, test}
+use Rattle.words.specs.Kind.{Dot, Any, Unknown, True, False, Null, Void}
+use Rattle.keys.specs.Form.{Value, node as nodeValue, Fits, fits-child}
+use Rattle.keys.specs.Table.{type, element, underName}
+use Rattle.keys.specs.Placed as node
+use Rattle.keys.specs.Placed.{Placed, void, said, pick, join, tree, bare, Spelling, Opt, absent, present, optionalIf, asElement}
+use Rattle.keys.specs.Key.{nodeTable}
+use Rattle.keys.specs.Fitting.{Is, IsSpelling, Each, IfAny}
+use Rattle.keys.specs.Makers as makers
+use Rattle.rules.specs.State.{Given, State, kind, kindAfter, first, end}
+use Rattle.rules.specs.List.{position}
+use Rattle.rules.specs.Primary.{keywords, literals, isKeyword}
+use Rattle.rules.specs.TokenLaws.{both-true, among-each}
+use Rattle.rules.specs.Gives.{sizeOf}
+
+-- ---- Sizes
+
+-- Names are no nodes.
+pub names-size : (l : List Spelling) → sizeOf (node.listedNames l) ≡ 0
+names-size [] = refl
+names-size (x ∷ l) = omega (arith, names-size l)
+
+pub subject-size : (o : Opt Spelling) → sizeOf (node.subjectOf o) ≡ 0
+subject-size absent = refl
+subject-size (present x) = refl
+
+-- An element has the height and the nodes of the type that it comes from.
+pub element-size : (m : Value → ℕ) → ((t u : ℕ) (v : Value) → m (nodeValue t v) ≡ m (nodeValue u v)) → (p : Placed) → m (bare (asElement p)) ≡ m (bare p)
+element-size m e void = refl
+element-size m e (said x y) = refl
+element-size m e (pick k q) = refl
+element-size m e (join a b) = refl
+element-size m e (tree t first end q) = by (eqb t 24)
+  where
+    by : (b : Bool) → m (bare (optionalIf b (tree t first end q))) ≡ m (nodeValue t (bare q))
+    by true = e 20 t (bare q)
+    by false = refl
+
+-- An element that comes from a type may stand under a name.
+pub as-under-name : (p : Placed) → Is type p → Is underName (asElement p)
+as-under-name void i = makers.type-under-name i
+as-under-name (said x y) i = makers.type-under-name i
+as-under-name (pick k q) i = makers.type-under-name i
+as-under-name (join a b) i = makers.type-under-name i
+as-under-name (tree t first end q) i = by (eqb t 24) (makers.asElement-is (tree t first end q) i)
+  where
+    inner : {v : Value} → Fits nodeTable element (nodeValue 20 v) → Fits nodeTable type v
+    inner (fits-child a b) = b
+
+    by : (b : Bool) → Is element (optionalIf b (tree t first end q)) → Is underName (optionalIf b (tree t first end q))
+    by true j = makers.optional-under-name first end (record { fits = inner (j .fits) })
+    by false j = makers.type-under-name i
+
+pub pieces-more : (l : List (Placed × Spelling)) (p : Placed × Spelling) → node.pieces (l ++ (p ∷ [])) ≡ node.pieces l ++ (join (p .0) (node.spell (p .1)) ∷ [])
+pieces-more [] p = refl
+pieces-more (x ∷ l) p = ap (λ (r : List Placed). join (x .0) (node.spell (x .1)) ∷ r) (pieces-more l p)
+
+-- ---- Keywords, literals, predicates
+
+-- n numbers from a on.
+abbrev from : ℕ → ℕ → List ℕ
+from a zero = []
+from a (suc n) = a ∷ from (suc a) n
+
+-- What holds of each of them holds of any number in their range.
+range-each : (P : ℕ → Type 0) (n a k : ℕ) → Each P (from a n) → a ≤ k → k < a + n → P k
+range-each P zero a k h l m = absurd (omega arith)
+range-each P (suc n) a k h l m = ⊎-elim (λ e. subst P e (h .0)) (λ i. range-each P n (suc a) k (h .1) i (omega arith)) (eq-or-lt-of-le l)
+
+pub keyword-below : (g : Given) (s : State) → isKeyword g s ≡ true → position (kind g s) keywords < 13
+keyword-below g s e = by (between Any Unknown (kind g s)) refl e
+  where
+    by : (b : Bool) → between Any Unknown (kind g s) ≡ b → ((b and not (eqb (kindAfter g 1 s) Dot)) or among (Null ∷ Void ∷ []) (kind g s)) ≡ true
+        → position (kind g s) keywords < 13
+    by true i j =
+        let k = kind g s in
+        let ends = both-true (leb Any k) (leb k Unknown) i in
+        range-each (λ (k : ℕ). position k keywords < 13) 10 Any k
+        (omega arith, (omega arith, (omega arith, (omega arith, (omega arith, (omega arith, (omega arith, (omega arith, (omega arith, (omega arith, tt))))))))))
+        (leb-true Any k (ends .0)) (omega (arith, leb-true k Unknown (ends .1)))
+    by false i j = among-each (λ (k : ℕ). position k keywords < 13) (Null ∷ Void ∷ []) (kind g s) (omega arith, (omega arith, tt)) j
+
+pub literal-size : (k : ℕ) (x : Spelling) → sizeOf (node.literalSpelling (test (among (True ∷ False ∷ []) k) (λ _. absent) (λ _. present x))) ≡ 0
+literal-size k x = by (among (True ∷ False ∷ []) k)
+  where
+    by : (b : Bool) → sizeOf (node.literalSpelling (test b (λ _. absent) (λ _. present x))) ≡ 0
+    by true = refl
+    by false = refl
+
+pub literal-fits : (b e k : ℕ) {x : Spelling} → IsSpelling x → among literals k ≡ true
+    → Is type (node.literal b e (position k literals) (test (among (True ∷ False ∷ []) k) (λ _. absent) (λ _. present x)))
+literal-fits b e k {x} h i =
+    among-each (λ (k : ℕ). Is type (node.literal b e (position k literals) (test (among (True ∷ False ∷ []) k) (λ _. absent) (λ _. present x)))) literals k (
+      makers.literal-is b e 0 (omega arith) refl h,
+      (
+        makers.literal-is b e 1 (omega arith) refl h,
+        (
+          makers.literal-is b e 2 (omega arith) refl h,
+          (makers.truth-is b e 3 (omega arith) refl, (makers.truth-is b e 4 (omega arith) refl, tt)),
+        ),
+      ),
+    )
+    i
+
+pub asserted : (b e : ℕ) (x : Opt Spelling) (t : Opt Placed) → IfAny IsSpelling x → IfAny (Is type) t → Is type (node.predicate b e true x t)
+asserted b e x absent h i = makers.asserts-is b e x h
+asserted b e x (present t) h i = makers.predicate-is b e true x h i
