@@ -1,6 +1,5 @@
 pub mod Chunks
 pub mod Cells
-pub mod Filling
 pub mod Nevers
 pub mod Steps
 pub mod Spelling

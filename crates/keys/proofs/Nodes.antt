@@ -15,12 +15,13 @@ use Rattle.keys.specs.Words.{firstNodes}
 use Rattle.keys.specs.Forms.{Entry, listed, formBy, formOf, stepsOf, entryAt, classAt, grammarOf, leads, entryOf, IsRow, Narrow, nodesThen, spellingIf}
 use Rattle.keys.specs.FormsLaws.{form-at}
 use Rattle.keys.specs.Runs.{Ran, ran, halt, after, thenRun, asChild, roomRun, haltAt, choiceRun, formRun, nodeRun}
-use Rattle.keys.specs.Back.{Base, base, Stored, Own, stateAt, Inside, Steady, Housed, Spans, Slim, Sized, refusedAt, movedTo, withChild, onward, atBit, Named, NamesIn, Picked, Went, PlainIn, Grown, NodeIn, Asks, Linked, AfterIn, NodesIn}
+use Rattle.keys.specs.Stored.{Base, base, Stored, Own}
+use Rattle.keys.specs.Back.{stateAt, Inside, Steady, Housed, Spans, Slim, Sized, refusedAt, movedTo, withChild, onward, atBit, Named, NamesIn, Picked, Went, PlainIn, Grown, NodeIn, Asks, Linked, AfterIn, NodesIn}
 use Rattle.keys.specs.declared.forms.Row.{Row}
 use Rattle.keys.specs.declared.back.Pos.{Pos}
 use Rattle.keys.specs.declared.back.Fill.{Fill}
 use Rattle.keys.specs.declared.back.Pick.{Pick}
-use Rattle.keys.proofs.Filling.{stored-none, stored-choice, stored-node}
+use Rattle.keys.specs.StoredLaws.{stored-none, stored-choice, stored-node}
 use Rattle.keys.proofs.Nevers.{some-times}
 use Rattle.keys.proofs.Steps.{inside-as}
 use Rattle.keys.proofs.Walk.{went-none, went-then, names-went, went-onward, spans-nodes, nodes-spans}
@@ -343,7 +344,7 @@ module _ (bs : Bits) (ln lm lx : ℕ) (T : List ℕ) (class : ℕ) (p : Pos) (h 
                       is =
                           fields ∙ ap (asChild (grammarOf T .tagWidth class) (c .number)) (w .same ∙ ap (λ (x : Form). after (w .run) (formRun lx (nodeRun lx G l) x (stateAt bs lm lx (s .at)))) a)
                           ∙ ap₂ (λ (x : ℕ) (u : Run). ran (kid 0 0 (chose x (c .number) u) done) (stateAt bs lm lx (s .at))) (sym wide) (join-done (w .run));
-                      stored = stored-node N2 (filled-in .0) (filled-in .1) v;
+                      stored = stored-node 0 0 N2 (filled-in .0) (filled-in .1) v;
                       total = omega (arith, w .total);
                       inside =
                           let g = w .steady .inside in

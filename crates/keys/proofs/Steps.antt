@@ -20,12 +20,13 @@ use Rattle.keys.specs.FormsLaws.{le-or-lt}
 use Rattle.keys.specs.Forms.{formOf, spellingsThen, spellingIf}
 use Rattle.keys.specs.Runs.{Ran, ran, halt, after, thenRun, asName, choiceRun, wholeRun, allowedRun, formRun}
 use Rattle.keys.specs.Take.{answered}
-use Rattle.keys.specs.Back.{lettersIn, Base, Stored, Own, stateAt, Inside, Named, NamesIn, SpellingIn, SpellingsIn, Picked, refusedAt}
+use Rattle.keys.specs.Stored.{lettersIn, Base, Stored, Own}
+use Rattle.keys.specs.Back.{stateAt, Inside, Named, NamesIn, SpellingIn, SpellingsIn, Picked, refusedAt}
 use Rattle.keys.specs.declared.take.TakenField.the-variants.{Number, Short}
 use Rattle.keys.specs.declared.back.Pos.{Pos}
 use Rattle.keys.specs.declared.back.Pick.{Pick}
 use Rattle.keys.proofs.Chunks.{Told, field-short, take-rest}
-use Rattle.keys.proofs.Filling.{stored-same, own-same, stored-name, own-name}
+use Rattle.keys.specs.StoredLaws.{stored-same, own-same, stored-name, own-name}
 
 -- ---- Runs
 

@@ -14,12 +14,13 @@ use Rattle.keys.specs.Store.{Run, done, chose, name, kid}
 use Rattle.keys.specs.StoreLaws.{_⊕_, join-done, join-join}
 use Rattle.keys.specs.Forms.{formBy, formOf, leads, entryOf, spellingsThen, nodesThen, spellingIf}
 use Rattle.keys.specs.Runs.{Ran, ran, halt, after, thenRun, formRun, nodeRun}
-use Rattle.keys.specs.Back.{Base, base, Stored, Own, stateAt, Inside, Steady, Housed, Spans, Sized, refusedAt, movedTo, withChild, onward, atBit, chosen, Named, NamesIn, SpellingIn, SpellingsIn, Picked, Went, PlainIn, Grown, NodeIn, Linked, AfterIn, NodesIn}
+use Rattle.keys.specs.Stored.{Base, base, Stored, Own}
+use Rattle.keys.specs.Back.{stateAt, Inside, Steady, Housed, Spans, Sized, refusedAt, movedTo, withChild, onward, atBit, chosen, Named, NamesIn, SpellingIn, SpellingsIn, Picked, Went, PlainIn, Grown, NodeIn, Linked, AfterIn, NodesIn}
 use Rattle.keys.specs.declared.forms.Row.{Row}
 use Rattle.keys.specs.declared.back.Pos.{Pos}
 use Rattle.keys.specs.declared.back.Fill.{Fill}
 use Rattle.keys.specs.declared.back.Pick.{Pick}
-use Rattle.keys.proofs.Filling.{stored-same, own-same, stored-choice, own-choice, kid-first, kid-next, own-first, own-next}
+use Rattle.keys.specs.StoredLaws.{stored-same, own-same, stored-choice, own-choice, kid-first, kid-next, own-first, own-next}
 use Rattle.keys.proofs.Steps.{after-done, after-after, names-none, if-spelled}
 
 -- ---- A node's own choices in one word

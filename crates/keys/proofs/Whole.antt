@@ -22,7 +22,8 @@ use Rattle.keys.specs.Forms.{grammarOf, tableWords, lined}
 use Rattle.keys.specs.FormsLaws.{words-are}
 use Rattle.keys.specs.Take.{answered}
 use Rattle.keys.specs.Runs.{Ran, ran, halt, nodeRun}
-use Rattle.keys.specs.Back.{lettersIn, base, Stored, stateAt, Inside, Slim, refusedAt, NodeIn, Asks, Grown, Ends, Held, WholeIn, Answers, told}
+use Rattle.keys.specs.Stored.{lettersIn, base, Stored}
+use Rattle.keys.specs.Back.{stateAt, Inside, Slim, refusedAt, NodeIn, Asks, Grown, Ends, Held, WholeIn, Answers, told}
 use Rattle.keys.specs.declared.take.TakenField.the-variants.{Number, Short}
 use Rattle.keys.specs.declared.back.Pos.{Pos}
 use Rattle.keys.specs.declared.back.Answer.{Answer}

@@ -7,7 +7,7 @@ use native.Mathlib.Nat.{zero-add, suc-add}
 use native.Mathlib.Numerals.{add-one}
 use native.Mathlib.Omega.{arith}
 use lib.ListN.{length, getD, set, take, replicate, length-set, replicate-append-replicate}
-use lib.Seq.{sets, take-suc-set, take-all}
+use lib.Seq.{sets, take-suc-set, take-all, length-take-le}
 use Rattle.keys.specs.Bits.{Bits, bitsOf, bitsOfBytes}
 use Rattle.keys.specs.BitsLaws.{length-bits, bytes-one}
 use Rattle.keys.specs.Form.{choice, one, child, both, Grammar, Bytes, height, nodes, write}
@@ -25,36 +25,6 @@ use Rattle.keys.specs.Holds.{Stands, Cursor, cursor}
 use Rattle.keys.specs.HoldsLaws.{stands-holds, stands-of, stands-low, stands-written}
 use Rattle.keys.specs.Out.{Of, of-one, written, Moved, Noded, fitted, Keyed}
 use Rattle.keys.specs.OutLaws.{moves-node}
-
--- ---- Zeros from a place on
-
--- The first i bytes: as they were below a place, and zeros from it on.
-pub record Cleared (old : List ℕ) (from i : ℕ) (new : List ℕ) : Type 0 where
-  pub within : (from ≤ i) × (i ≤ length old)
-  pub same : length new ≡ length old
-  pub is : take i new ≡ take from old ++ replicate (i - from) 0
-
-pub cleared-none : (l : List ℕ) (from : ℕ) → from ≤ length l → Cleared l from from l
-cleared-none l from h =
-    let q : from - from ≡ 0 = omega arith in
-    record { within = (omega arith, h); same = refl; is = sym (append-nil (take from l)) ∙ ap (λ (x : ℕ). take from l ++ replicate x 0) (sym q) }
-
-pub cleared-more : {old : List ℕ} {from i : ℕ} {new : List ℕ} → Cleared old from i new → i < length new → Cleared old from (i + 1) (set new i 0)
-cleared-more {old} {from} {i} {new} d h =
-    let q : i - from + 1 ≡ i + 1 - from = omega (arith, d .within) in
-    record {
-      within = (omega (arith, d .within), omega (arith, d .same));
-      same = length-set new i 0 ∙ d .same;
-      is =
-          ap (λ (x : ℕ). take x (set new i 0)) (add-one i) ∙ take-suc-set new i 0 h ∙ ap (λ (x : List ℕ). x ++ (0 ∷ [])) (d .is)
-          ∙ append-assoc (take from old) (replicate (i - from) 0) (0 ∷ [])
-          ∙ ap (λ (x : List ℕ). take from old ++ x) (replicate-append-replicate (i - from) 1 0 ∙ ap (λ (x : ℕ). replicate x 0) q);
-    }
-
-pub cleared-all : {old : List ℕ} {from i : ℕ} {new : List ℕ} → Cleared old from i new → length new ≤ i → new ≡ take from old ++ replicate (length old - from) 0
-cleared-all {old} {from} {i} {new} d h =
-    let q : i ≡ length old = omega (arith, d .within, d .same) in
-    sym (take-all i new h) ∙ d .is ∙ ap (λ (x : ℕ). take from old ++ replicate (x - from) 0) q
 
 -- ---- Bytes and their bits
 
@@ -164,7 +134,7 @@ fitted-whole n key h =
     ∙ ap (λ (l : List ℕ). key ++ l) (sym (take-copies 0 (n - length key) n (omega arith)))
 
 -- Bytes that were cleared from the start are zeros.
-pub zeros : (l k : List ℕ) → l ≡ take 0 k ++ replicate (length k - 0) 0 → l ≡ replicate (length k) 0
+pub zeros : (l k : List ℕ) → l ≡ filled (length k) (take 0 k) → l ≡ replicate (length k) 0
 zeros l k e =
     let q : length k - 0 ≡ length k = omega arith in
     e ∙ ap (λ (x : ℕ). replicate x 0) q

@@ -8,6 +8,7 @@ pub mod Store
 pub mod Fitting
 pub mod Forms
 pub mod Words
+pub mod Stored
 pub mod Take
 pub mod Runs
 pub mod Back
@@ -19,9 +20,11 @@ pub mod FormLaws
 pub mod KeyLaws
 pub mod RefusalLaws
 pub mod StoreLaws
+pub mod StoredLaws
 pub mod TakeLaws
 pub mod Makers
 pub mod FormsLaws
+pub mod BackLaws
 pub mod PutLaws
 pub mod OutLaws
 pub mod HoldsLaws

@@ -72,7 +72,7 @@ fn refused(why: u32, bit: usize) -> Pos
 }
 
 // A spelling: 10 where it is cut short or has no byte, 11 where there is no room for its bytes or its name.
-pub fn take_spelling(key: &[u8], names: &mut [u64], text: &mut [u8], w: usize, p: Pos) -> Pos
+fn take_spelling(key: &[u8], names: &mut [u64], text: &mut [u8], w: usize, p: Pos) -> Pos
     requires { ⌜ (length (now key) ≤ longestKey) × (w ≤ 31) × back.Inside (bitsOfBytes (now key)) (length (now names)) (length (now text)) p ⌝ }
     ensures { λ r. ⌜ back.SpellingIn (bitsOfBytes (now (key .entry))) (length (now (names .entry))) (length (now (text .entry))) w p (now (names .entry)) (now (text .entry)) r (now (names .exit)) (now (text .exit)) ⌝ }
 {
@@ -110,14 +110,7 @@ pub fn take_spelling(key: &[u8], names: &mut [u64], text: &mut [u8], w: usize, p
 }
 
 // n spellings.
-pub fn take_spellings(
-    key: &[u8],
-    names: &mut [u64],
-    text: &mut [u8],
-    w: usize,
-    n: usize,
-    p: Pos,
-) -> Pos
+fn take_spellings(key: &[u8], names: &mut [u64], text: &mut [u8], w: usize, n: usize, p: Pos) -> Pos
     requires { ⌜ (length (now key) ≤ longestKey) × (w ≤ 31) × (p .why ≡ 0) × back.Inside (bitsOfBytes (now key)) (length (now names)) (length (now text)) p ⌝ }
     ensures { λ r. ⌜ back.SpellingsIn (bitsOfBytes (now (key .entry))) (length (now (names .entry))) (length (now (text .entry))) w n p (now (names .entry)) (now (text .entry)) r (now (names .exit)) (now (text .exit)) ⌝ }
 {
@@ -146,7 +139,7 @@ fn is_none(forms: &[u32], steps: usize, form: usize) -> bool
 }
 
 // The same where the form's first step is done n times: done 0 times it is the form after it.
-pub fn is_never(forms: &[u32], steps: usize, n: usize, form: usize) -> bool
+fn is_never(forms: &[u32], steps: usize, n: usize, form: usize) -> bool
     requires { ⌜ form < 2 ^ 32 ⌝ }
     ensures { λ r. ⌜ r ≡ isNever (formOf (now (forms .entry)) steps n form) ⌝ }
 {
@@ -168,7 +161,7 @@ pub fn is_never(forms: &[u32], steps: usize, n: usize, form: usize) -> bool
 }
 
 // A field that chooses: 10 where it is cut short or leads to no form.
-pub fn take_choice(forms: &[u32], key: &[u8], steps: usize, r: Row, bit: usize) -> Pick
+fn take_choice(forms: &[u32], key: &[u8], steps: usize, r: Row, bit: usize) -> Pick
     requires { ⌜ (length (now key) ≤ longestKey) × (bit ≤ length (now key) * 8) × (r .w ≤ 31) × (r .a < 2 ^ 32) × (r .b < 2 ^ 32) × (5 ≤ r .op) ⌝ }
     ensures { λ c. ⌜ back.Picked (bitsOfBytes (now (key .entry))) (now (forms .entry)) steps (r .w) (leads (now (forms .entry)) (formOf (now (forms .entry)) steps) (entryOf r) (r .op - 5)) bit c ⌝ }
 {
@@ -255,7 +248,7 @@ fn choose(s: Fill, w: usize, c: Pick) -> Fill
 }
 
 // A step that goes into no child.
-pub fn take_plain(
+fn take_plain(
     forms: &[u32],
     key: &[u8],
     names: &mut [u64],
@@ -345,7 +338,7 @@ fn take_after(key: &[u8], names: &mut [u64], text: &mut [u8], w: usize, s: Fill)
 }
 
 // A node of a class, with room for `left` nodes one above the other: it meets 10 at its tag, 6, 8, then its fields in order.
-pub fn take_node(
+fn take_node(
     forms: &[u32],
     key: &[u8],
     nodes: &mut [u64],
@@ -435,7 +428,7 @@ pub fn take_node(
 }
 
 // n nodes, one after the other, a spelling after each if its length has any bits.
-pub fn take_nodes(
+fn take_nodes(
     forms: &[u32],
     key: &[u8],
     nodes: &mut [u64],

@@ -1,9 +1,8 @@
 // Key out: the key of a tree that stands in the store.
 ghost use mathlib.Core.Path.{_≡_};
-ghost use mathlib.Core.List.{_++_};
 ghost use mathlib.Core.Bool.{true, false};
 ghost use Prim.Native.Nat.{_+_, _-_, _*_, _/_, _%_, _≤_, _<_, _^_};
-ghost use lib.ListN.{length, take, replicate};
+ghost use lib.ListN.{length};
 ghost use Rattle.keys.specs.Bits.{bitsOf};
 ghost use Rattle.keys.specs.Forms.{entryAt, grammarOf, IsRow, Narrow};
 ghost use Rattle.keys.specs.Put.{far, Put};
@@ -265,18 +264,6 @@ fn put_node(
     }
 }
 
-// Zeros from a place on.
-pub fn clear(bytes: &mut [u8], from: usize)
-    requires { ⌜ from ≤ length (now bytes) ⌝ }
-    ensures { λ _. ⌜ now (bytes .exit) ≡ take from (now (bytes .entry)) ++ replicate (length (now (bytes .entry)) - from) 0 ⌝ }
-{
-    let mut i = from;
-    while i < bytes.len() {
-        bytes[i] = 0;
-        i += 1;
-    }
-}
-
 // The key of the type whose root is the node `root` and which is at most `tall` high, as much of it as fits, and zeros; its length in bytes.
 pub fn put_key(
     nodes: &[u64],
@@ -290,7 +277,7 @@ pub fn put_key(
     ensures { λ r. ⌜ Keyed (now (nodes .entry)) (now (names .entry)) (now (text .entry)) root tall (length (now (key .entry))) r (now (key .exit)) ⌝ }
 {
     let forms = forms::words();
-    clear(key, 0);
+    store::clear_bytes(key, 0);
     let at = put::put_number(key, 0, forms::EDITION_WIDTH, forms::EDITION);
     let o = put_node(
         &forms,

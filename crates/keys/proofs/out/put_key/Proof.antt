@@ -14,8 +14,8 @@ use Rattle.keys.proofs.out.put_key.Tie as tie
 words-requires : tie.Need-words-requires
 words-requires c κs = search needs
 
-clear-requires : tie.Need-clear-requires
-clear-requires c κs = search needs
+clear-bytes-requires : tie.Need-clear-bytes-requires
+clear-bytes-requires c κs = search needs
 
 put-number-requires : tie.Need-put-number-requires
 put-number-requires c κs = search needs
@@ -38,18 +38,18 @@ returns : tie.Need-returns
 returns c =
     let args = c .before .before .before .before .before .before .before .before .before .before .before .before .before .before .before .before .before .before .before .args in
     let words = c .before .before .before .before .before .before .before .before .before .before .before .before .before .before .words in
-    let clear = c .before .before .before .before .before .before .before .before .before .before .before .before .clear in
+    let clear-bytes = c .before .before .before .before .before .before .before .before .before .before .before .before .clear-bytes in
     let put-number = c .before .before .before .before .before .before .before .before .put-number in
     let put-node = c .before .before .before .put-node in
     let slice-known4 = c .before .slice-known4 in
-    keyed (args .nodes .now) (args .names .now) (args .text .now) (args .root) (args .tall) (length (args .key .now)) (put-node .result .name) (put-number .result) (put-node .result .bit) (clear .last .0) (put-number .last .0) (put-node .last .1 .1 .1 .1 .0) (zeros (clear .last .0) (args .key .now) (clear .ensures)) (put-number .ensures) (subst (λ (T : List ℕ). Noded (grammarOf T) (args .nodes .now) (args .names .now) (args .text .now) (args .tall) 0 (args .root) 0 (put-number .result) (put-number .last .0) (put-node .result .name) (put-node .result .bit) (put-node .last .1 .1 .1 .1 .0)) (words .ensures) (put-node .ensures)) (bytes-of (put-node .last .1 .1 .1 .1 .0) (λ i. omega (arith, slice-known4 .given i)))
+    keyed (args .nodes .now) (args .names .now) (args .text .now) (args .root) (args .tall) (length (args .key .now)) (put-node .result .name) (put-number .result) (put-node .result .bit) (clear-bytes .last .0) (put-number .last .0) (put-node .last .1 .1 .1 .1 .0) (zeros (clear-bytes .last .0) (args .key .now) (clear-bytes .ensures)) (put-number .ensures) (subst (λ (T : List ℕ). Noded (grammarOf T) (args .nodes .now) (args .names .now) (args .text .now) (args .tall) 0 (args .root) 0 (put-number .result) (put-number .last .0) (put-node .result .name) (put-node .result .bit) (put-node .last .1 .1 .1 .1 .0)) (words .ensures) (put-node .ensures)) (bytes-of (put-node .last .1 .1 .1 .1 .0) (λ i. omega (arith, slice-known4 .given i)))
 
 pub put-key-spec : {M : Type 1} → statement M
 put-key-spec =
     tie.close
     (tie.spec
     words-requires
-    clear-requires
+    clear-bytes-requires
     put-number-requires
     slice-aggregate-put-node
     put-node-requires

@@ -9,7 +9,7 @@ use lib.Seq.{take-set-lt, set-at, length-take-le, take-take, take-at}
 use Rattle.keys.specs.Store.{Run, done, chose, name, kid, under, called, packed, firstKid, recordOf, records, nameOf, namesIn}
 use Rattle.keys.specs.StoreLaws.{_⊕_, join-done, join-join, under-join, called-join, span, span-join, packed-join, firstKid-join, records-join, namesIn-join}
 use Rattle.keys.specs.Words.{firstNodes, firstNames}
-use Rattle.keys.specs.Back.{lettersIn, Base, base, Stored, Own}
+use Rattle.keys.specs.Stored.{lettersIn, Base, base, Stored, Own}
 
 pub letters-join : (a r : Run) → lettersIn (a ⊕ r) ≡ lettersIn a ++ lettersIn r
 letters-join done r = refl
@@ -131,9 +131,10 @@ relink s P l F u m r h1 h2 h3 e1 e2 =
     ∙ set-at (P ++ l) 0 F r (4 * (u - 1) + 3) p
     ∙ simp append-assoc
 
-module _ {B : Base} {t a : Run} {N M X N' M' X' : List ℕ} {u m x u' m' x' : ℕ} (d : Stored B t N M X u m x) (e : Stored (base N M X u m x) (kid 0 0 a done) N' M' X' u' m' x') where
+module _ {B : Base} {first end : ℕ} {t a : Run} {N M X N' M' X' : List ℕ} {u m x u' m' x' : ℕ} (d : Stored B t N M X u m x)
+    (e : Stored (base N M X u m x) (kid first end a done) N' M' X' u' m' x') where
   abbrev k : Run
-  k = kid 0 0 a done
+  k = kid first end a done
 
   names-kid : firstNames M' m' ≡ B .names ++ namesIn (t ⊕ k)
   names-kid =
@@ -165,7 +166,7 @@ module _ {B : Base} {t a : Run} {N M X N' M' X' : List ℕ} {u m x u' m' x' : �
       ∙ ap (λ (y : ℕ). records t (B .used) (B .named) y ++ records k (B .used + under t) (B .named + called t) 0) (q ∙ sym root)
       ∙ sym (records-join t k (B .used) (B .named) 0))
 
-  pub kid-first : u ≡ B .used → Stored B (t ⊕ kid 0 0 a done) N' M' X' u' m' x'
+  pub kid-first : u ≡ B .used → Stored B (t ⊕ kid first end a done) N' M' X' u' m' x'
   kid-first z = record { used = used-kid; named = named-kid; chars = chars-kid; nodes-are = by (ends t (B .used) (B .named)); names-are = names-kid; text-is = text-kid }
     where
       by : Ends t (B .used) (B .named) → firstNodes N' u' ≡ B .nodes ++ records (t ⊕ k) (B .used) (B .named) 0
@@ -187,12 +188,12 @@ module _ {B : Base} {t a : Run} {N M X N' M' X' : List ℕ} {u m x u' m' x' : �
       relink N' (B .nodes) l (records k u m 0) u u' (u' - 1) (omega arith) lower len y v
       ∙ ap (λ (q : List ℕ). (B .nodes ++ q) ++ records k u m 0) (sym (f (u' - 1))) ∙ both-records (u' - 1) refl
 
-  pub kid-next : B .used < u → 4 * u' ≤ length N' → length N ≡ length N' → Stored B (t ⊕ kid 0 0 a done) (set N' (4 * (u - 1) + 3) (u' - 1)) M' X' u' m' x'
+  pub kid-next : B .used < u → 4 * u' ≤ length N' → length N ≡ length N' → Stored B (t ⊕ kid first end a done) (set N' (4 * (u - 1) + 3) (u' - 1)) M' X' u' m' x'
   kid-next z len same =
       record { used = used-kid; named = named-kid; chars = chars-kid; nodes-are = linked-words z len same (ends t (B .used) (B .named)); names-are = names-kid; text-is = text-kid }
 
   module _ {word shift child : ℕ} (o : Own B t word shift child) where
-    own-kid : (c : ℕ) → c ≡ firstKid (t ⊕ k) (B .used) 0 → Own B (t ⊕ kid 0 0 a done) word shift c
+    own-kid : (c : ℕ) → c ≡ firstKid (t ⊕ k) (B .used) 0 → Own B (t ⊕ kid first end a done) word shift c
     own-kid c i =
         record {
           word-is = o .word-is ∙ zero-out (packed t) (2 ^ span t) ∙ sym (packed-join t k);
@@ -200,14 +201,14 @@ module _ {B : Base} {t a : Run} {N M X N' M' X' : List ℕ} {u m x u' m' x' : �
           child-is = i;
         }
 
-    pub own-first : u ≡ B .used → Own B (t ⊕ kid 0 0 a done) word shift (u' - 1)
+    pub own-first : u ≡ B .used → Own B (t ⊕ kid first end a done) word shift (u' - 1)
     own-first z = own-kid (u' - 1) (by (ends t (B .used) (B .named)))
       where
         by : Ends t (B .used) (B .named) → u' - 1 ≡ firstKid (t ⊕ k) (B .used) 0
         by (no-kid _ f g) = sym (firstKid-join t k (B .used) 0 ∙ g (B .used + under t + under a) ∙ root)
         by (some-kid p l f g) = absurd (omega (arith, d .used))
 
-    pub own-next : B .used < u → Own B (t ⊕ kid 0 0 a done) word shift child
+    pub own-next : B .used < u → Own B (t ⊕ kid first end a done) word shift child
     own-next z = own-kid child (by (ends t (B .used) (B .named)))
       where
         by : Ends t (B .used) (B .named) → child ≡ firstKid (t ⊕ k) (B .used) 0
@@ -216,20 +217,20 @@ module _ {B : Base} {t a : Run} {N M X N' M' X' : List ℕ} {u m x u' m' x' : �
 
 -- ---- A finished node
 
-pub stored-node : {B : Base} {t : Run} {N M X : List ℕ} {u m x word shift child : ℕ} (N' : List ℕ) → Stored B t N M X u m x → Own B t word shift child
-    → firstNodes N' (u + 1) ≡ firstNodes N u ++ (word ∷ (0 + 2 ^ 32 * 0) ∷ (child + 2 ^ 32 * B .named) ∷ 0 ∷ [])
-    → Stored B (kid 0 0 t done) N' M X (u + 1) m x
-stored-node {B} {t} {N} {M} {X} {u} {m} {x} {word} {shift} {child} N' d o e =
+pub stored-node : (first end : ℕ) {B : Base} {t : Run} {N M X : List ℕ} {u m x word shift child : ℕ} (N' : List ℕ) → Stored B t N M X u m x → Own B t word shift child
+    → firstNodes N' (u + 1) ≡ firstNodes N u ++ (word ∷ (first + 2 ^ 32 * end) ∷ (child + 2 ^ 32 * B .named) ∷ 0 ∷ [])
+    → Stored B (kid first end t done) N' M X (u + 1) m x
+stored-node first end {B} {t} {N} {M} {X} {u} {m} {x} {word} {shift} {child} N' d o e =
     let r : List ℕ = records t (B .used) (B .named) 0 in
     record {
       used = omega (arith, d .used);
       named = omega (arith, d .named);
       chars = omega (arith, d .chars, length-append (lettersIn t) []);
       nodes-are =
-          e ∙ ap (λ (y : List ℕ). y ++ (word ∷ (0 + 2 ^ 32 * 0) ∷ (child + 2 ^ 32 * B .named) ∷ 0 ∷ [])) (d .nodes-are)
-          ∙ append-assoc (B .nodes) r (word ∷ (0 + 2 ^ 32 * 0) ∷ (child + 2 ^ 32 * B .named) ∷ 0 ∷ [])
-          ∙ ap₂ (λ (y z : ℕ). B .nodes ++ (r ++ (y ∷ (0 + 2 ^ 32 * 0) ∷ (z + 2 ^ 32 * B .named) ∷ 0 ∷ []))) (o .word-is) (o .child-is)
-          ∙ ap (λ (y : List ℕ). B .nodes ++ y) (sym (append-nil (r ++ recordOf 0 0 t (B .used) (B .named) 0)));
+          e ∙ ap (λ (y : List ℕ). y ++ (word ∷ (first + 2 ^ 32 * end) ∷ (child + 2 ^ 32 * B .named) ∷ 0 ∷ [])) (d .nodes-are)
+          ∙ append-assoc (B .nodes) r (word ∷ (first + 2 ^ 32 * end) ∷ (child + 2 ^ 32 * B .named) ∷ 0 ∷ [])
+          ∙ ap₂ (λ (y z : ℕ). B .nodes ++ (r ++ (y ∷ (first + 2 ^ 32 * end) ∷ (z + 2 ^ 32 * B .named) ∷ 0 ∷ []))) (o .word-is) (o .child-is)
+          ∙ ap (λ (y : List ℕ). B .nodes ++ y) (sym (append-nil (r ++ recordOf first end t (B .used) (B .named) 0)));
       names-are = d .names-are ∙ ap (λ (y : List ℕ). B .names ++ y) (sym (append-nil (namesIn t)));
       text-is = d .text-is ∙ ap (λ (y : List ℕ). B .text ++ y) (sym (append-nil (lettersIn t)));
     }
