@@ -2,15 +2,11 @@
 # run.sh [FOLDER]: times the token check of crates/words beside a plain Rust version of it (check.rs), on the types in
 # FOLDER's .d.ts files (the Debian package node-typescript has some: its folder is found where none is given).
 # It needs rt (and the clang of its kit), rustc, a C linker and python3, and leaves its files in target/bench.
-# The compiled Rattle code is for this machine: the program's LLVM code, as tools/unproved.sh keeps it, compiled with -O3
-# by the kit's clang. The check is the same code that `rt` proves and compiles; the wrapper that exports it is made here,
-# in a folder of its own, and is no part of the product.
+# The check is the same code that `rt` proves and compiles (object.sh says how it is compiled here); the wrapper that
+# exports it is made here, in a folder of its own, and is no part of the product.
 set -eu
 here=$(cd "$(dirname "$0")" && pwd -P)
 root=$(cd "$here/.." && pwd -P)
-home=${RATTLE_HOME:-$(cd "$(dirname "$(readlink -f "$(command -v rt)")")/.." && pwd -P)}
-machine=$(uname -m)
-clang=$home/on/$machine/toolchain/bin/clang
 types=${1:-$(dirname "$(dpkg -L node-typescript | grep '/lib\.dom\.d\.ts$')")}
 out=$root/target/bench
 mkdir -p "$out"
@@ -35,15 +31,7 @@ fn main() {
     words_check(&[], &[], 0);
 }
 END
-(cd "$work" && sh "$root/tools/unproved.sh" bench "$out" >/dev/null)
-
-# as text, so that the check is seen from outside and `main` is not, and for this machine
-"$clang" -w -Xclang -disable-llvm-passes -S -emit-llvm "$out/bench.bc" -o "$work/bench.ll"
-sed -e '/@"bench::words_check"(.*{$/s/^define internal /define /' -e 's/@"bench::words_check"/@words_check/g' \
-    -e '/^define .*@main(/s/^define /define internal /' \
-    -e 's/"target-cpu"="[^"]*"//; s/"probe-stack"="[^"]*"//' -e '/^target /d' "$work/bench.ll" >"$out/bench.ll"
-"$clang" -w -target "$machine-unknown-linux-gnu" -O3 -fPIC -c "$out/bench.ll" -o "$out/bench.o"
-
+sh "$here/object.sh" "$work" "$out" words_check
 rustc --edition 2024 -C opt-level=3 -C codegen-units=1 -C link-arg="$out/bench.o" "$here/check.rs" -o "$out/check"
 python3 "$here/words.py" "$types" "$out/lists"
 "$out/check" "$out/lists/each" "$out/lists/100" "$out/lists/1000" "$out/lists/10000" "$out/lists/full"

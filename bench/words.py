@@ -80,4 +80,5 @@ def main():
             name, len(lists), sum(len(w) for _, w in lists), sum(len(t) for t, _ in lists), longest))
 
 
-main()
+if __name__ == "__main__":
+    main()

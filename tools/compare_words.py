@@ -9,18 +9,14 @@ check, and the other ops run at random places of it. The lists at and past each 
 before the starter test among them, with a stack of 512 KiB (the program's own arrays take 384 of it; a build that is not
 optimized holds them twice, and gets 1 MiB).
 """
-import os
-import platform
 import random
-import resource
-import subprocess
 import sys
-import tempfile
 import time
 from collections import Counter
 
 import model
 import words_vectors as v
+from compare import compare
 
 STACK = 1024 * 1024 if sys.argv[3:] in (["O0"], ["checked"]) else 512 * 1024
 BUILD = sys.argv[3] if len(sys.argv) > 3 else "O3"
@@ -151,24 +147,6 @@ def limits():
     return iter(c)
 
 
-def command():
-    """The words that run the program, and those of an emulator before them."""
-    program = os.path.join(v.root(), "target", "unproved", "words_run." + BUILD)
-    if not os.path.exists(program):
-        sys.exit("no target/unproved/words_run." + BUILD + ": run tools/unproved.sh words_run first")
-    rt = next((os.path.join(d, "rt") for d in os.environ["PATH"].split(":") if os.path.exists(os.path.join(d, "rt"))), None)
-    if rt is None:
-        sys.exit("no rt command in PATH")
-    home = os.environ.get("RATTLE_HOME") or os.path.dirname(os.path.dirname(os.path.realpath(rt)))
-    tools = os.path.join(home, "on", platform.machine(), "toolchain")
-    loader = [os.path.join(tools, "lib", "ld-linux-x86-64.so.2"), "--library-path", os.path.join(tools, "lib"), program]
-    return loader, [] if platform.machine() == "x86_64" else [os.path.join(tools, "bin", "qemu-x86_64")]
-
-
-def small_stack():
-    resource.setrlimit(resource.RLIMIT_STACK, (STACK, STACK))
-
-
 class Figures:
     def __init__(self):
         self.lists, self.records, self.different = 0, 0, 0
@@ -185,48 +163,23 @@ class Figures:
             self.truths[{v.STARTER: "starter", v.MAPPED: "mapped"}[op] + " " + expected] += 1
 
 
-def compare(source, figures, small=False):
-    """A run of the program for each twenty thousand records or so."""
-    program, emulator = command()
-    before = None
-    if small and emulator:
-        emulator = emulator + ["-s", str(STACK)]
-    elif small:
-        before = small_stack
-    more = True
-    while more:
-        batch = []
-        for r in source:
-            batch.append(r)
-            if len(batch) >= 20000:
-                break
-        more = len(batch) >= 20000
-        with tempfile.NamedTemporaryFile() as f:
-            for r in batch:
-                f.write(v.record(*r))
-            f.flush()
-            done = subprocess.run(emulator + program + [f.name], stdout=subprocess.PIPE, preexec_fn=before)
-        if done.returncode != 0:
-            sys.exit("the program ended with status %d" % done.returncode)
-        lines = done.stdout.decode().split("\n")[:-1]
-        if len(lines) != len(batch):
-            sys.exit("%d lines for %d records" % (len(lines), len(batch)))
-        for r, got in zip(batch, lines):
-            expected = v.line(*r)
-            figures.count(r[0], expected)
-            if got != expected:
-                figures.different += 1
-                if figures.different <= 10:
-                    print("op %d a %d b %d text %r words %s: program %r, model %r" % (r[0], r[1], r[2], r[3][:200], [hex(w) for w in r[4][:40]], got, expected))
+def run(source, figures, stack=None):
+    def count(r, expected, got):
+        figures.count(r[0], expected)
+        if got != expected:
+            figures.different += 1
+            if figures.different <= 10:
+                print("op %d a %d b %d text %r words %s: program %r, model %r" % (r[0], r[1], r[2], r[3][:200], [hex(w) for w in r[4][:40]], got, expected))
+    compare("words_run." + BUILD, source, v.record, v.line, count, stack)
 
 
 def main():
     count = int(sys.argv[1]) if len(sys.argv) > 1 else 120000
     seed = int(sys.argv[2]) if len(sys.argv) > 2 else 1
     figures, began = Figures(), time.time()
-    compare(limits(), figures, small=True)
+    run(limits(), figures, STACK)
     print("limits: %d records, %d lists, %d different" % (figures.records, figures.lists, figures.different))
-    compare(records(count, seed), figures)
+    run(records(count, seed), figures)
     print("seed %d: %d records, %d lists, %d different, %.0f s" % (seed, figures.records, figures.lists, figures.different, time.time() - began))
     print("checks:", ", ".join("%s %d" % (("sound" if k == "sound" else "refusal " + k), n) for k, n in sorted(figures.verdicts.items())))
     print("function starts by case:", ", ".join("%d %d" % x for x in sorted(figures.cases.items())))
@@ -235,4 +188,5 @@ def main():
         sys.exit(1)
 
 
-main()
+if __name__ == "__main__":
+    main()

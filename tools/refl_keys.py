@@ -2,36 +2,17 @@
 """Compares the definitions of crate keys with the executable model, by refl: keys of generated texts and trees, damaged
 copies, prefixes, small rooms, heights, editions, padding, left-over bytes, every tag in every class. Prints what was checked.
 usage: refl_keys.py [seed]"""
-import os, random, shutil, subprocess, sys, tempfile, time
+import os, shutil, subprocess, sys, tempfile, time
 HERE = os.path.dirname(os.path.abspath(__file__))
 MODEL = os.environ.get('MODEL', os.path.dirname(os.path.abspath(__file__)))
 sys.path.insert(0, MODEL)
 import model
-from model import Node, Refused, key_of
+import keys_model
+from model import Node, key_of
+from keys_model import R, gen, items, store, take_back, text, wrap
 
 SEED = int(sys.argv[1]) if len(sys.argv) > 1 else 1
-R = random.Random(SEED)
-
-# ---- the model's take-back, with room for names beside the room for text
-class Back(model.Back):
-    def __init__(r, key, room, names, textroom):
-        super().__init__(key, room, textroom); r.names, r.named = names, 0
-    def spelling(r):
-        s = super().spelling()
-        r.named += 1
-        if r.named > r.names: raise Refused(11, 0)
-        return s
-
-def take_back(key, room, names, textroom):
-    if len(key) > model.KEY: return ('refused', 10, 0)
-    r = Back(key, room, names, textroom)
-    try:
-        r.field(4, lambda v: v == 1)
-        t = r.node(model.TYPE, 0)
-        while r.at % 8: r.field(1, lambda v: v == 0)
-        if r.at < len(r.bits): raise Refused(10, r.at)
-    except Refused as x: return ('refused',) + x.args
-    return ('taken', t, r.text, r.live, r.named)
+keys_model.seed(SEED)
 
 # ---- a tree as a term of the makers
 def lst(l): return '(' + ' ∷ '.join(l + ['[]']) + ')'
@@ -72,95 +53,6 @@ def term(n):
         24: lambda: 'asked 0 0 ' + term(f['t']),
     }[t]()
     return '(' + body + ')'
-
-# ---- the store's content, by a table of its own: what a node holds in the key's order
-def items(n):
-    f, t = n.f, n.tag
-    c = lambda w, k: [('c', w, int(k))]
-    s = lambda x: [('s', x)]
-    k = lambda x: [('n', x)]
-    o = lambda x, g: c(1, 0) if x is None else c(1, 1) + g(x)
-    l = lambda xs, g: c(12, len(xs)) + [i for x in xs for i in g(x)]
-    args = lambda xs: l(xs, k)
-    if t == 'type parameter': return s(f['name']) + o(f['x'], k) + o(f['d'], k)
-    if t == 'parameter': return c(1, f['rest']) + s(f['name']) + c(1, f['q']) + o(f['t'], k)
-    body = {
-        1: lambda: l(f['names'], s) + o(f['args'], args), 17: lambda: l(f['names'], s) + o(f['args'], args),
-        2: lambda: c(4, f['which']), 3: lambda: c(3, f['which']) + ([] if f['s'] is None else s(f['s'])),
-        8: lambda: k(f['t']) + k(f['x']), 9: lambda: [i for x in f['four'] for i in k(x)],
-        10: lambda: s(f['name']) + o(f['x'], k), 11: lambda: c(2, f['which']) + k(f['t']),
-        12: lambda: o(f['params'], args) + o(f['this'], lambda p: o(p[0], k)) + args(f['list']) + k(f['ret']),
-        13: lambda: c(1, f['abstract']) + o(f['params'], args) + args(f['list']) + k(f['ret']),
-        14: lambda: c(2, f['ro']) + s(f['key']) + k(f['c']) + o(f['n'], k) + c(2, f['q']) + o(f['t'], k),
-        15: lambda: c(12, len(f['ts'])) + s(f['ss'][0]) + [i for a, b in zip(f['ts'], f['ss'][1:]) for i in k(a) + s(b)],
-        16: lambda: c(1, f['asserts']) + (c(1, 1) if f['name'] is None else c(1, 0) + s(f['name'])) + o(f['t'], k),
-        18: lambda: c(1, f['typeof']) + s(f['s']) + l(f['names'], s) + o(f['args'], args),
-        22: lambda: s(f['name']) + c(1, f['q']) + k(f['t']),
-        5: lambda: args(f['list']), 6: lambda: args(f['list']), 19: lambda: args(f['list']),
-    }.get(t, lambda: k(f['t']))()
-    return c(6, t) + body
-
-def store(root):
-    nodes, names, text = [], [], bytearray()
-    def visit(n):
-        first, word, shift, kids = len(names), 0, 0, []
-        for i in items(n):
-            if i[0] == 'c': word += i[2] << shift; shift += i[1]
-            elif i[0] == 's': names.append(len(text) << 32 | len(i[1])); text.extend(i[1])
-            else: kids.append(visit(i[1]))
-        for a, b in zip(kids, kids[1:]): nodes[a][3] = b
-        nodes.append([word, 0, (kids[0] if kids else 0) | first << 32, 0])
-        return len(nodes) - 1
-    visit(root)
-    return [w for n in nodes for w in n], names, list(text)
-
-# ---- trees and texts
-def word(): return bytes(R.choice(b'abTUxy_$09\x00\xff"') for _ in range(R.choice([1, 1, 2, 3, 9])))
-def maybe(f): return f() if R.random() < 0.5 else None
-def some(f, least=0): return [f() for _ in range(least + R.choice([0, 0, 1, 2]))]
-ONLY = {'type': [], 'element': [20, 21, 22], 'rest': [22], 'name': [20, 21]}
-def gen(cls='type', d=3, tag=None):
-    ty = lambda: gen('type', d - 1)
-    N = lambda tag_, **f: Node(tag_, 0, 0, 0, **f)
-    if cls == 'tp': return N('type parameter', name=word(), x=maybe(ty), d=maybe(ty))
-    if cls == 'p': return N('parameter', rest=R.random() < .5, name=word(), q=R.random() < .5, t=maybe(ty))
-    t = tag or (R.choice([1, 2, 3]) if d <= 0 else R.choice(ONLY[cls] * 3 + list(range(1, 20)) + [23, 24]))
-    tps, ps = (lambda: some(lambda: gen('tp', d - 1))), (lambda: some(lambda: gen('p', d - 1)))
-    if t in (1, 17): return N(t, names=some(word, 1), args=maybe(lambda: some(ty)) if d > 0 else None)
-    if t == 2: return N(t, which=R.randrange(13))
-    if t == 3: w = R.randrange(7); return N(t, which=w, s=None if w in (3, 4) else word())
-    if t in (4, 7, 20, 23, 24): return N(t, t=ty())
-    if t in (5, 6): return N(t, list=some(ty, 1))
-    if t == 8: return N(t, t=ty(), x=ty())
-    if t == 9: return N(t, four=[ty() for _ in range(4)])
-    if t == 10: return N(t, name=word(), x=maybe(ty))
-    if t == 11: return N(t, which=R.randrange(3), t=ty())
-    if t == 12: return N(t, params=maybe(tps), this=maybe(lambda: (maybe(ty),)), list=ps(), ret=ty())
-    if t == 13: return N(t, abstract=R.random() < .5, params=maybe(tps), list=ps(), ret=ty())
-    if t == 14: return N(t, ro=R.randrange(4), key=word(), c=ty(), n=maybe(ty), q=R.randrange(4), t=maybe(ty))
-    if t == 15: ts = some(ty); return N(t, ts=ts, ss=[word() for _ in range(len(ts) + 1)])
-    if t == 16: a = R.random() < .5; return N(t, asserts=a, name=maybe(word), t=maybe(ty) if a else ty())
-    if t == 18: return N(t, typeof=R.random() < .5, s=word(), names=some(word), args=maybe(lambda: some(ty)))
-    if t == 19: return N(t, list=some(lambda: gen('element', d - 1)))
-    if t == 21: return N(t, t=gen('rest', d - 1))
-    if t == 22: return N(t, name=word(), q=R.random() < .5, t=gen('name', d - 1))
-
-def text(d=3):
-    ty = lambda: text(d - 1)
-    if d <= 0: return R.choice(['A', 'B', 'string', 'never', '"s"', '-1', '2n', 'true', 'this', 'a.b', 'null', 'void', '`x`'])
-    return R.choice([
-        lambda: '%s | %s' % (ty(), ty()), lambda: '| ' + ty(), lambda: '%s & %s' % (ty(), ty()), lambda: '(%s)' % ty(), lambda: '(%s)[]' % ty(),
-        lambda: '(%s)[%s]' % (ty(), ty()), lambda: 'keyof (%s)' % ty(), lambda: 'A<%s, %s>' % (ty(), ty()), lambda: 'A<>',
-        lambda: '(%s) extends infer U extends number ? (%s) : (%s)' % (ty(), ty(), ty()), lambda: '<T extends %s = %s>(a: %s, ...b?: %s) => %s' % (ty(), ty(), ty(), ty(), ty()),
-        lambda: '(this: %s, a?) => %s' % (ty(), ty()), lambda: 'abstract new (a: %s) => %s' % (ty(), ty()), lambda: '{ readonly [K in %s as %s]-?: %s }' % (ty(), ty(), ty()),
-        lambda: '`a${%s}b${%s}c`' % (ty(), ty()), lambda: '(a) => a is %s' % ty(), lambda: 'asserts x is %s' % ty(), lambda: 'asserts this', lambda: 'typeof a.b<%s>' % ty(),
-        lambda: 'import("m").a<%s>' % ty(), lambda: 'typeof import("m")', lambda: '[%s, (%s)?, ...%s, a?: %s, ...b: %s]' % tuple(ty() for _ in range(5)), lambda: '(%s)!' % ty(),
-    ])()
-
-def wrap(n, tag=7, leaf=None):
-    t = leaf or Node(2, 0, 0, 0, which=0)
-    for _ in range(n): t = Node(tag, 0, 0, 0, t=t)
-    return t
 
 # ---- the inputs: (kind, key, node room, name room, text room)
 good, texts = [], 0

@@ -439,24 +439,29 @@ def root():
     return d
 
 
-def main():
-    c = cases()
-    data = b"".join(record(*x) for x in c) + record(CHECK, 0, 0, b"x", [0])[:-1]      # the last record is cut
-    lines = "".join(line(*x) + "\n" for x in c) + "cut\n"
-    folder = os.path.join(root(), "crates", "words_run")
-    both = [(os.path.join(folder, "data", "vectors"), data), (os.path.join(folder, "stdout"), lines.encode())]
+def written(crate, data, lines):
+    """Writes a program's records and the lines that it must print, or with --check says whether they are so."""
+    told = "".join(x + "\n" for x in lines).encode()
+    folder = os.path.join(root(), "crates", crate)
+    both = [(os.path.join(folder, "data", "vectors"), data), (os.path.join(folder, "stdout"), told)]
     if sys.argv[1:] == ["--check"]:
         for name, content in both:
             if not os.path.exists(name) or open(name, "rb").read() != content:
                 sys.exit("not as it would be written: " + os.path.relpath(name, root()))
     elif sys.argv[1:]:
-        sys.exit(__doc__)
+        sys.exit(sys.modules["__main__"].__doc__)
     else:
         os.makedirs(os.path.join(folder, "data"), exist_ok=True)
         for name, content in both:
             with open(name, "wb") as f:
                 f.write(content)
-    print(len(c), "records and a cut one,", len(data), "bytes,", len(lines), "bytes of lines")
+    print(len(lines) - 1, "records and a cut one,", len(data), "bytes,", len(told), "bytes of lines")
+
+
+def main():
+    c = cases()
+    data = b"".join(record(*x) for x in c) + record(CHECK, 0, 0, b"x", [0])[:-1]      # the last record is cut
+    written("words_run", data, [line(*x) for x in c] + ["cut"])
 
 
 if __name__ == "__main__":

@@ -1,0 +1,162 @@
+// A record's line: what taking its key back answers and leaves in the buffers, and the key written again.
+ghost use mathlib.Core.Path.{_≡_};
+ghost use Prim.Native.Nat.{_*_, _^_, _<_, _≤_};
+ghost use lib.ListN.{length};
+ghost use Rattle.keys.specs.Put.{far};
+use crate::line::bytes;
+use crate::line::next;
+use crate::sum;
+use keys::back::Answer;
+use keys::back::take_back;
+use keys::out::put_key;
+use words::limits::Tree;
+
+// All of the lent nodes, names and text as one number.
+fn left(nodes: &[u64], names: &[u64], text: &[u8]) -> u64 {
+    let a = sum::of_words(nodes, 1);
+    let b = sum::of_words(names, a);
+    sum::of_bytes(text, b)
+}
+
+// The last node taken: the root.
+fn last(count: usize) -> usize
+    ensures { λ r. ⌜ r < 2 ^ 32 ⌝ }
+{
+    if count == 0 {
+        return 0;
+    }
+    (count - 1) % 4294967296
+}
+
+// Whether what was written is the key.
+fn same(again: &[u8], size: usize, key: &[u8]) -> u64 {
+    if size != key.len() {
+        return 0;
+    }
+    if sum::begins(again, key) { 1 } else { 0 }
+}
+
+// Where op is 1, the nodes' positions are made dirty: no key holds them.
+fn displaced(op: u8, nodes: &mut [u64]) {
+    if op != 1 {
+        return;
+    }
+    sum::dirty_places(nodes);
+}
+
+// The length of the key written again, whether it is the key, and its buffer as a number.
+fn written(
+    out: &mut [u8],
+    at: usize,
+    key: &[u8],
+    nodes: &[u64],
+    names: &[u64],
+    text: &[u8],
+    again: &mut [u8],
+    count: usize,
+) -> usize
+    requires { ⌜ (at < length (now out)) × (length (now again) * 8 ≤ far) ⌝ }
+    ensures { λ r. ⌜ r < length (now (out .exit)) ⌝ }
+{
+    let size = put_key(nodes, names, text, last(count), Tree::TALLEST, again);
+    let p = next(out, at, size as u64);
+    let q = next(out, p, same(again, size, key));
+    next(out, q, sum::of_bytes(again, 1))
+}
+
+// Three numbers more.
+fn three(out: &mut [u8], at: usize, a: usize, b: usize, c: usize) -> usize
+    requires { ⌜ at < length (now out) ⌝ }
+    ensures { λ r. ⌜ r < length (now (out .exit)) ⌝ }
+{
+    let p = next(out, at, a as u64);
+    let q = next(out, p, b as u64);
+    next(out, q, c as u64)
+}
+
+// A refusal's number and place, and what is left in the buffers.
+fn refused(
+    out: &mut [u8],
+    at: usize,
+    number: u32,
+    place: usize,
+    nodes: &[u64],
+    names: &[u64],
+    text: &[u8],
+) -> usize
+    requires { ⌜ at < length (now out) ⌝ }
+    ensures { λ r. ⌜ r < length (now (out .exit)) ⌝ }
+{
+    let p = bytes(out, at, b"refused");
+    let q = next(out, p, number as u64);
+    let r = next(out, q, place as u64);
+    next(out, r, left(nodes, names, text))
+}
+
+// The numbers of nodes, names and bytes of text, and what is in the buffers.
+fn taken(
+    out: &mut [u8],
+    at: usize,
+    count: usize,
+    named: usize,
+    chars: usize,
+    nodes: &[u64],
+    names: &[u64],
+    text: &[u8],
+) -> usize
+    requires { ⌜ at < length (now out) ⌝ }
+    ensures { λ r. ⌜ r < length (now (out .exit)) ⌝ }
+{
+    let p = bytes(out, at, b"taken");
+    let q = three(out, p, count, named, chars);
+    next(out, q, left(nodes, names, text))
+}
+
+// What taking back answers, and the key written again where it is taken.
+fn told(
+    out: &mut [u8],
+    at: usize,
+    op: u8,
+    key: &[u8],
+    nodes: &mut [u64],
+    names: &mut [u64],
+    text: &mut [u8],
+    again: &mut [u8],
+) -> usize
+    requires { ⌜ (at < length (now out)) × (length (now again) * 8 ≤ far) ⌝ }
+    ensures { λ r. ⌜ r < length (now (out .exit)) ⌝ }
+{
+    match take_back(key, nodes, names, text) {
+        Answer::Refused(number, place) => refused(out, at, number, place, nodes, names, text),
+        Answer::Taken(count, named, chars) => {
+            let p = taken(out, at, count, named, chars, nodes, names, text);
+            displaced(op, nodes);
+            written(out, p, key, nodes, names, text, again, count)
+        }
+    }
+}
+
+fn dirty(nodes: &mut [u64], names: &mut [u64], text: &mut [u8], again: &mut [u8]) {
+    sum::dirty_words(nodes);
+    sum::dirty_words(names);
+    sum::dirty_bytes(text);
+    sum::dirty_bytes(again);
+}
+
+// A record's line, without its end. The lent buffers are dirty before.
+pub fn answer(
+    out: &mut [u8],
+    at: usize,
+    op: u8,
+    key: &[u8],
+    nodes: &mut [u64],
+    names: &mut [u64],
+    text: &mut [u8],
+    again: &mut [u8],
+) -> usize
+    requires { ⌜ (at < length (now out)) × (length (now again) * 8 ≤ far) ⌝ }
+    ensures { λ r. ⌜ r < length (now (out .exit)) ⌝ }
+{
+    dirty(nodes, names, text, again);
+    told(out, at, op, key, nodes, names, text, again)
+}
