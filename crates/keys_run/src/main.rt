@@ -133,7 +133,15 @@ fn run(fd: i32) {
     let mut names = record::name_room();
     let mut text = record::text_room();
     let mut again = record::key_room();
-    records(fd, &mut out, &mut key, &mut nodes, &mut names, &mut text, &mut again);
+    records(
+        fd,
+        &mut out,
+        &mut key,
+        &mut nodes,
+        &mut names,
+        &mut text,
+        &mut again,
+    );
 }
 
 fn main() {
