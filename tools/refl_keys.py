@@ -146,7 +146,10 @@ use Rattle.keys.specs.Key.{keyOf, takeKey, taken, refused}
 use Rattle.keys.specs.Store.{takeBack, back, no}
 '''
 tmp = tempfile.mkdtemp(prefix='refl_keys')
-shutil.copytree(os.path.join(HERE, '..', 'crates', 'keys', 'specs'), tmp + '/crates/keys/specs')
+os.makedirs(tmp + '/crates/keys/specs')
+FILES = 'Bits Limits Form Table Placed Key Store'.split()
+for name in FILES: shutil.copy(os.path.join(HERE, '..', 'crates', 'keys', 'specs', name + '.antt'), tmp + '/crates/keys/specs/')
+open(tmp + '/crates/keys/specs/Lib.antt', 'w').write(''.join('pub mod %s\n' % name for name in FILES))
 os.makedirs(tmp + '/crates/keys/src')
 open(tmp + '/crates/keys/src/lib.rt', 'w').write('// Lemmas by computation.\n')
 os.makedirs(tmp + '/crates/words/src'); os.makedirs(tmp + '/crates/words/specs')
