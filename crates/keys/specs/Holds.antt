@@ -50,15 +50,19 @@ pub record Cursor : Type 0 where
 abbrev pub cursor : ℕ → ℕ → ℕ → Cursor
 cursor w c m = record { word = w; child = c; name = m }
 
-module _ (N M X : List ℕ) where
-  -- From a place on the store holds a run: its choices in the word, its names in order, its children by their links.
-  abbrev pub Holds : Run → Cursor → Type 0
-  Holds done s = Unit {0}
-  Holds (chose w k r) s = (s .word % 2 ^ w ≡ k) × Holds r (cursor (s .word / 2 ^ w) (s .child) (s .name))
-  Holds (name x u r) s = Spells M X (s .name) u × Holds r (cursor (s .word) (s .child) (s .name + 1))
-  Holds (kid first end a r) s =
-      Holds a (cursor (wordAt N (s .child)) (childAt N (s .child)) (s .name))
-      × Holds r (cursor (s .word) (nextAt N (s .child)) (s .name + called a))
+module _ (N : List ℕ) (P : ℕ → List ℕ → Type 0) where
+  -- From a place on the store holds a run: its choices in the word, its names in order, each with its spelling as P says, its children by their links.
+  abbrev pub HoldsBy : Run → Cursor → Type 0
+  HoldsBy done s = Unit {0}
+  HoldsBy (chose w k r) s = (s .word % 2 ^ w ≡ k) × HoldsBy r (cursor (s .word / 2 ^ w) (s .child) (s .name))
+  HoldsBy (name x u r) s = P (s .name) u × HoldsBy r (cursor (s .word) (s .child) (s .name + 1))
+  HoldsBy (kid first end a r) s =
+      HoldsBy a (cursor (wordAt N (s .child)) (childAt N (s .child)) (s .name))
+      × HoldsBy r (cursor (s .word) (nextAt N (s .child)) (s .name + called a))
+
+-- The store holds a run, its spellings in a text.
+abbrev pub Holds : (N M X : List ℕ) → Run → Cursor → Type 0
+Holds N M X = HoldsBy N (Spells M X)
 
 -- A tree of the node table stands in the words of a store, its spellings in a text.
 pub record Stands (N M X : List ℕ) (p : Placed) : Type 0 where

@@ -16,7 +16,8 @@ use Rattle.keys.specs.Store.{Run, done, chose, name, kid, plant, under, 
 use Rattle.keys.specs.StoreLaws.{length-records, length-namesIn, under-plant, bare-laid, names-point}
 use Rattle.keys.specs.Forms.{inLine, lined}
 use Rattle.keys.specs.Holds.{wordAt, childAt, nextAt, startAt, sizeAt, Spells, cursor, Holds, Stands}
-use Rattle.keys.specs.Out.{Of, of-one, of-word, of-choose, of-child, written, levels}
+use Rattle.keys.specs.Moves.{Of, of-one, of-word, of-choose, of-child, levels}
+use Rattle.keys.specs.Out.{written}
 
 -- ---- The run of a value
 

@@ -16,15 +16,17 @@ use Rattle.keys.specs.Table.{type, wholeKey}
 use Rattle.keys.specs.Placed.{Placed, bare}
 use Rattle.keys.specs.Key.{gap, bytesOf, nodeTable}
 use Rattle.keys.specs.KeyLaws.{packs, length-packed}
-use Rattle.keys.specs.Store.{Run, packed, runOf, filled}
+use Rattle.keys.specs.Store.{packed, runOf, filled}
 use Rattle.keys.specs.Forms.{lined, grammarOf, tableWords}
 use Rattle.keys.specs.FormsLaws.{words-are}
 use Rattle.keys.specs.Put.{Put}
 use Rattle.keys.specs.PutLaws.{put-append, bytes-append, sets-past, sets-cons}
-use Rattle.keys.specs.Holds.{Stands, Cursor, cursor}
+use Rattle.keys.specs.Holds.{Spells, Stands, cursor}
 use Rattle.keys.specs.HoldsLaws.{stands-holds, stands-of, stands-low, stands-written}
-use Rattle.keys.specs.Out.{Of, of-one, written, Moved, Noded, fitted, Keyed}
-use Rattle.keys.specs.OutLaws.{moves-node}
+use Rattle.keys.specs.Moves.{Noded}
+use Rattle.keys.specs.MovesLaws.{all-put}
+use Rattle.keys.specs.Out.{keyBits, fitted, Keyed}
+use Rattle.keys.specs.OutLaws.{bits-sound, items-written}
 
 -- ---- Bytes and their bits
 
@@ -96,23 +98,17 @@ packed-in n bs k b e =
 -- ---- The whole key
 
 module _ (N M X : List ℕ) (root tall n m bit0 bit : ℕ) (k0 k1 k : List ℕ) (z : k0 ≡ replicate n 0) (p : Put 0 (bitsOf 4 1) bit0 k0 k1)
-    (d : Noded (grammarOf (tableWords countWidth)) N M X tall 0 root 0 bit0 k1 m bit k) where
+    (d : Noded keyBits (grammarOf (tableWords countWidth)) N (Spells M X) tall 0 (length M) 0 root 0 bit0 k1 m bit k) where
   -- The root is written by the node table.
-  rooted : Noded (lined nodeTable) N M X tall 0 root 0 bit0 k1 m bit k
-  rooted = subst (λ (G : Grammar). Noded G N M X tall 0 root 0 bit0 k1 m bit k) (words-are countWidth) d
+  rooted : Noded keyBits (lined nodeTable) N (Spells M X) tall 0 (length M) 0 root 0 bit0 k1 m bit k
+  rooted = subst (λ (G : Grammar). Noded keyBits G N (Spells M X) tall 0 (length M) 0 root 0 bit0 k1 m bit k) (words-are countWidth) d
 
   all : (p : Placed) → Stands N M X p → root + 1 ≡ nodes (bare p) → height (bare p) ≤ tall → Put bit0 (write nodeTable type (bare p)) bit k1 k
   all p s e h =
-      fin (moves-node (lined nodeTable) N M X tall one 0 (cursor (packed (runOf p)) root 0) bit0 k1 m bit k rooted
-      .on (runOf p) (stands-of N M X p s) (stands-low N M X p tall h) (stands-holds N M X p s root e))
-    where
-      by : (bits : Bits) {x : Run} → Of (lined nodeTable) one x → Put bit0 bits bit k1 k → written (lined nodeTable) (both (child 0) one) (runOf p) ≡ bits ++ written (lined nodeTable) one x
-          → Put bit0 (write nodeTable type (bare p)) bit k1 k
-      by bits of-one u y = subst (λ (b : Bits). Put bit0 b bit k1 k) (sym (append-nil bits) ∙ sym y ∙ stands-written N M X p s) u
-
-      fin : {f : Cursor} → Moved (lined nodeTable) N M X tall (both (child 0) one) (runOf p) (cursor (packed (runOf p)) root 0) bit0 k1 one f bit k
-          → Put bit0 (write nodeTable type (bare p)) bit k1 k
-      fin d = by (d .bits) (d .of) (d .put) (d .whole)
+      subst (λ (b : Bits). Put bit0 b bit k1 k)
+      (items-written (lined nodeTable) N (both (child 0) one) (runOf p) (cursor (packed (runOf p)) root 0) 0 ∙ stands-written N M X p s)
+      (all-put keyBits bits-sound (lined nodeTable) N (Spells M X) tall 0 (cursor (packed (runOf p)) root 0) rooted (runOf p)
+      (stands-of N M X p s) (stands-low N M X p tall h) (stands-holds N M X p s root e))
 
   whole : (p : Placed) → Stands N M X p → root + 1 ≡ nodes (bare p) → height (bare p) ≤ tall → Put 0 (write nodeTable wholeKey (choice edition (bare p))) bit k0 k
   whole q s e h = put-append p (all q s e h)

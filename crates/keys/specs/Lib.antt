@@ -14,7 +14,9 @@ pub mod Runs
 pub mod Back
 pub mod Put
 pub mod Holds
+pub mod Moves
 pub mod Out
+pub mod Visits
 pub mod BitsLaws
 pub mod FormLaws
 pub mod KeyLaws
@@ -26,6 +28,7 @@ pub mod Makers
 pub mod FormsLaws
 pub mod BackLaws
 pub mod PutLaws
+pub mod MovesLaws
 pub mod OutLaws
 pub mod HoldsLaws
 pub mod KeyedLaws

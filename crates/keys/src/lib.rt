@@ -1,6 +1,7 @@
 // The canonical key of a type: its bits, the node table, trees, what the store holds of them, key out and key in.
 pub mod back;
 pub mod forms;
+pub mod moves;
 pub mod out;
 pub mod put;
 pub mod refusal;

@@ -1,38 +1,25 @@
 // Key out: the key of a tree that stands in the store.
 ghost use mathlib.Core.Path.{_≡_};
-ghost use mathlib.Core.Bool.{true, false};
-ghost use Prim.Native.Nat.{_+_, _-_, _*_, _/_, _%_, _≤_, _<_, _^_};
+ghost use mathlib.Core.List.{List};
+ghost use Prim.Native.Nat.{ℕ, _*_, _≤_, _<_, _^_};
 ghost use lib.ListN.{length};
-ghost use Rattle.keys.specs.Bits.{bitsOf};
 ghost use Rattle.keys.specs.Forms.{entryAt, grammarOf, IsRow, Narrow};
-ghost use Rattle.keys.specs.Put.{far, Put};
-ghost use Rattle.keys.specs.Out.{movedTo, besideTo, Spelled, Ready, Own, After, Begun, Noded, Keyed};
+ghost use Rattle.keys.specs.Put.{far};
+ghost use Rattle.keys.specs.Holds.{Spells};
+ghost use Rattle.keys.specs.Moves.{Spelled, Ready, Own, After, Begun, Noded};
+ghost use Rattle.keys.specs.Out.{keyBits, Keyed};
 use crate::forms;
 use crate::forms::Row;
 use crate::put;
+use crate::moves;
+use crate::moves::Mark;
+use crate::moves::Walk;
 use crate::store;
-
-// Where writing is: the next bit and the next name.
-pub struct Mark {
-    pub bit: usize,
-    pub name: usize,
-}
-
-// The same inside a node: its choices still to come, its next child, its form, how often the form's first step is done, and the steps left.
-pub struct Walk {
-    pub bit: usize,
-    pub name: usize,
-    pub word: u64,
-    pub child: usize,
-    pub form: usize,
-    pub n: usize,
-    pub steps: usize,
-}
 
 // The next spelling, its length in w bits.
 fn put_spelling(names: &[u64], text: &[u8], key: &mut [u8], w: usize, o: Mark) -> Mark
-    requires { ⌜ (length (now key) * 8 ≤ far) × (o .bit ≤ far) × (w ≤ 31) × (o .name ≤ length (now names)) ⌝ }
-    ensures { λ r. ⌜ Spelled (now (names .entry)) (now (text .entry)) w (o .name) (o .bit) (now (key .entry)) (r .name) (r .bit) (now (key .exit)) ⌝ }
+    requires { ⌜ (length (now key) * 8 ≤ far) × (o .to ≤ far) × (w ≤ 31) × (o .name ≤ length (now names)) ⌝ }
+    ensures { λ r. ⌜ Spelled keyBits (Spells (now (names .entry)) (now (text .entry))) (length (now (names .entry))) w 0 (o .name) (o .to) (now (key .entry)) (r .name) (r .to) (now (key .exit)) ⌝ }
 {
     let name = o.name;
     if names.len() <= name {
@@ -44,58 +31,23 @@ fn put_spelling(names: &[u64], text: &[u8], key: &mut [u8], w: usize, o: Mark) -
     if text.len() < start + size {
         return o;
     }
-    let next = put::put_number(key, o.bit, w, size as u32);
+    let next = put::put_number(key, o.to, w, size as u32);
     Mark {
-        bit: put::put_text(text, start, size, key, next),
+        to: put::put_text(text, start, size, key, next),
         name: name + 1,
-    }
-}
-
-// A choice that was written: its number, and the choices after it.
-pub struct Chosen {
-    pub bit: usize,
-    pub number: usize,
-    pub word: u64,
-}
-
-// The next of a node's own choices, of w bits.
-fn put_choice(key: &mut [u8], bit: usize, w: usize, word: u64) -> Chosen
-    requires { ⌜ (length (now key) * 8 ≤ far) × (bit ≤ far) × (w ≤ 31) ⌝ }
-    ensures { λ r. ⌜ Put bit (bitsOf w (word % 2 ^ w)) (r .bit) (now (key .entry)) (now (key .exit)) × (r .number ≡ word % 2 ^ w) × (r .word ≡ word / 2 ^ w) × (r .number < 2 ^ 32) ⌝ }
-{
-    let rest = word >> w;
-    let number = word - (rest << w);
-    Chosen {
-        bit: put::put_number(key, bit, w, number as u32),
-        number: number as usize,
-        word: rest,
-    }
-}
-
-// The walk with what was written of it, at another form.
-fn moved(s: Walk, o: Mark, form: usize, n: usize, steps: usize) -> Walk
-    ensures { λ q. ⌜ q ≡ movedTo s o form n steps ⌝ }
-{
-    Walk {
-        bit: o.bit,
-        name: o.name,
-        word: s.word,
-        child: s.child,
-        form: form,
-        n: n,
-        steps: steps,
     }
 }
 
 // A step that is a choice.
 fn put_chosen(forms: &[u32], names: &[u64], text: &[u8], key: &mut [u8], r: Row, s: Walk) -> Walk
     requires { ⌜ Ready (length (now names)) (now key) s × IsRow (entryAt (now forms) (s .form)) r × (r .w ≤ 31) × (0 < s .steps) × (5 ≤ r .op) ⌝ }
-    ensures { λ q. ⌜ Own (now (forms .entry)) (now (names .entry)) (now (text .entry)) s (now (key .entry)) q (now (key .exit)) ⌝ }
+    ensures { λ q. ⌜ Own keyBits (now (forms .entry)) (Spells (now (names .entry)) (now (text .entry))) (length (now (names .entry))) 0 s (now (key .entry)) q (now (key .exit)) ⌝ }
 {
-    let c = put_choice(key, s.bit, r.w, s.word);
+    let c = moves::choice_of(s.word, r.w);
+    let to = put::put_number(key, s.to, r.w, c.number as u32);
     let j = forms::jump_at(forms, r, c.number);
     Walk {
-        bit: c.bit,
+        to: to,
         name: s.name,
         word: c.word,
         child: s.child,
@@ -108,53 +60,37 @@ fn put_chosen(forms: &[u32], names: &[u64], text: &[u8], key: &mut [u8], r: Row,
 // A step that is no choice and goes into no child: a spelling, or on to the next form.
 fn put_said(forms: &[u32], names: &[u64], text: &[u8], key: &mut [u8], r: Row, s: Walk) -> Walk
     requires { ⌜ Ready (length (now names)) (now key) s × IsRow (entryAt (now forms) (s .form)) r × (r .w ≤ 31) × (0 < s .steps) × (r .op < 5) × (r .op ≡ 1 → ⊥) × (r .op ≡ 3 → s .n ≡ 0) ⌝ }
-    ensures { λ q. ⌜ Own (now (forms .entry)) (now (names .entry)) (now (text .entry)) s (now (key .entry)) q (now (key .exit)) ⌝ }
+    ensures { λ q. ⌜ Own keyBits (now (forms .entry)) (Spells (now (names .entry)) (now (text .entry))) (length (now (names .entry))) 0 s (now (key .entry)) q (now (key .exit)) ⌝ }
 {
     let op = r.op;
     let n = s.n;
     let o = Mark {
-        bit: s.bit,
+        to: s.to,
         name: s.name,
     };
     if op == forms::SPELLING {
         let q = put_spelling(names, text, key, r.w, o);
-        return moved(s, q, r.b, n, s.steps - 1);
+        return moves::moved(s, q, r.b, n, s.steps - 1);
     }
     if n == 0 {
-        return moved(s, o, r.b, 1, s.steps - 1);
+        return moves::moved(s, o, r.b, 1, s.steps - 1);
     }
     if op == forms::SPELLINGS {
         let q = put_spelling(names, text, key, r.w, o);
-        return moved(s, q, s.form, n - 1, s.steps);
+        return moves::moved(s, q, s.form, n - 1, s.steps);
     }
-    moved(s, o, s.form, n, 0)
+    moves::moved(s, o, s.form, n, 0)
 }
 
 // A step of a node that goes into no child.
 fn put_own(forms: &[u32], names: &[u64], text: &[u8], key: &mut [u8], r: Row, s: Walk) -> Walk
     requires { ⌜ Ready (length (now names)) (now key) s × IsRow (entryAt (now forms) (s .form)) r × (r .w ≤ 31) × (0 < s .steps) × (r .op ≡ 1 → ⊥) × (r .op ≡ 3 → s .n ≡ 0) ⌝ }
-    ensures { λ q. ⌜ Own (now (forms .entry)) (now (names .entry)) (now (text .entry)) s (now (key .entry)) q (now (key .exit)) ⌝ }
+    ensures { λ q. ⌜ Own keyBits (now (forms .entry)) (Spells (now (names .entry)) (now (text .entry))) (length (now (names .entry))) 0 s (now (key .entry)) q (now (key .exit)) ⌝ }
 {
     if forms::CHOICE <= r.op {
         return put_chosen(forms, names, text, key, r, s);
     }
     put_said(forms, names, text, key, r, s)
-}
-
-// The walk with what was written of it, at the next child.
-fn beside(s: Walk, o: Mark, next: usize) -> Walk
-    requires { ⌜ 0 < s .n ⌝ }
-    ensures { λ q. ⌜ q ≡ besideTo s o next ⌝ }
-{
-    Walk {
-        bit: o.bit,
-        name: o.name,
-        word: s.word,
-        child: next,
-        form: s.form,
-        n: s.n - 1,
-        steps: s.steps,
-    }
 }
 
 // The walk after a child, with the spelling that follows it if its length has any bits.
@@ -167,41 +103,29 @@ fn after_child(
     s: Walk,
     o: Mark,
 ) -> Walk
-    requires { ⌜ (length (now key) * 8 ≤ far) × (o .bit ≤ far) × (o .name ≤ length (now names)) × (w ≤ 31) × (s .child < 2 ^ 32) × (s .form < 2 ^ 32) × (0 < s .n) × (s .n < 2 ^ 32) × (s .steps < 2 ^ 32) ⌝ }
-    ensures { λ q. ⌜ After (now (nodes .entry)) (now (names .entry)) (now (text .entry)) w s o (now (key .entry)) q (now (key .exit)) ⌝ }
+    requires { ⌜ (length (now key) * 8 ≤ far) × (o .to ≤ far) × (o .name ≤ length (now names)) × (w ≤ 31) × (s .child < 2 ^ 32) × (s .form < 2 ^ 32) × (0 < s .n) × (s .n < 2 ^ 32) × (s .steps < 2 ^ 32) ⌝ }
+    ensures { λ q. ⌜ After keyBits (now (nodes .entry)) (Spells (now (names .entry)) (now (text .entry))) (length (now (names .entry))) w 0 s o (now (key .entry)) q (now (key .exit)) ⌝ }
 {
     let next = store::next_of(nodes, s.child);
     if w == 0 {
-        return beside(s, o, next);
+        return moves::beside(s, o, next);
     }
     let q = put_spelling(names, text, key, w, o);
-    beside(s, q, next)
-}
-
-// Does the next step go into a child?
-fn into_child(r: Row, s: Walk) -> bool
-    ensures { λ b. ⌜ (b ≡ true → (r .op ≡ 3) × (0 < s .n)) × (b ≡ false → r .op ≡ 3 → s .n ≡ 0) ⌝ }
-{
-    if r.op != forms::NODES {
-        return false;
-    }
-    if s.n == 0 {
-        return false;
-    }
-    true
+    moves::beside(s, q, next)
 }
 
 // A node's tag, and the walk behind it.
 fn put_tag(forms: &[u32], nodes: &[u64], key: &mut [u8], class: usize, at: usize, o: Mark) -> Walk
-    requires { ⌜ (length (now key) * 8 ≤ far) × (o .bit ≤ far) × (class < 2 ^ 32) × (at < 2 ^ 32) × Narrow (now forms) ⌝ }
-    ensures { λ q. ⌜ Begun (now (forms .entry)) (now (nodes .entry)) class at o (now (key .entry)) q (now (key .exit)) ⌝ }
+    requires { ⌜ (length (now key) * 8 ≤ far) × (o .to ≤ far) × (class < 2 ^ 32) × (at < 2 ^ 32) × Narrow (now forms) ⌝ }
+    ensures { λ q. ⌜ ((M X : List ℕ) → Begun keyBits (now (forms .entry)) (now (nodes .entry)) (Spells M X) 0 class at o (now (key .entry)) q (now (key .exit))) ⌝ }
 {
     let own = store::node_at(nodes, at);
     let tags = forms::class_at(forms, class);
-    let tag = put_choice(key, o.bit, tags.w, own.word);
+    let tag = moves::choice_of(own.word, tags.w);
+    let to = put::put_number(key, o.to, tags.w, tag.number as u32);
     let row = forms::listed_at(forms, tags, tag.number);
     Walk {
-        bit: tag.bit,
+        to: to,
         name: o.name,
         word: tag.word,
         child: own.child,
@@ -223,8 +147,8 @@ fn put_node(
     at: usize,
     o: Mark,
 ) -> Mark
-    requires { ⌜ (length (now key) * 8 ≤ far) × (o .bit ≤ far) × (o .name ≤ length (now names)) × (class < 2 ^ 32) × (at < 2 ^ 32) × Narrow (now forms) ⌝ }
-    ensures { λ r. ⌜ Noded (grammarOf (now (forms .entry))) (now (nodes .entry)) (now (names .entry)) (now (text .entry)) left class at (o .name) (o .bit) (now (key .entry)) (r .name) (r .bit) (now (key .exit)) ⌝ }
+    requires { ⌜ (length (now key) * 8 ≤ far) × (o .to ≤ far) × (o .name ≤ length (now names)) × (class < 2 ^ 32) × (at < 2 ^ 32) × Narrow (now forms) ⌝ }
+    ensures { λ r. ⌜ Noded keyBits (grammarOf (now (forms .entry))) (now (nodes .entry)) (Spells (now (names .entry)) (now (text .entry))) left 0 (length (now (names .entry))) class at (o .name) (o .to) (now (key .entry)) (r .name) (r .to) (now (key .exit)) ⌝ }
 {
     if left == 0 {
         return o;
@@ -234,11 +158,11 @@ fn put_node(
         let r = forms::row_at(forms, s.form);
         if r.op == forms::END {
             return Mark {
-                bit: s.bit,
+                to: s.to,
                 name: s.name,
             };
         }
-        if into_child(r, s) {
+        if moves::into_child(r, s) {
             let q = put_node(
                 forms,
                 nodes,
@@ -249,7 +173,7 @@ fn put_node(
                 left - 1,
                 s.child,
                 Mark {
-                    bit: s.bit,
+                    to: s.to,
                     name: s.name,
                 },
             );
@@ -259,7 +183,7 @@ fn put_node(
         }
     }
     Mark {
-        bit: s.bit,
+        to: s.to,
         name: s.name,
     }
 }
@@ -288,7 +212,7 @@ pub fn put_key(
         forms::TYPE,
         tall,
         root,
-        Mark { bit: at, name: 0 },
+        Mark { to: at, name: 0 },
     );
-    (o.bit + 7) / 8
+    (o.to + 7) / 8
 }

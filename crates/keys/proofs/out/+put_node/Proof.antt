@@ -4,8 +4,11 @@ use native.Mathlib.Omega.{arith}
 use lib.ListN.{length}
 use borrow.Author.Needs.{needs}
 use Rattle.keys.specs.Forms.{Entry, grammarOf}
-use Rattle.keys.specs.Out.{toDo}
-use Rattle.keys.specs.OutLaws.{noded-none, Along, along-none, along-own, along-child, walked, walked-out, one-less}
+use Rattle.keys.specs.Holds.{Spells}
+use Rattle.keys.specs.Moves.{toDo}
+use Rattle.keys.specs.Out.{keyBits}
+use Rattle.keys.specs.OutLaws.{bits-sound}
+use Rattle.keys.specs.MovesLaws.{noded-none, Along, along-none, along-own, along-child, walked, walked-out, one-less}
 use borrow.Fn.Kinds.{In}
 use borrow.Fn.PlainCycle.{Measures, is, falls, and}
 use Rattle.keys.proofs.out.put_node.Reads as put-node
@@ -13,7 +16,7 @@ use Rattle.keys.proofs.out.put_node.Kinds as put-node-kinds
 use Rattle.keys.proofs.out.+put_node.Lts-put_node as put-node-lts
 use Rattle.keys.proofs.forms.row_at.Reads as row-at-reads
 use Rattle.keys.proofs.out.after_child.Reads as after-child-reads
-use Rattle.keys.proofs.out.into_child.Reads as into-child-reads
+use Rattle.keys.proofs.moves.into_child.Reads as into-child-reads
 use Rattle.keys.proofs.out.put_own.Reads as put-own-reads
 use Rattle.keys.proofs.out.put_tag.Reads as put-tag-reads
 use Rattle.keys.proofs.out.+put_node.{statement}
@@ -34,7 +37,7 @@ abbrev R : ℕ → put-node-lts.Claims
 R t = (put-tag-reads.Asked, put-tag-reads.Learnt, row-at-reads.Asked, row-at-reads.Learnt, into-child-reads.Asked, into-child-reads.Learnt, put-node-below t, put-node.Post, after-child-reads.Asked, after-child-reads.Learnt, put-own-reads.Asked, put-own-reads.Learnt)
 
 abbrev put-node-Inv-loop : put-node-lts.InvT-loop
-put-node-Inv-loop forms nodes names text key₀ class left at s₀ key s = Along forms nodes names text (left - 1) s₀ key₀ s key
+put-node-Inv-loop forms nodes names text key₀ class left at s₀ key s = Along keyBits bits-sound forms nodes (Spells names text) (length names) (left - 1) 0 s₀ key₀ s key
 
 abbrev put-node-μ-loop : put-node-lts.MeasureT-loop
 put-node-μ-loop forms nodes names text key₀ class left at s₀ key s = toDo s
@@ -43,7 +46,7 @@ module _ (t : ℕ) where
   returns : put-node-lts.Need-returns (R t) (put-node-at t) put-node.Post put-node-Inv-loop put-node-μ-loop
   returns c =
       let args = c .before .before .before .before .before .before .args in
-      noded-none (grammarOf (args .forms .now)) (args .nodes .now) (args .names .now) (args .text .now) (args .left) (args .class) (args .at) (args .o .name) (args .o .bit) (args .key .now) (search needs) (search needs) (search needs) (search needs)
+      noded-none keyBits (grammarOf (args .forms .now)) (args .nodes .now) (Spells (args .names .now) (args .text .now)) (args .left) 0 (length (args .names .now)) (args .class) (args .at) (args .o .name) (args .o .to) (args .key .now) (search needs) (search needs) (search needs) (search needs)
 
   put-tag-requires : put-node-lts.Need-put-tag-requires (R t) (put-node-at t) put-node.Post put-node-Inv-loop put-node-μ-loop
   put-tag-requires c κs =
@@ -55,16 +58,17 @@ module _ (t : ℕ) where
       let pre = c .before .before .before .before .before .before .before .before .before .before .pre in
       let args = c .before .before .before .before .before .before .before .before .before .before .args in
       let put-tag = c .before .before .put-tag in
-      along-none (args .forms .now) (args .nodes .now) (args .names .now) (args .text .now) (args .left - 1) (put-tag .result) (put-tag .last .1 .1 .0) (put-tag .ensures .ready (length (args .names .now)) (pre .1 .2))
+      along-none keyBits bits-sound (args .forms .now) (args .nodes .now) (Spells (args .names .now) (args .text .now)) (length (args .names .now)) (args .left - 1) 0 (put-tag .result) (put-tag .last .1 .1 .0) (put-tag .ensures (args .names .now) (args .text .now) .ready (length (args .names .now)) (pre .1 .2))
 
   row-at-requires : put-node-lts.Need-row-at-requires (R t) (put-node-at t) put-node.Post put-node-Inv-loop put-node-μ-loop
   row-at-requires c κs = search needs
 
   same-length : put-node-lts.Need-same-length (R t) (put-node-at t) put-node.Post put-node-Inv-loop put-node-μ-loop
   same-length c =
+      let args = c .before .before .before .before .before .before .before .before .before .before .before .before .before .before .before .before .args in
       let put-tag = c .before .before .before .before .before .before .before .before .put-tag in
       let loop = c .before .before .before .before .before .loop in
-      loop .inv .same ∙ put-tag .ensures .same
+      loop .inv .same ∙ put-tag .ensures (args .names .now) (args .text .now) .same
 
   returns-2 : put-node-lts.Need-returns-2 (R t) (put-node-at t) put-node.Post put-node-Inv-loop put-node-μ-loop
   returns-2 c =
@@ -75,7 +79,7 @@ module _ (t : ℕ) where
       let if2 = c .before .before .before .if2 in
       let row-at = c .before .before .row-at in
       let if3 = c .if3 in
-      walked (args .forms .now) (args .nodes .now) (args .names .now) (args .text .now) (args .left - 1) (put-tag .result) (put-tag .last .1 .1 .0) (args .class) (args .at) (args .o) (args .key .now) (put-tag .ensures) (args .left) (one-less (args .left) (if1 .left)) (loop .inv) (row-at .result) (row-at .ensures) (if2 .taken) (if3 .taken)
+      walked keyBits bits-sound (args .forms .now) (args .nodes .now) (Spells (args .names .now) (args .text .now)) (length (args .names .now)) (args .left - 1) 0 (put-tag .result) (put-tag .last .1 .1 .0) (args .class) (args .at) (args .o) (args .key .now) (put-tag .ensures (args .names .now) (args .text .now)) (args .left) (one-less (args .left) (if1 .left)) (loop .inv) (row-at .result) (row-at .ensures) (if2 .taken) (if3 .taken)
 
   into-child-requires : put-node-lts.Need-into-child-requires (R t) (put-node-at t) put-node.Post put-node-Inv-loop put-node-μ-loop
   into-child-requires c κs = search needs
@@ -89,7 +93,7 @@ module _ (t : ℕ) where
       let if1 = c .before .before .before .before .before .before .before .before .before .before .before .before .before .if1 in
       let loop = c .before .before .before .before .before .before .before .before .loop in
       let row-at = c .before .before .before .before .before .row-at in
-      (omega (arith, pre .0, if1 .left), (loop .inv .ready .short, loop .inv .ready .inKey, loop .inv .ready .inNames, row-at .ensures .from, loop .inv .ready .inNodes, pre .1 .5))
+      (omega (arith, pre .0, if1 .left), (loop .inv .ready .short, loop .inv .ready .near, loop .inv .ready .inNames, row-at .ensures .from, loop .inv .ready .inNodes, pre .1 .5))
 
   after-child-requires : put-node-lts.Need-after-child-requires (R t) (put-node-at t) put-node.Post put-node-Inv-loop put-node-μ-loop
   after-child-requires c κs =
@@ -119,7 +123,7 @@ module _ (t : ℕ) where
       let if4 = c .before .before .before .before .before .before .before .before .if4 in
       let put-node = c .before .before .before .before .before .before .put-node in
       let after-child = c .before .before .after-child in
-      along-child (args .forms .now) (args .nodes .now) (args .names .now) (args .text .now) (args .left - 1) (put-tag .result) (put-tag .last .1 .1 .0) (loop .inv) (row-at .result) (row-at .ensures) (if2 .taken) (into-child .ensures .0 (if4 .taken) .0) (into-child .ensures .0 (if4 .taken) .1) (put-node .ensures) (after-child .ensures)
+      along-child keyBits bits-sound (args .forms .now) (args .nodes .now) (Spells (args .names .now) (args .text .now)) (length (args .names .now)) (args .left - 1) 0 (put-tag .result) (put-tag .last .1 .1 .0) (loop .inv) (row-at .result) (row-at .ensures) (if2 .taken) (into-child .ensures .0 (if4 .taken) .0) (into-child .ensures .0 (if4 .taken) .1) (put-node .ensures) (after-child .ensures)
 
   put-own-requires : put-node-lts.Need-put-own-requires (R t) (put-node-at t) put-node.Post put-node-Inv-loop put-node-μ-loop
   put-own-requires c κs =
@@ -143,13 +147,14 @@ module _ (t : ℕ) where
       let put-tag = c .before .before .before .before .before .before .before .before .before .before .before .before .before .before .put-tag in
       let loop = c .before .before .before .before .before .before .before .before .before .before .before .loop in
       let put-own = c .before .before .put-own in
-      along-own (args .forms .now) (args .nodes .now) (args .names .now) (args .text .now) (args .left - 1) (put-tag .result) (put-tag .last .1 .1 .0) (loop .inv) (put-own .ensures)
+      along-own keyBits bits-sound (args .forms .now) (args .nodes .now) (Spells (args .names .now) (args .text .now)) (length (args .names .now)) (args .left - 1) 0 (put-tag .result) (put-tag .last .1 .1 .0) (loop .inv) (put-own .ensures)
 
   same-length-2 : put-node-lts.Need-same-length-2 (R t) (put-node-at t) put-node.Post put-node-Inv-loop put-node-μ-loop
   same-length-2 c =
+      let args = c .before .before .before .before .before .before .before .before .before .before .before .before .before .args in
       let put-tag = c .before .before .before .before .before .put-tag in
       let loop = c .before .before .loop in
-      loop .inv .same ∙ put-tag .ensures .same
+      loop .inv .same ∙ put-tag .ensures (args .names .now) (args .text .now) .same
 
   returns-3 : put-node-lts.Need-returns-3 (R t) (put-node-at t) put-node.Post put-node-Inv-loop put-node-μ-loop
   returns-3 c =
@@ -158,7 +163,7 @@ module _ (t : ℕ) where
       let put-tag = c .before .before .before .before .before .put-tag in
       let loop = c .before .before .loop in
       let if2 = c .if2 in
-      walked-out (args .forms .now) (args .nodes .now) (args .names .now) (args .text .now) (args .left - 1) (put-tag .result) (put-tag .last .1 .1 .0) (args .class) (args .at) (args .o) (args .key .now) (put-tag .ensures) (args .left) (one-less (args .left) (if1 .left)) (loop .inv) (omega (arith, if2 .left))
+      walked-out keyBits bits-sound (args .forms .now) (args .nodes .now) (Spells (args .names .now) (args .text .now)) (length (args .names .now)) (args .left - 1) 0 (put-tag .result) (put-tag .last .1 .1 .0) (args .class) (args .at) (args .o) (args .key .now) (put-tag .ensures (args .names .now) (args .text .now)) (args .left) (one-less (args .left) (if1 .left)) (loop .inv) (omega (arith, if2 .left))
 
 pub +put-node-spec : {M : Type 1} → statement M
 +put-node-spec = close μ-put-node λ t. put-node-lts.spec (R t)

@@ -1,4 +1,8 @@
-use Rattle.keys.specs.OutLaws.{after-plain, after-spelling, after-as}
+use lib.ListN.{length}
+use Rattle.keys.specs.Holds.{Spells}
+use Rattle.keys.specs.Out.{keyBits}
+use Rattle.keys.specs.OutLaws.{bits-sound}
+use Rattle.keys.specs.MovesLaws.{after-plain, after-spelling, after-as}
 use borrow.Author.Needs.{needs}
 use Rattle.keys.proofs.out.after_child.Statement.{statement}
 use Rattle.keys.proofs.out.after_child.Tie as tie
@@ -16,7 +20,7 @@ returns c =
     let next-of = c .before .before .next-of in
     let if1 = c .before .if1 in
     let beside = c .beside in
-    after-as (beside .ensures) (after-plain (args .nodes .now) (args .names .now) (args .text .now) (args .w) (args .s) (args .o) (args .key .now) (pre .5) (pre .7) (pre .8) (next-of .result) (next-of .ensures .0) (next-of .ensures .1) (if1 .taken) (pre .0) (pre .1) (pre .2))
+    after-as (beside .ensures) (after-plain keyBits bits-sound (args .nodes .now) (Spells (args .names .now) (args .text .now)) (length (args .names .now)) (args .w) 0 (args .s) (args .o) (args .key .now) (pre .5) (pre .7) (pre .8) (next-of .result) (next-of .ensures .0) (next-of .ensures .1) (if1 .taken) (pre .0) (pre .1) (pre .2))
 
 put-spelling-requires : tie.Need-put-spelling-requires
 put-spelling-requires c κs = search needs
@@ -35,7 +39,7 @@ returns-2 c =
     let if1 = c .before .before .before .before .before .if1 in
     let put-spelling = c .before .before .before .put-spelling in
     let beside2 = c .beside2 in
-    after-as (beside2 .ensures) (after-spelling (args .nodes .now) (args .names .now) (args .text .now) (args .w) (args .s) (args .o) (args .key .now) (pre .5) (pre .7) (pre .8) (next-of .result) (next-of .ensures .0) (next-of .ensures .1) (if1 .left) (put-spelling .result .name) (put-spelling .result .bit) (put-spelling .last .1 .1 .0) (put-spelling .ensures))
+    after-as (beside2 .ensures) (after-spelling keyBits bits-sound (args .nodes .now) (Spells (args .names .now) (args .text .now)) (length (args .names .now)) (args .w) 0 (args .s) (args .o) (args .key .now) (pre .5) (pre .7) (pre .8) (next-of .result) (next-of .ensures .0) (next-of .ensures .1) (if1 .left) (put-spelling .result .name) (put-spelling .result .to) (put-spelling .last .1 .1 .0) (put-spelling .ensures))
 
 pub after-child-spec : {M : Type 1} → statement M
 after-child-spec =

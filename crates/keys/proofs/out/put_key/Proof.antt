@@ -5,7 +5,9 @@ use Prim.Native.Nat.{ℕ}
 use lib.ListN.{length}
 use Rattle.keys.specs.Forms.{grammarOf, Narrow}
 use Rattle.keys.specs.FormsLaws.{words-narrow}
-use Rattle.keys.specs.Out.{Noded}
+use Rattle.keys.specs.Holds.{Spells}
+use Rattle.keys.specs.Moves.{Noded}
+use Rattle.keys.specs.Out.{keyBits}
 use Rattle.keys.specs.KeyedLaws.{keyed, zeros, bytes-of}
 use borrow.Author.Needs.{needs}
 use Rattle.keys.proofs.out.put_key.Statement.{statement}
@@ -42,7 +44,7 @@ returns c =
     let put-number = c .before .before .before .before .before .before .before .before .put-number in
     let put-node = c .before .before .before .put-node in
     let slice-known4 = c .before .slice-known4 in
-    keyed (args .nodes .now) (args .names .now) (args .text .now) (args .root) (args .tall) (length (args .key .now)) (put-node .result .name) (put-number .result) (put-node .result .bit) (clear-bytes .last .0) (put-number .last .0) (put-node .last .1 .1 .1 .1 .0) (zeros (clear-bytes .last .0) (args .key .now) (clear-bytes .ensures)) (put-number .ensures) (subst (λ (T : List ℕ). Noded (grammarOf T) (args .nodes .now) (args .names .now) (args .text .now) (args .tall) 0 (args .root) 0 (put-number .result) (put-number .last .0) (put-node .result .name) (put-node .result .bit) (put-node .last .1 .1 .1 .1 .0)) (words .ensures) (put-node .ensures)) (bytes-of (put-node .last .1 .1 .1 .1 .0) (λ i. omega (arith, slice-known4 .given i)))
+    keyed (args .nodes .now) (args .names .now) (args .text .now) (args .root) (args .tall) (length (args .key .now)) (put-node .result .name) (put-number .result) (put-node .result .to) (clear-bytes .last .0) (put-number .last .0) (put-node .last .1 .1 .1 .1 .0) (zeros (clear-bytes .last .0) (args .key .now) (clear-bytes .ensures)) (put-number .ensures) (subst (λ (T : List ℕ). Noded keyBits (grammarOf T) (args .nodes .now) (Spells (args .names .now) (args .text .now)) (args .tall) 0 (length (args .names .now)) 0 (args .root) 0 (put-number .result) (put-number .last .0) (put-node .result .name) (put-node .result .to) (put-node .last .1 .1 .1 .1 .0)) (words .ensures) (put-node .ensures)) (bytes-of (put-node .last .1 .1 .1 .1 .0) (λ i. omega (arith, slice-known4 .given i)))
 
 pub put-key-spec : {M : Type 1} → statement M
 put-key-spec =

@@ -1,4 +1,8 @@
-use Rattle.keys.specs.OutLaws.{own-spelling, own-spellings, own-next, own-stop, own-as, no-other}
+use lib.ListN.{length}
+use Rattle.keys.specs.Holds.{Spells}
+use Rattle.keys.specs.Out.{keyBits}
+use Rattle.keys.specs.OutLaws.{bits-sound}
+use Rattle.keys.specs.MovesLaws.{own-spelling, own-spellings, own-next, own-stop, own-as, no-other}
 use borrow.Author.Needs.{needs}
 use Rattle.keys.proofs.out.put_said.Statement.{statement}
 use Rattle.keys.proofs.out.put_said.Tie as tie
@@ -21,7 +25,7 @@ returns c =
     let args = c .before .before .before .before .before .before .before .before .before .before .before .args in
     let put-spelling = c .before .before .before .before .put-spelling in
     let moved = c .moved in
-    own-as (moved .ensures) (own-spelling (args .forms .now) (args .names .now) (args .text .now) (args .s) (args .key .now) (pre .0) (args .r) (pre .1) (pre .3) (search needs) (put-spelling .result .name) (put-spelling .result .bit) (put-spelling .last .1 .1 .0) (put-spelling .ensures))
+    own-as (moved .ensures) (own-spelling keyBits bits-sound (args .forms .now) (Spells (args .names .now) (args .text .now)) (length (args .names .now)) 0 (args .s) (args .key .now) (pre .0) (args .r) (pre .1) (pre .3) (search needs) (put-spelling .result .name) (put-spelling .result .to) (put-spelling .last .1 .1 .0) (put-spelling .ensures))
 
 sub-moved-2 : tie.Need-sub-moved-2
 sub-moved-2 c = search needs
@@ -34,7 +38,7 @@ returns-2 c =
     let pre = c .before .before .before .before .before .before .before .before .pre in
     let args = c .before .before .before .before .before .before .before .before .args in
     let moved2 = c .moved2 in
-    own-as (moved2 .ensures) (own-next (args .forms .now) (args .names .now) (args .text .now) (args .s) (args .key .now) (pre .0) (args .r) (pre .1) (pre .3) (search needs) (pre .4) (pre .5) (search needs))
+    own-as (moved2 .ensures) (own-next keyBits bits-sound (args .forms .now) (Spells (args .names .now) (args .text .now)) (length (args .names .now)) 0 (args .s) (args .key .now) (pre .0) (args .r) (pre .1) (pre .3) (search needs) (pre .4) (pre .5) (search needs))
 
 put-spelling-requires-2 : tie.Need-put-spelling-requires-2
 put-spelling-requires-2 c κs = search needs
@@ -54,7 +58,7 @@ returns-3 c =
     let args = c .before .before .before .before .before .before .before .before .before .before .before .before .args in
     let put-spelling2 = c .before .before .before .put-spelling2 in
     let moved3 = c .moved3 in
-    own-as (moved3 .ensures) (own-spellings (args .forms .now) (args .names .now) (args .text .now) (args .s) (args .key .now) (pre .0) (args .r) (pre .1) (pre .3) (search needs) (search needs) (put-spelling2 .result .name) (put-spelling2 .result .bit) (put-spelling2 .last .1 .1 .0) (put-spelling2 .ensures))
+    own-as (moved3 .ensures) (own-spellings keyBits bits-sound (args .forms .now) (Spells (args .names .now) (args .text .now)) (length (args .names .now)) 0 (args .s) (args .key .now) (pre .0) (args .r) (pre .1) (pre .3) (search needs) (search needs) (put-spelling2 .result .name) (put-spelling2 .result .to) (put-spelling2 .last .1 .1 .0) (put-spelling2 .ensures))
 
 moved-requires-4 : tie.Need-moved-requires-4
 moved-requires-4 c κs = search needs
@@ -67,7 +71,7 @@ returns-4 c =
     let if2 = c .before .before .if2 in
     let if3 = c .before .if3 in
     let moved4 = c .moved4 in
-    own-as (moved4 .ensures) (own-stop (args .forms .now) (args .names .now) (args .text .now) (args .s) (args .key .now) (pre .0) (args .r) (pre .1) (pre .3) (no-other (args .r .op) (args .s .n) (pre .4) (pre .5) (if1 .left) (pre .6) (if2 .left) (if3 .left)))
+    own-as (moved4 .ensures) (own-stop keyBits bits-sound (args .forms .now) (Spells (args .names .now) (args .text .now)) (length (args .names .now)) 0 (args .s) (args .key .now) (pre .0) (args .r) (pre .1) (pre .3) (no-other (args .r .op) (args .s .n) (pre .4) (pre .5) (if1 .left) (pre .6) (if2 .left) (if3 .left)))
 
 pub put-said-spec : {M : Type 1} → statement M
 put-said-spec =

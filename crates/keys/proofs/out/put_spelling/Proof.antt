@@ -6,7 +6,7 @@ use Rattle.keys.proofs.out.put_spelling.Tie as tie
 returns : tie.Need-returns
 returns c =
     let args = c .before .before .before .before .args in
-    spelled-past (args .names .now) (args .text .now) (args .w) (args .o .name) (args .o .bit) (args .key .now) (search needs) (search needs) (search needs) (search needs)
+    spelled-past (args .names .now) (args .text .now) (args .w) (args .o .name) (args .o .to) (args .key .now) (search needs) (search needs) (search needs) (search needs)
 
 name-at-requires : tie.Need-name-at-requires
 name-at-requires c κs = search needs
@@ -18,7 +18,7 @@ returns-2 : tie.Need-returns-2
 returns-2 c =
     let args = c .before .before .before .before .before .before .args in
     let name-at = c .before .name-at in
-    spelled-out (args .names .now) (args .text .now) (args .w) (args .o .name) (args .o .bit) (args .key .now) (search needs) (search needs) (search needs) (name-at .result .start) (name-at .result .size) (name-at .ensures .0) (name-at .ensures .1) (search needs)
+    spelled-out (args .names .now) (args .text .now) (args .w) (args .o .name) (args .o .to) (args .key .now) (search needs) (search needs) (search needs) (name-at .result .start) (name-at .result .size) (name-at .ensures .0) (name-at .ensures .1) (search needs)
 
 cast-put-number : tie.Need-cast-put-number
 cast-put-number c = search needs
@@ -41,7 +41,7 @@ returns-3 c =
     let name-at = c .before .before .before .before .before .before .before .before .before .name-at in
     let put-number = c .before .before .before .before .before .before .put-number in
     let put-text = c .before .before .put-text in
-    spelled-put (args .names .now) (args .text .now) (args .w) (args .o .name) (args .o .bit) (args .key .now) (search needs) (search needs) (search needs) (name-at .result .start) (name-at .result .size) (put-number .result) (put-text .result) (put-number .last .0) (put-text .last .1 .1 .1 .0) (name-at .ensures .0) (name-at .ensures .1) (search needs) (search needs) (put-number .ensures) (put-text .ensures)
+    spelled-put (args .names .now) (args .text .now) (args .w) (args .o .name) (args .o .to) (args .key .now) (search needs) (search needs) (search needs) (name-at .result .start) (name-at .result .size) (put-number .result) (put-text .result) (put-number .last .0) (put-text .last .1 .1 .1 .0) (name-at .ensures .0) (name-at .ensures .1) (search needs) (search needs) (put-number .ensures) (put-text .ensures)
 
 pub put-spelling-spec : {M : Type 1} → statement M
 put-spelling-spec =

@@ -1,7 +1,11 @@
 use Prim.Native.Nat.{_≤_}
 use mathlib.Core.Path.{sym, subst}
 use Rattle.keys.specs.Forms.{Entry}
-use Rattle.keys.specs.OutLaws.{begun}
+use Rattle.keys.specs.Holds.{Spells}
+use Rattle.keys.specs.PutLaws.{put-none}
+use Rattle.keys.specs.MovesLaws.{begun}
+use Rattle.keys.specs.Out.{keyBits}
+use Rattle.keys.specs.OutLaws.{bits-sound}
 use borrow.Author.Needs.{needs}
 use Rattle.keys.proofs.out.put_tag.Statement.{statement}
 use Rattle.keys.proofs.out.put_tag.Tie as tie
@@ -12,11 +16,21 @@ node-at-requires c κs = search needs
 class-at-requires : tie.Need-class-at-requires
 class-at-requires c κs = search needs
 
-put-choice-requires : tie.Need-put-choice-requires
-put-choice-requires c κs =
-    let pre = c .before .before .before .before .before .before .pre in
-    let args = c .before .before .before .before .before .before .args in
-    let class-at = c .before .class-at in
+choice-of-requires : tie.Need-choice-of-requires
+choice-of-requires c κs =
+    let pre = c .before .before .before .before .before .pre in
+    let args = c .before .before .before .before .before .args in
+    let class-at = c .class-at in
+    subst (λ (x : Entry). x .w ≤ 31) (sym (class-at .ensures .is)) (pre .4 .tag (args .class))
+
+cast-put-number : tie.Need-cast-put-number
+cast-put-number c = search needs
+
+put-number-requires : tie.Need-put-number-requires
+put-number-requires c κs =
+    let pre = c .before .before .before .before .before .before .before .before .pre in
+    let args = c .before .before .before .before .before .before .before .before .args in
+    let class-at = c .before .before .before .class-at in
     (search needs, search needs, subst (λ (x : Entry). x .w ≤ 31) (sym (class-at .ensures .is)) (pre .4 .tag (args .class)))
 
 listed-at-requires : tie.Need-listed-at-requires
@@ -30,13 +44,15 @@ same-length c = search needs
 
 returns : tie.Need-returns
 returns c =
-    let args = c .before .before .before .before .before .before .before .before .before .before .before .args in
-    let node-at = c .before .before .before .before .before .before .before .node-at in
-    let class-at = c .before .before .before .before .before .before .class-at in
-    let put-choice = c .before .before .before .before .put-choice in
+    let pre = c .before .before .before .before .before .before .before .before .before .before .before .before .before .pre in
+    let args = c .before .before .before .before .before .before .before .before .before .before .before .before .before .args in
+    let node-at = c .before .before .before .before .before .before .before .before .before .node-at in
+    let class-at = c .before .before .before .before .before .before .before .before .class-at in
+    let choice-of = c .before .before .before .before .before .before .before .choice-of in
+    let put-number = c .before .before .before .before .put-number in
     let listed-at = c .before .listed-at in
     let word-at = c .word-at in
-    begun (args .forms .now) (args .nodes .now) (args .class) (args .at) (args .o) (args .key .now) (node-at .result .word) (node-at .result .child) (class-at .result) (put-choice .result .number) (put-choice .result .bit) (put-choice .result .word) (put-choice .last .0) (listed-at .result) (word-at .result) (node-at .ensures .0) (node-at .ensures .1) (node-at .ensures .2) (class-at .ensures) (put-choice .ensures .0) (put-choice .ensures .1) (put-choice .ensures .2) (listed-at .ensures) (word-at .ensures .0) (word-at .ensures .1)
+    λ M X. begun keyBits bits-sound (args .forms .now) (args .nodes .now) (Spells M X) 0 (args .class) (args .at) (args .o) (args .key .now) (node-at .result .word) (node-at .result .child) (class-at .result) (choice-of .result .number) (choice-of .result .word) (args .o .to) (args .key .now) (put-number .result) (put-number .last .0) (listed-at .result) (word-at .result) (node-at .ensures .0) (node-at .ensures .1) (node-at .ensures .2) (class-at .ensures) (choice-of .ensures .0) (choice-of .ensures .1) (put-none (args .o .to) (args .key .now) (pre .1) (pre .0)) (put-number .ensures) (listed-at .ensures) (word-at .ensures .0) (word-at .ensures .1)
 
 pub put-tag-spec : {M : Type 1} → statement M
 put-tag-spec =
@@ -44,7 +60,9 @@ put-tag-spec =
     (tie.spec
     node-at-requires
     class-at-requires
-    put-choice-requires
+    choice-of-requires
+    cast-put-number
+    put-number-requires
     listed-at-requires
     word-at-requires
     same-length

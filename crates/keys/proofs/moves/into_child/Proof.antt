@@ -1,7 +1,7 @@
 use borrow.Author.Needs.{needs}
 use Rattle.keys.specs.BitsLaws.{clash}
-use Rattle.keys.proofs.out.into_child.Statement.{statement}
-use Rattle.keys.proofs.out.into_child.Tie as tie
+use Rattle.keys.proofs.moves.into_child.Statement.{statement}
+use Rattle.keys.proofs.moves.into_child.Tie as tie
 
 returns : tie.Need-returns
 returns c =
