@@ -82,11 +82,11 @@ module _ (G : Grammar) where
 
 -- ---- A list that stands in another from a place
 
-record In (L : List ℕ) (at : ℕ) (l : List ℕ) : Type 0 where
-  before : List ℕ
-  after : List ℕ
-  is : L ≡ before ++ (l ++ after)
-  size : length before ≡ at
+pub record In (L : List ℕ) (at : ℕ) (l : List ℕ) : Type 0 where
+  pub before : List ℕ
+  pub after : List ℕ
+  pub is : L ≡ before ++ (l ++ after)
+  pub size : length before ≡ at
 
 in-left : {L : List ℕ} {at : ℕ} (l r : List ℕ) → In L at (l ++ r) → In L at l
 in-left l r d = record { before = d .before; after = r ++ d .after; is = d .is ∙ ap (λ (x : List ℕ). d .before ++ x) (append-assoc l r (d .after)); size = d .size }
@@ -109,7 +109,7 @@ in-tail x r n e d = in-right (x ∷ []) r n e d
 in-long : {L : List ℕ} {at : ℕ} (l : List ℕ) → In L at l → at + length l ≤ length L
 in-long {L} {at} l d = omega (arith, ap length (d .is), length-append (d .before) (l ++ d .after), length-append l (d .after), d .size)
 
-in-front : (L l : List ℕ) → take (length l) L ≡ l → In L 0 l
+pub in-front : (L l : List ℕ) → take (length l) L ≡ l → In L 0 l
 in-front L l e =
     record { before = []; after = drop (length l) L; is = sym (take-append-drop (length l) L) ∙ ap (λ (x : List ℕ). x ++ drop (length l) L) e; size = refl }
 
@@ -179,6 +179,38 @@ mod-is k p y h = ap (λ (x : ℕ). x % p) (add-comm k (p * y) ∙ ap (λ (x : �
 div-is : (k p y : ℕ) → k < p → (k + p * y) / p ≡ y
 div-is k p y h = ap (λ (x : ℕ). x / p) (add-comm k (p * y) ∙ ap (λ (x : ℕ). x + k) (mul-comm p y)) ∙ digits-div y h
 
+-- What stands of a first child and of the others: the child's words and links, and where its records and those of the others are.
+pub record Kid (N : List ℕ) (a t : Run) (b m n next : ℕ) : Type 0 where
+  pub inside : In N (b * 4) (records a b m 0)
+  pub others : In N ((b + under a + 1) * 4) (records t (b + under a + 1) (m + called a) n)
+  pub word : wordAt N next ≡ packed a
+  pub child : childAt N next ≡ firstKid a b 0
+  pub sibling : nextAt N next ≡ firstKid t (b + under a + 1) n
+
+pub kid-in : (N : List ℕ) (first end : ℕ) (a t : Run) (b m n next : ℕ) → In N (b * 4) (records (kid first end a t) b m n) → b + under (kid first end a t) < 2 ^ 32 → n < 2 ^ 32
+    → next ≡ firstKid (kid first end a t) b n → Kid N a t b m n next
+kid-in N first end a t b m n next p h l f =
+    let i1 : In N (b * 4) (records a b m 0 ++ recordOf first end a b m (firstKid t (b + under a + 1) n)) =
+    in-left (records a b m 0 ++ recordOf first end a b m (firstKid t (b + under a + 1) n)) (records t (b + under a + 1) (m + called a) n) p in
+    let la : length (records a b m 0) ≡ 4 * under a = length-records a b m 0 in
+    let lt : length (records a b m 0 ++ recordOf first end a b m (firstKid t (b + under a + 1) n)) ≡ length (records a b m 0) + 4 =
+    length-append (records a b m 0) (recordOf first end a b m (firstKid t (b + under a + 1) n)) in
+    let i2 : In N (next * 4) (recordOf first end a b m (firstKid t (b + under a + 1) n)) =
+    in-right (records a b m 0) (recordOf first end a b m (firstKid t (b + under a + 1) n)) (next * 4) (omega arith) i1 in
+    let i3 = in-tail (packed a) ((first + 2 ^ 32 * end) ∷ (firstKid a b 0 + 2 ^ 32 * m) ∷ firstKid t (b + under a + 1) n ∷ []) (next * 4 + 1) refl i2 in
+    let i4 = in-tail (first + 2 ^ 32 * end) ((firstKid a b 0 + 2 ^ 32 * m) ∷ firstKid t (b + under a + 1) n ∷ []) (next * 4 + 2) (omega arith) i3 in
+    let i5 = in-tail (firstKid a b 0 + 2 ^ 32 * m) (firstKid t (b + under a + 1) n ∷ []) (next * 4 + 3) (omega arith) i4 in
+    record {
+      inside = in-left (records a b m 0) (recordOf first end a b m (firstKid t (b + under a + 1) n)) i1;
+      others =
+          in-right (records a b m 0 ++ recordOf first end a b m (firstKid t (b + under a + 1) n)) (records t (b + under a + 1) (m + called a) n) ((b + under a + 1) * 4) (omega arith) p;
+      word = in-head (packed a) ((first + 2 ^ 32 * end) ∷ (firstKid a b 0 + 2 ^ 32 * m) ∷ firstKid t (b + under a + 1) n ∷ []) i2;
+      child =
+          ap (λ (i : ℕ). i % 2 ^ 32) (in-head (firstKid a b 0 + 2 ^ 32 * m) (firstKid t (b + under a + 1) n ∷ []) i4)
+          ∙ low-is (firstKid a b 0) m (first-lt a b 0 (omega arith) (omega arith));
+      sibling = ap (λ (i : ℕ). i % 2 ^ 32) (in-head (firstKid t (b + under a + 1) n) [] i5) ∙ mod-eq-of-lt (first-lt t (b + under a + 1) n (omega arith) l);
+    }
+
 module _ (N M X : List ℕ) where
   spells-in : (m x : ℕ) (s r : List ℕ) → 1 ≤ length s → In M m (nameOf x s ∷ r) → pointed X (nameOf x s) ≡ s → Spells M X m s
   spells-in m x s r h d e =
@@ -205,30 +237,16 @@ module _ (N M X : List ℕ) where
   holds-run (name x s t) b m n p q (r, u) h l (z, y) choices next e f =
       (spells-in m x s (namesIn t) z q r, holds-run t b (m + 1) n p (in-tail (nameOf x s) (namesIn t) (m + 1) refl q) u h l y choices next e f)
   holds-run (kid first end a t) b m n p q (r, u) h l (z, y) choices next e f =
-      let i1 : In N (b * 4) (records a b m 0 ++ recordOf first end a b m (firstKid t (b + under a + 1) n)) =
-      in-left (records a b m 0 ++ recordOf first end a b m (firstKid t (b + under a + 1) n)) (records t (b + under a + 1) (m + called a) n) p in
-      let la : length (records a b m 0) ≡ 4 * under a = length-records a b m 0 in
-      let lt : length (records a b m 0 ++ recordOf first end a b m (firstKid t (b + under a + 1) n)) ≡ length (records a b m 0) + 4 =
-      length-append (records a b m 0) (recordOf first end a b m (firstKid t (b + under a + 1) n)) in
-      let i2 : In N (next * 4) (recordOf first end a b m (firstKid t (b + under a + 1) n)) =
-      in-right (records a b m 0) (recordOf first end a b m (firstKid t (b + under a + 1) n)) (next * 4) (omega arith) i1 in
-      let i3 = in-tail (packed a) ((first + 2 ^ 32 * end) ∷ (firstKid a b 0 + 2 ^ 32 * m) ∷ firstKid t (b + under a + 1) n ∷ []) (next * 4 + 1) refl i2 in
-      let i4 = in-tail (first + 2 ^ 32 * end) ((firstKid a b 0 + 2 ^ 32 * m) ∷ firstKid t (b + under a + 1) n ∷ []) (next * 4 + 2) (omega arith) i3 in
-      let i5 = in-tail (firstKid a b 0 + 2 ^ 32 * m) (firstKid t (b + under a + 1) n ∷ []) (next * 4 + 3) (omega arith) i4 in (
-        holds-run a b m 0 (in-left (records a b m 0) (recordOf first end a b m (firstKid t (b + under a + 1) n)) i1) (in-left (namesIn a) (namesIn t) q) r
-            (omega arith) (omega arith) z (wordAt N next) (childAt N next)
-            (in-head (packed a) ((first + 2 ^ 32 * end) ∷ (firstKid a b 0 + 2 ^ 32 * m) ∷ firstKid t (b + under a + 1) n ∷ []) i2)
-            (ap (λ (i : ℕ). i % 2 ^ 32) (in-head (firstKid a b 0 + 2 ^ 32 * m) (firstKid t (b + under a + 1) n ∷ []) i4) ∙ low-is (firstKid a b 0) m (first-lt a b 0 (omega arith) (omega arith))),
-        holds-run t (b + under a + 1) (m + called a) n
-            (in-right (records a b m 0 ++ recordOf first end a b m (firstKid t (b + under a + 1) n)) (records t (b + under a + 1) (m + called a) n) ((b + under a + 1) * 4) (omega arith) p)
+      let d = kid-in N first end a t b m n next p h l f in (
+        holds-run a b m 0 (d .inside) (in-left (namesIn a) (namesIn t) q) r (omega arith) (omega arith) z (wordAt N next) (childAt N next) (d .word) (d .child),
+        holds-run t (b + under a + 1) (m + called a) n (d .others)
             (in-right (namesIn a) (namesIn t) (m + called a) (ap (λ (i : ℕ). m + i) (sym (length-namesIn a))) q) u
-            (omega arith) l y choices (nextAt N next) e
-            (ap (λ (i : ℕ). i % 2 ^ 32) (in-head (firstKid t (b + under a + 1) n) [] i5) ∙ mod-eq-of-lt (first-lt t (b + under a + 1) n (omega arith) l)),
+            (omega arith) l y choices (nextAt N next) e (d .sibling),
       )
 
   -- ---- A tree that stands in a store
 
-  root-is : (p : Placed) → Fits nodeTable type (bare p) → (root : ℕ) → root + 1 ≡ nodes (bare p) → root ≡ firstKid (runOf p) 0 0
+  pub root-is : (p : Placed) → Fits nodeTable type (bare p) → (root : ℕ) → root + 1 ≡ nodes (bare p) → root ≡ firstKid (runOf p) 0 0
   root-is void f root e = absurd (omega arith)
   root-is (said x s) f root e = absurd (omega arith)
   root-is (pick k p) f root e = absurd (none f)

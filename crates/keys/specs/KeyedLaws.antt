@@ -72,11 +72,11 @@ pub bytes-of : (l : List ℕ) → ((i : ℕ) → getD l i 0 < 2 ^ 8) → Bytes l
 bytes-of [] h = tt
 bytes-of (x ∷ l) h = (h 0, bytes-of l (λ i. h (suc i)))
 
--- Bits stored into zeros from the start.
-sets-zeros : (m j : ℕ) (bs : Bits) → m ≤ j → sets (replicate m false) 0 bs ≡ take m (bs ++ replicate j false)
-sets-zeros m j [] h = take-copies false m j h
-sets-zeros zero j (b ∷ bs) h = sets-past (b ∷ bs) [] 0 (omega arith)
-sets-zeros (suc m) j (b ∷ bs) h = sets-cons bs b (replicate m false) ∙ ap (λ (x : Bits). b ∷ x) (sets-zeros m j bs (omega arith))
+-- Items stored into copies of one from the start.
+pub sets-copies : {A : Type 0} (a : A) (m j : ℕ) (vs : List A) → m ≤ j → sets (replicate m a) 0 vs ≡ take m (vs ++ replicate j a)
+sets-copies a m j [] h = take-copies a m j h
+sets-copies a zero j (v ∷ vs) h = sets-past (v ∷ vs) [] 0 (omega arith)
+sets-copies {A} a (suc m) j (v ∷ vs) h = sets-cons vs v (replicate m a) ∙ ap (λ (x : List A). v ∷ x) (sets-copies a m j vs (omega arith))
 
 -- Bytes whose bits are bits stored into zeros from the start are the packed bytes and zeros, as many as there are.
 packed-in : (n : ℕ) (bs : Bits) (k : List ℕ) → Bytes k → bitsOfBytes k ≡ sets (bitsOfBytes (replicate n 0)) 0 bs → k ≡ fitted n (bytesOf bs)
@@ -85,7 +85,7 @@ packed-in n bs k b e =
     (e ∙ left ∙ sym right)
   where
     left : sets (bitsOfBytes (replicate n 0)) 0 bs ≡ take (n * 8) (bs ++ replicate (gap (length bs) + n * 8) false)
-    left = ap (λ (x : Bits). sets x 0 bs) (bits-zeros n) ∙ sets-zeros (n * 8) (gap (length bs) + n * 8) bs (omega arith)
+    left = ap (λ (x : Bits). sets x 0 bs) (bits-zeros n) ∙ sets-copies false (n * 8) (gap (length bs) + n * 8) bs (omega arith)
 
     right : bitsOfBytes (fitted n (bytesOf bs)) ≡ take (n * 8) (bs ++ replicate (gap (length bs) + n * 8) false)
     right =

@@ -32,4 +32,5 @@ pub mod MovesLaws
 pub mod OutLaws
 pub mod HoldsLaws
 pub mod KeyedLaws
+pub mod VisitsLaws
 pub mod Theorems

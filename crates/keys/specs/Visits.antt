@@ -1,7 +1,7 @@
 -- Visits: what a tree holds in the key's order, as words that a printer goes through, and what a walk answers.
 use mathlib.Core.Path.{_≡_}
 use mathlib.Core.List.{List, [], _∷_, _++_}
-use Prim.Native.Nat.{ℕ, suc, _+_, _*_, _≤_, _<_, min}
+use Prim.Native.Nat.{ℕ, _+_, _*_, _≤_, _<_, min}
 use lib.ListN.{length}
 use lib.Seq.{sets}
 use Rattle.keys.specs.Form.{height, nodes}
@@ -14,13 +14,15 @@ use Rattle.keys.specs.Out.{fitted}
 
 -- ---- The visits of a tree
 
--- The kinds of visits: a node, a choice, a name.
+-- The kind of a visit to a node.
 abbrev pub nodeVisit : ℕ
 nodeVisit = 1
 
+-- The kind of a visit to a choice; a node's first is its tag.
 abbrev pub choiceVisit : ℕ
 choiceVisit = 2
 
+-- The kind of a visit to a name.
 abbrev pub nameVisit : ℕ
 nameVisit = 3
 
@@ -34,7 +36,7 @@ visits done b m depth = []
 visits (chose w k r) b m depth = visit choiceVisit k depth ++ visits r b m depth
 visits (name x s r) b m depth = visit nameVisit m depth ++ visits r b (m + 1) depth
 visits (kid first end a r) b m depth =
-    (visit nodeVisit (b + under a) depth ++ visits a b m (suc depth)) ++ visits r (b + under a + 1) (m + called a) depth
+    (visit nodeVisit (b + under a) depth ++ visits a b m (depth + 1)) ++ visits r (b + under a + 1) (m + called a) depth
 
 -- The visits of a type: first its root, at depth 0.
 abbrev pub visitsOf : Placed → List ℕ
@@ -62,7 +64,7 @@ visitWords =
       choice = λ w k d. visit choiceVisit k d;
       said = λ w m s d. visit nameVisit m d;
       node = λ i d. visit nodeVisit i d;
-      under = λ d. suc d;
+      under = λ d. d + 1;
       Puts = Listed;
     }
 

@@ -8,3 +8,4 @@ pub mod refusal;
 pub mod store;
 mod tables;
 pub mod take;
+pub mod visits;

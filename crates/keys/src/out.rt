@@ -10,10 +10,10 @@ ghost use Rattle.keys.specs.Moves.{Spelled, Ready, Own, After, Begun, No
 ghost use Rattle.keys.specs.Out.{keyBits, Keyed};
 use crate::forms;
 use crate::forms::Row;
-use crate::put;
 use crate::moves;
 use crate::moves::Mark;
 use crate::moves::Walk;
+use crate::put;
 use crate::store;
 
 // The next spelling, its length in w bits.
