@@ -70,6 +70,22 @@ def store(root):
     visit(root)
     return [w for n in nodes for w in n], names, list(text)
 
+# ---- a tree's visits: kind (1 a node, 2 a choice, 3 a name), number, how many nodes it stands under
+def visits(root):
+    all_, nodes, names = [], 0, 0
+    def visit(n, depth):
+        nonlocal nodes, names
+        at = len(all_)
+        all_.append(None)                                           # a node is numbered after those under it
+        for i in ([] if isinstance(n.tag, int) else [('c', 0, 0)]) + items(n):
+            if i[0] == 'c': all_.append((2, i[2], depth + 1))
+            elif i[0] == 's': all_.append((3, names, depth + 1)); names += 1
+            else: visit(i[1], depth + 1)
+        all_[at] = 1, nodes, depth
+        nodes += 1
+    visit(root, 0)
+    return [w for v in all_ for w in v]
+
 # ---- trees and texts
 def word(): return bytes(R.choice(b'abTUxy_$09\x00\xff"') for _ in range(R.choice([1, 1, 2, 3, 9])))
 def maybe(f): return f() if R.random() < 0.5 else None

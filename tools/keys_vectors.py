@@ -8,18 +8,21 @@ that it must print, from the answers of model.py. The same bytes each time.
 As a module: record(op, key, rooms) is a record's bytes, line(op, key, rooms) the line that it must print; rooms are the
 words lent for nodes and for names, the bytes lent for text and for the key written again. A line is `refused`, number and
 place, or `taken` and the numbers of nodes, names and bytes of text; then the lent nodes, names and text as a sum; and
-where the key is taken the length of the key written again, whether it is the key, and its buffer as a sum.
+where the key is taken the length of the key written again, whether it is the key, and its buffer as a sum; the number of
+words that the tree's visits have, and their buffer as a sum, which has as many words as bytes are lent for the key, but
+no more than VISITS.
 """
 import struct
 import sys
 
 import keys_model
 import model
-from keys_model import gen, store, take_back, wrap
+from keys_model import gen, store, take_back, visits, wrap
 from model import KEY, LIST, Node, bits, key_of, spell
 from words_vectors import written
 
 NODES, NAMES, TEXT, AGAIN = 838860, 16384, 131072, 262146          # what the program can lend
+VISITS = 4096
 AMPLE = 4000, 400, 4000, 4000
 PRIME, FACTOR = 4294967291, 1000003
 
@@ -46,7 +49,9 @@ def line(op, key, rooms):
     whole = sum_bytes(text, c, sum_words(names, b, sum_words(nodes, a, 1)))
     again = key_of(x[1])
     same = again == key and len(again) <= d
-    return "taken %d %d %d %d %d %d %d" % (x[3], x[4], len(x[2]), whole, len(again), same, sum_bytes(again[:d], d, 1))
+    walk, room = visits(x[1]), min(d, VISITS)
+    return "taken %d %d %d %d %d %d %d %d %d" % (
+        x[3], x[4], len(x[2]), whole, len(again), same, sum_bytes(again[:d], d, 1), len(walk), sum_words(walk[:room], room, 1))
 
 
 def record(op, key, rooms):

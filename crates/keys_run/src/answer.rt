@@ -1,14 +1,16 @@
-// A record's line: what taking its key back answers and leaves in the buffers, and the key written again.
+// A record's line: what taking its key back answers and leaves in the buffers, the key written again, and the tree's visits.
 ghost use mathlib.Core.Path.{_≡_};
 ghost use Prim.Native.Nat.{_*_, _^_, _<_, _≤_};
 ghost use lib.ListN.{length};
 ghost use Rattle.keys.specs.Put.{far};
 use crate::line::bytes;
 use crate::line::next;
+use crate::record;
 use crate::sum;
 use keys::back::Answer;
 use keys::back::take_back;
 use keys::out::put_key;
+use keys::visits::walk;
 use words::limits::Tree;
 
 // All of the lent nodes, names and text as one number.
@@ -44,7 +46,52 @@ fn displaced(op: u8, nodes: &mut [u64]) {
     sum::dirty_places(nodes);
 }
 
-// The length of the key written again, whether it is the key, and its buffer as a number.
+// How many words are lent for visits, by the bytes lent for the key: no more than there are.
+fn lent_visits(bytes: usize) -> usize
+    ensures { λ r. ⌜ r ≤ 4096 ⌝ }
+{
+    if bytes < 4096 {
+        return bytes;
+    }
+    4096
+}
+
+// How many words the tree's visits have, and their buffer, dirty before, as a number.
+fn visited(
+    out: &mut [u8],
+    at: usize,
+    nodes: &[u64],
+    names: &[u64],
+    visits: &mut [u64],
+    count: usize,
+) -> usize
+    requires { ⌜ (at < length (now out)) × (length (now visits) * 8 ≤ far) ⌝ }
+    ensures { λ r. ⌜ r < length (now (out .exit)) ⌝ }
+{
+    sum::dirty_words(visits);
+    let size = walk(nodes, names, last(count), Tree::TALLEST, visits);
+    let p = next(out, at, size as u64);
+    next(out, p, sum::of_words(visits, 1))
+}
+
+// The same in a buffer of its own, by the bytes lent for the key.
+fn walked(
+    out: &mut [u8],
+    at: usize,
+    nodes: &[u64],
+    names: &[u64],
+    count: usize,
+    bytes: usize,
+) -> usize
+    requires { ⌜ at < length (now out) ⌝ }
+    ensures { λ r. ⌜ r < length (now (out .exit)) ⌝ }
+{
+    let mut room = record::visit_room();
+    let size = lent_visits(bytes);
+    visited(out, at, nodes, names, &mut room[..size], count)
+}
+
+// The length of the key written again, whether it is the key, and its buffer as a number; then the visits.
 fn written(
     out: &mut [u8],
     at: usize,
@@ -61,7 +108,8 @@ fn written(
     let size = put_key(nodes, names, text, last(count), Tree::TALLEST, again);
     let p = next(out, at, size as u64);
     let q = next(out, p, same(again, size, key));
-    next(out, q, sum::of_bytes(again, 1))
+    let r = next(out, q, sum::of_bytes(again, 1));
+    walked(out, r, nodes, names, count, again.len())
 }
 
 // Three numbers more.
@@ -112,7 +160,7 @@ fn taken(
     next(out, q, left(nodes, names, text))
 }
 
-// What taking back answers, and the key written again where it is taken.
+// What taking back answers, and where it is taken the key written again and the visits.
 fn told(
     out: &mut [u8],
     at: usize,

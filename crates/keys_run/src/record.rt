@@ -30,6 +30,13 @@ pub fn key_room() -> [u8; 262146]
     [0; 262146]
 }
 
+// The words of the visits of a tree that is not large.
+pub fn visit_room() -> [u64; 4096]
+    ensures { λ r. ⌜ 4096 ≡ length r ⌝ }
+{
+    [0; 4096]
+}
+
 fn wide(b: u8) -> usize
     ensures { λ r. ⌜ r < 256 ⌝ }
 {
