@@ -9,7 +9,7 @@ sys.path.insert(0, MODEL)
 import model
 import keys_model
 from model import Node, key_of
-from keys_model import R, gen, items, store, take_back, text, wrap
+from keys_model import R, gen, items, store, take_back, text, visits, wrap
 
 SEED = int(sys.argv[1]) if len(sys.argv) > 1 else 1
 keys_model.seed(SEED)
@@ -135,6 +135,9 @@ for kind, key, n, k, m in [c for c in cases if len(c[1]) < 60][::6]:
     else: ns, nm, tx = store(x[1]); ans = 'back %d %d %d' % (x[3], x[4], len(x[2])); assert bytes(tx) == x[2]; left_n += 1
     fill = lambda l, size: nums(l + [0] * (size - len(l)))
     lemmas.append('takeBack %s %d %d %d ≡ record { answer = %s; nodeWords = %s; nameWords = %s; text = %s }' % (bts(key), a, bn, c, ans, fill(ns, a), fill(nm, bn), fill(tx, c))); store_n += 1
+visit_n = 0
+for n, k in [g for g in good if len(g[1]) < 60]:
+    lemmas.append('visitsOf %s ≡ %s' % (term(n), nums(visits(n)))); visit_n += 1
 
 HEAD = '''use mathlib.Core.Path.{_≡_, refl}
 use mathlib.Core.List.{List, [], _∷_}
@@ -143,7 +146,7 @@ use Prim.Native.Nat.{ℕ}
 use lib.ListN.{replicate}
 use Rattle.keys.specs.Placed.{Placed, bare, absent, present, reference, keyword, literal, parens, union, intersection, array, indexed, conditional, infer, operator, function, constructor, mapped, template, predicate, typeof, importType, tuple, optional, rest, named, nonNull, asked, typeParameter, parameter}
 use Rattle.keys.specs.Key.{keyOf, takeKey, taken, refused}
-use Rattle.keys.specs.Store.{takeBack, back, no}
+use Rattle.keys.specs.Store.{takeBack, back, no, visitsOf}
 '''
 tmp = tempfile.mkdtemp(prefix='refl_keys')
 os.makedirs(tmp + '/crates/keys/specs')
@@ -172,7 +175,7 @@ bad = [l for l in out.split('\n') if 'error' in l]
 for l in bad[:10]: print(l[:600])
 print('%d keys taken back (%s)' % (len(cases), ', '.join('%s %d' % x for x in sorted(kinds.items()))))
 print('answers: ' + ', '.join('%s %d' % (a, c) for a, c in sorted(answers.items(), key=str)))
-print('%d keys written, %d whole calls with their outputs (%d left a tree), %d readings of texts; %d lemmas by refl in %.0f s: %s' % (key_n, store_n, left_n, texts, len(lemmas), time.time() - start, 'all hold' if p.returncode == 0 else 'NOT ALL HOLD'))
+print('%d keys written, %d whole calls with their outputs (%d left a tree), %d trees visited, %d readings of texts; %d lemmas by refl in %.0f s: %s' % (key_n, store_n, left_n, visit_n, texts, len(lemmas), time.time() - start, 'all hold' if p.returncode == 0 else 'NOT ALL HOLD'))
 if p.returncode == 0: shutil.rmtree(tmp)
 else: print(tmp)
 sys.exit(p.returncode)

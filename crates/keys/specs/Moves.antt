@@ -34,7 +34,7 @@ levels (kid first end a r) = max (suc (levels a)) (levels r)
 
 -- ---- What a walk puts out
 
--- An output: its items for a choice of w bits, for name m with a spelling whose length has w bits, and before what node i holds, each at a depth; the depth under a node; items put from a position to another, into numbers as they were and are.
+-- An output: its items for a choice, for name m, and before what node i holds, each at a depth; the depth under a node; how items are put from one position to another.
 pub record Output : Type 1 where
   pub Item : Type 0
   pub choice : (w k d : ℕ) → List Item

@@ -111,6 +111,36 @@ abbrev pub allPointed : List ℕ → List ℕ → List (List ℕ)
 allPointed text [] = []
 allPointed text (w ∷ ws) = pointed text w ∷ allPointed text ws
 
+-- ---- The visits of a tree, for a program that prints it
+
+-- The kind of a visit to a node.
+abbrev pub nodeVisit : ℕ
+nodeVisit = 1
+
+-- The kind of a visit to a choice; a node's first is its tag.
+abbrev pub choiceVisit : ℕ
+choiceVisit = 2
+
+-- The kind of a visit to a name.
+abbrev pub nameVisit : ℕ
+nameVisit = 3
+
+-- A visit's words: its kind; the number of the node, of the choice, or of the name; how many nodes it stands under.
+abbrev pub visit : (kind number depth : ℕ) → List ℕ
+visit kind number depth = kind ∷ number ∷ depth ∷ []
+
+-- The visits of what a node holds, in the key's order: nodes are numbered from b, names from m; under a node the depth is one more.
+abbrev pub visits : Run → (b m depth : ℕ) → List ℕ
+visits done b m depth = []
+visits (chose w k r) b m depth = visit choiceVisit k depth ++ visits r b m depth
+visits (name x s r) b m depth = visit nameVisit m depth ++ visits r b (m + 1) depth
+visits (kid first end a r) b m depth =
+    (visit nodeVisit (b + under a) depth ++ visits a b m (depth + 1)) ++ visits r (b + under a + 1) (m + called a) depth
+
+-- The visits of a type: first its root, at depth 0.
+abbrev pub visitsOf : Placed → List ℕ
+visitsOf p = visits (runOf p) 0 0 0
+
 -- ---- The call
 
 -- What the call answers: the nodes, names and bytes of text used; or a refusal's number and place.

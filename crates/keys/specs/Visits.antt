@@ -1,46 +1,16 @@
--- Visits: what a tree holds in the key's order, as words that a printer goes through, and what a walk answers.
+-- Visits as the output of a walk, and what a walk answers.
 use mathlib.Core.Path.{_≡_}
-use mathlib.Core.List.{List, [], _∷_, _++_}
+use mathlib.Core.List.{List}
 use Prim.Native.Nat.{ℕ, _+_, _*_, _≤_, _<_, min}
 use lib.ListN.{length}
 use lib.Seq.{sets}
 use Rattle.keys.specs.Form.{height, nodes}
 use Rattle.keys.specs.Placed.{Placed, bare}
-use Rattle.keys.specs.Store.{Run, done, chose, name, kid, under, called, runOf}
+use Rattle.keys.specs.Store.{nodeVisit, choiceVisit, nameVisit, visit, visitsOf}
 use Rattle.keys.specs.Put.{far, onward}
 use Rattle.keys.specs.Holds.{Stands}
 use Rattle.keys.specs.Moves.{Output}
 use Rattle.keys.specs.Out.{fitted}
-
--- ---- The visits of a tree
-
--- The kind of a visit to a node.
-abbrev pub nodeVisit : ℕ
-nodeVisit = 1
-
--- The kind of a visit to a choice; a node's first is its tag.
-abbrev pub choiceVisit : ℕ
-choiceVisit = 2
-
--- The kind of a visit to a name.
-abbrev pub nameVisit : ℕ
-nameVisit = 3
-
--- A visit's words: its kind; the number of the node, of the choice, or of the name; how many nodes it stands under.
-abbrev pub visit : (kind number depth : ℕ) → List ℕ
-visit kind number depth = kind ∷ number ∷ depth ∷ []
-
--- The visits of what a node holds, in the key's order: nodes are numbered from b, names from m; under a node the depth is one more.
-abbrev pub visits : Run → (b m depth : ℕ) → List ℕ
-visits done b m depth = []
-visits (chose w k r) b m depth = visit choiceVisit k depth ++ visits r b m depth
-visits (name x s r) b m depth = visit nameVisit m depth ++ visits r b (m + 1) depth
-visits (kid first end a r) b m depth =
-    (visit nodeVisit (b + under a) depth ++ visits a b m (depth + 1)) ++ visits r (b + under a + 1) (m + called a) depth
-
--- The visits of a type: first its root, at depth 0.
-abbrev pub visitsOf : Placed → List ℕ
-visitsOf p = visits (runOf p) 0 0 0
 
 -- The visits of every tree that stands in the store with its root there and is not too tall: how many words they have, and as many of them as fit, then zeros.
 pub record Visited (N M : List ℕ) (root tall n r : ℕ) (k : List ℕ) : Type 0 where

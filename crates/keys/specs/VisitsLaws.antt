@@ -10,7 +10,7 @@ use Rattle.keys.specs.Form.{Form, one, child, both, Grammar, branch, lef
 use Rattle.keys.specs.Limits.{countWidth}
 use Rattle.keys.specs.Placed.{Placed, bare}
 use Rattle.keys.specs.Key.{nodeTable}
-use Rattle.keys.specs.Store.{Run, done, chose, name, kid, under, called, packed, firstKid, records, runOf, nodesOf}
+use Rattle.keys.specs.Store.{Run, done, chose, name, kid, under, called, packed, firstKid, records, runOf, nodesOf, nodeVisit, choiceVisit, nameVisit, visit, visits, visitsOf}
 use Rattle.keys.specs.StoreLaws.{under-plant}
 use Rattle.keys.specs.Table.{type}
 use Rattle.keys.specs.Forms.{lined, grammarOf, tableWords}
@@ -22,7 +22,7 @@ use Rattle.keys.specs.HoldsLaws.{In, in-front, kid-in, root-is, stands-h
 use Rattle.keys.specs.Moves.{tagged, items, Spelled, Noded}
 use Rattle.keys.specs.MovesLaws.{Sound, spelled-none, all-put}
 use Rattle.keys.specs.KeyedLaws.{sets-copies}
-use Rattle.keys.specs.Visits.{nodeVisit, choiceVisit, nameVisit, visit, visits, visitsOf, Visited, Listed, visitWords, Named}
+use Rattle.keys.specs.Visits.{Visited, Listed, visitWords, Named}
 
 -- ---- Words as an output
 

@@ -1,12 +1,13 @@
 // Visits: what a tree that stands in the store holds, in the key's order, for a program that prints it.
 ghost use mathlib.Core.Path.{_≡_};
 ghost use mathlib.Core.List.{List};
-ghost use Prim.Native.Nat.{ℕ, suc, _+_, _*_, _≤_, _<_, _^_};
-ghost use lib.ListN.{length, set};
+ghost use Prim.Native.Nat.{ℕ, _+_, _*_, _/_, _≤_, _<_, _^_};
+ghost use lib.ListN.{length, getD, set};
 ghost use Rattle.keys.specs.Forms.{entryAt, grammarOf, IsRow, Narrow};
 ghost use Rattle.keys.specs.Put.{far};
 ghost use Rattle.keys.specs.Moves.{Spelled, Ready, Own, After, Begun, Noded};
-ghost use Rattle.keys.specs.Visits.{visit, Listed, visitWords, Named, Visited};
+ghost use Rattle.keys.specs.Store.{visit};
+ghost use Rattle.keys.specs.Visits.{Listed, visitWords, Named, Visited};
 use crate::forms;
 use crate::forms::Row;
 use crate::moves;
@@ -260,4 +261,30 @@ pub fn walk(nodes: &[u64], names: &[u64], root: usize, tall: usize, visits: &mut
         Mark { to: 0, name: 0 },
     );
     o.to
+}
+
+// A visit as a printer meets it; all 0 past the last.
+pub struct Visit {
+    pub kind: u64,
+    pub number: usize,
+    pub depth: usize,
+}
+
+// The visit of a number.
+pub fn visit_at(visits: &[u64], at: usize) -> Visit
+    ensures { λ r. ⌜ (at < length (now (visits .entry)) / 3 → (r .kind ≡ getD (now (visits .entry)) (at * 3) 0) × (r .number ≡ getD (now (visits .entry)) (at * 3 + 1) 0) × (r .depth ≡ getD (now (visits .entry)) (at * 3 + 2) 0)) ⌝ }
+{
+    if visits.len() / WORDS <= at {
+        return Visit {
+            kind: 0,
+            number: 0,
+            depth: 0,
+        };
+    }
+    let from = at * WORDS;
+    Visit {
+        kind: visits[from],
+        number: visits[from + 1] as usize,
+        depth: visits[from + 2] as usize,
+    }
 }
