@@ -74,7 +74,7 @@ module _ (O : Output) (G : Grammar) (N : List ℕ) (P : ℕ → List ℕ → Typ
     pub same : length k' ≡ length k
     pub on : (run : Run) → Of G f run → levels run ≤ high → HoldsBy N P run s → Moved f run s to k f' s' to' k'
 
-  -- The node i of class c is put out, whose names are below `most`.
+  -- The node i of class c is put out, and the next name is no further than `most`.
   pub record Noded (most c i m to : ℕ) (k : List ℕ) (m' to' : ℕ) (k' : List ℕ) : Type 0 where
     pub short : length k * 8 ≤ far
     pub stays : to' ≤ far

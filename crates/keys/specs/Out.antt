@@ -34,7 +34,7 @@ keyBits =
 
 -- The first n of some numbers and of zeros behind them.
 abbrev pub fitted : ℕ → List ℕ → List ℕ
-fitted n key = take n (key ++ replicate n 0)
+fitted n l = take n (l ++ replicate n 0)
 
 -- The key of every tree that stands in the store with its root there and is not too tall: how many bytes it has, and as many of them as fit, then zeros.
 pub record Keyed (N M X : List ℕ) (root tall n r : ℕ) (k : List ℕ) : Type 0 where

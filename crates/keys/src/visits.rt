@@ -16,11 +16,13 @@ use crate::moves::Walk;
 use crate::put;
 use crate::store;
 
-// A visit's kind.
+// The kind of a visit to a node.
 pub const NODE: u64 = 1;
 
+// The kind of a visit to a choice; a node's first is its tag, which is 0 in a parameter and in a type parameter.
 pub const CHOICE: u64 = 2;
 
+// The kind of a visit to a name.
 pub const NAME: u64 = 3;
 
 // A visit's words: its kind; the number of the node, of the choice, or of the name; how many nodes it stands under.
