@@ -94,6 +94,10 @@ placeOf s = cursor (s .word) (s .child) (s .name)
 abbrev pub mark : (bit next : ℕ) → Mark
 mark bit next = record { bit = bit; name = next }
 
+-- The position at which a walk is.
+abbrev pub markOf : Walk → Mark
+markOf s = mark (s .bit) (s .name)
+
 -- A walk with what was written of it, at another form.
 abbrev pub movedTo : Walk → Mark → (form n steps : ℕ) → Walk
 movedTo s o form n steps = record { bit = o .bit; name = o .name; word = s .word; child = s .child; form = form; n = n; steps = steps }

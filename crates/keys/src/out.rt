@@ -3,10 +3,11 @@ ghost use mathlib.Core.Path.{_≡_};
 ghost use mathlib.Core.Bool.{true, false};
 ghost use Prim.Native.Nat.{_+_, _-_, _*_, _/_, _%_, _≤_, _<_, _^_};
 ghost use lib.ListN.{length};
+ghost use Rattle.keys.specs.Limits.{widest};
 ghost use Rattle.keys.specs.Bits.{bitsOf};
 ghost use Rattle.keys.specs.Forms.{entryAt, grammarOf, IsRow, Narrow};
 ghost use Rattle.keys.specs.Put.{far, Put};
-ghost use Rattle.keys.specs.Out.{movedTo, besideTo, Spelled, Ready, Own, After, Begun, Noded, Keyed};
+ghost use Rattle.keys.specs.Out.{markOf, movedTo, besideTo, Spelled, Ready, Own, After, Begun, Noded, Keyed};
 use crate::forms;
 use crate::forms::Row;
 use crate::put;
@@ -31,7 +32,7 @@ pub struct Walk {
 
 // The next spelling, its length in w bits.
 fn put_spelling(names: &[u64], text: &[u8], key: &mut [u8], w: usize, o: Mark) -> Mark
-    requires { ⌜ (length (now key) * 8 ≤ far) × (o .bit ≤ far) × (w ≤ 31) × (o .name ≤ length (now names)) ⌝ }
+    requires { ⌜ (length (now key) * 8 ≤ far) × (o .bit ≤ far) × (w ≤ widest) × (o .name ≤ length (now names)) ⌝ }
     ensures { λ r. ⌜ Spelled (now (names .entry)) (now (text .entry)) w (o .name) (o .bit) (now (key .entry)) (r .name) (r .bit) (now (key .exit)) ⌝ }
 {
     let name = o.name;
@@ -60,7 +61,7 @@ pub struct Chosen {
 
 // The next of a node's own choices, of w bits.
 fn put_choice(key: &mut [u8], bit: usize, w: usize, word: u64) -> Chosen
-    requires { ⌜ (length (now key) * 8 ≤ far) × (bit ≤ far) × (w ≤ 31) ⌝ }
+    requires { ⌜ (length (now key) * 8 ≤ far) × (bit ≤ far) × (w ≤ widest) ⌝ }
     ensures { λ r. ⌜ Put bit (bitsOf w (word % 2 ^ w)) (r .bit) (now (key .entry)) (now (key .exit)) × (r .number ≡ word % 2 ^ w) × (r .word ≡ word / 2 ^ w) × (r .number < 2 ^ 32) ⌝ }
 {
     let rest = word >> w;
@@ -88,8 +89,8 @@ fn moved(s: Walk, o: Mark, form: usize, n: usize, steps: usize) -> Walk
 }
 
 // A step that is a choice.
-fn put_chosen(forms: &[u32], names: &[u64], text: &[u8], key: &mut [u8], r: Row, s: Walk) -> Walk
-    requires { ⌜ Ready (length (now names)) (now key) s × IsRow (entryAt (now forms) (s .form)) r × (r .w ≤ 31) × (0 < s .steps) × (5 ≤ r .op) ⌝ }
+fn put_chosen(forms: &[u16], names: &[u64], text: &[u8], key: &mut [u8], r: Row, s: Walk) -> Walk
+    requires { ⌜ Ready (length (now names)) (now key) s × IsRow (entryAt (now forms) (s .form)) r × (r .w ≤ widest) × (0 < s .steps) × (5 ≤ r .op) ⌝ }
     ensures { λ q. ⌜ Own (now (forms .entry)) (now (names .entry)) (now (text .entry)) s (now (key .entry)) q (now (key .exit)) ⌝ }
 {
     let c = put_choice(key, s.bit, r.w, s.word);
@@ -106,8 +107,8 @@ fn put_chosen(forms: &[u32], names: &[u64], text: &[u8], key: &mut [u8], r: Row,
 }
 
 // A step that is no choice and goes into no child: a spelling, or on to the next form.
-fn put_said(forms: &[u32], names: &[u64], text: &[u8], key: &mut [u8], r: Row, s: Walk) -> Walk
-    requires { ⌜ Ready (length (now names)) (now key) s × IsRow (entryAt (now forms) (s .form)) r × (r .w ≤ 31) × (0 < s .steps) × (r .op < 5) × (r .op ≡ 1 → ⊥) × (r .op ≡ 3 → s .n ≡ 0) ⌝ }
+fn put_said(forms: &[u16], names: &[u64], text: &[u8], key: &mut [u8], r: Row, s: Walk) -> Walk
+    requires { ⌜ Ready (length (now names)) (now key) s × IsRow (entryAt (now forms) (s .form)) r × (r .w ≤ widest) × (0 < s .steps) × (r .op < 5) × (r .op ≡ 1 → ⊥) × (r .op ≡ 3 → s .n ≡ 0) ⌝ }
     ensures { λ q. ⌜ Own (now (forms .entry)) (now (names .entry)) (now (text .entry)) s (now (key .entry)) q (now (key .exit)) ⌝ }
 {
     let op = r.op;
@@ -131,8 +132,8 @@ fn put_said(forms: &[u32], names: &[u64], text: &[u8], key: &mut [u8], r: Row, s
 }
 
 // A step of a node that goes into no child.
-fn put_own(forms: &[u32], names: &[u64], text: &[u8], key: &mut [u8], r: Row, s: Walk) -> Walk
-    requires { ⌜ Ready (length (now names)) (now key) s × IsRow (entryAt (now forms) (s .form)) r × (r .w ≤ 31) × (0 < s .steps) × (r .op ≡ 1 → ⊥) × (r .op ≡ 3 → s .n ≡ 0) ⌝ }
+fn put_own(forms: &[u16], names: &[u64], text: &[u8], key: &mut [u8], r: Row, s: Walk) -> Walk
+    requires { ⌜ Ready (length (now names)) (now key) s × IsRow (entryAt (now forms) (s .form)) r × (r .w ≤ widest) × (0 < s .steps) × (r .op ≡ 1 → ⊥) × (r .op ≡ 3 → s .n ≡ 0) ⌝ }
     ensures { λ q. ⌜ Own (now (forms .entry)) (now (names .entry)) (now (text .entry)) s (now (key .entry)) q (now (key .exit)) ⌝ }
 {
     if forms::CHOICE <= r.op {
@@ -167,7 +168,7 @@ fn after_child(
     s: Walk,
     o: Mark,
 ) -> Walk
-    requires { ⌜ (length (now key) * 8 ≤ far) × (o .bit ≤ far) × (o .name ≤ length (now names)) × (w ≤ 31) × (s .child < 2 ^ 32) × (s .form < 2 ^ 32) × (0 < s .n) × (s .n < 2 ^ 32) × (s .steps < 2 ^ 32) ⌝ }
+    requires { ⌜ (length (now key) * 8 ≤ far) × (o .bit ≤ far) × (o .name ≤ length (now names)) × (w ≤ widest) × (s .child < 2 ^ 32) × (s .form < 2 ^ 32) × (0 < s .n) × (s .n < 2 ^ 32) × (s .steps < 2 ^ 32) ⌝ }
     ensures { λ q. ⌜ After (now (nodes .entry)) (now (names .entry)) (now (text .entry)) w s o (now (key .entry)) q (now (key .exit)) ⌝ }
 {
     let next = store::next_of(nodes, s.child);
@@ -176,6 +177,21 @@ fn after_child(
     }
     let q = put_spelling(names, text, key, w, o);
     beside(s, q, next)
+}
+
+// The walk behind the last of its children, or as it is.
+fn past_last(r: Row, s: Walk) -> Walk
+    requires { ⌜ 0 < s .steps ⌝ }
+    ensures { λ q. ⌜ (s .n ≡ 0 → q ≡ movedTo s (markOf s) (r .b) 1 (s .steps - 1)) × ((s .n ≡ 0 → ⊥) → q ≡ s) ⌝ }
+{
+    if 0 < s.n {
+        return s;
+    }
+    let o = Mark {
+        bit: s.bit,
+        name: s.name,
+    };
+    moved(s, o, r.b, 1, s.steps - 1)
 }
 
 // Does the next step go into a child?
@@ -192,7 +208,7 @@ fn into_child(r: Row, s: Walk) -> bool
 }
 
 // A node's tag, and the walk behind it.
-fn put_tag(forms: &[u32], nodes: &[u64], key: &mut [u8], class: usize, at: usize, o: Mark) -> Walk
+fn put_tag(forms: &[u16], nodes: &[u64], key: &mut [u8], class: usize, at: usize, o: Mark) -> Walk
     requires { ⌜ (length (now key) * 8 ≤ far) × (o .bit ≤ far) × (class < 2 ^ 32) × (at < 2 ^ 32) × Narrow (now forms) ⌝ }
     ensures { λ q. ⌜ Begun (now (forms .entry)) (now (nodes .entry)) class at o (now (key .entry)) q (now (key .exit)) ⌝ }
 {
@@ -213,7 +229,7 @@ fn put_tag(forms: &[u32], nodes: &[u64], key: &mut [u8], class: usize, at: usize
 
 // The node `at`, of a class; `left` is how many levels there may be.
 fn put_node(
-    forms: &[u32],
+    forms: &[u16],
     nodes: &[u64],
     names: &[u64],
     text: &[u8],
@@ -253,7 +269,8 @@ fn put_node(
                     name: s.name,
                 },
             );
-            s = after_child(nodes, names, text, key, r.w, s, q);
+            let t = after_child(nodes, names, text, key, r.w, s, q);
+            s = past_last(r, t);
         } else {
             s = put_own(forms, names, text, key, r, s);
         }

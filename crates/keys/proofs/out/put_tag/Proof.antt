@@ -1,5 +1,6 @@
 use Prim.Native.Nat.{_≤_}
 use mathlib.Core.Path.{sym, subst}
+use Rattle.keys.specs.Limits.{widest}
 use Rattle.keys.specs.Forms.{Entry}
 use Rattle.keys.specs.OutLaws.{begun}
 use borrow.Author.Needs.{needs}
@@ -17,7 +18,7 @@ put-choice-requires c κs =
     let pre = c .before .before .before .before .before .before .pre in
     let args = c .before .before .before .before .before .before .args in
     let class-at = c .before .class-at in
-    (search needs, search needs, subst (λ (x : Entry). x .w ≤ 31) (sym (class-at .ensures .is)) (pre .4 .tag (args .class)))
+    (search needs, search needs, subst (λ (x : Entry). x .w ≤ widest) (sym (class-at .ensures .is)) (pre .4 .tag (args .class)))
 
 listed-at-requires : tie.Need-listed-at-requires
 listed-at-requires c κs = search needs
