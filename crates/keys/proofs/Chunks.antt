@@ -1,4 +1,4 @@
--- The bits of a row of bytes, a part of a byte at a time, and the bytes of a spelling, one at a time.
+-- The bits of a row of bytes, what the answer for a field tells, and the bytes of a spelling, one at a time.
 use mathlib.Core.Path.{_≡_, refl, sym, ap, ap₂, _∙_, subst}
 use mathlib.Core.Bool.{Bool, true, false}
 use mathlib.Core.List.{List, [], _∷_, _++_, append-assoc, append-nil}
@@ -26,15 +26,16 @@ bits-split (suc a) b x = ap (λ (k : ℕ). bitsOf k x) (suc-add a b) ∙ ap₂ (
         let e : a + b ≡ b + a = omega arith in
         ap (λ (k : ℕ). x / 2 ^ k) e ∙ ap (λ (k : ℕ). x / k) (pow-add 2 b a) ∙ sym (div-div-eq-div-mul x (2 ^ b) (2 ^ a))
 
-part-first : (r n x : ℕ) (t : Bits) → r + n ≤ 8 → drop r (bitsOf 8 x ++ t) ≡ bitsOf n (x / 2 ^ (8 - r - n)) ++ drop (r + n) (bitsOf 8 x ++ t)
-part-first r n x t h =
-    let e : 8 ≡ r + (n + (8 - r - n)) = omega arith in
-    let f : 8 ≡ r + n + (8 - r - n) = omega arith in
-    let low : ℕ = 8 - r - n in
+-- The next n bits of a number behind its first r.
+pub part-first : (m r n x : ℕ) (t : Bits) → r + n ≤ m → drop r (bitsOf m x ++ t) ≡ bitsOf n (x / 2 ^ (m - r - n)) ++ drop (r + n) (bitsOf m x ++ t)
+part-first m r n x t h =
+    let e : m ≡ r + (n + (m - r - n)) = omega arith in
+    let f : m ≡ r + n + (m - r - n) = omega arith in
+    let low : ℕ = m - r - n in
     let y : ℕ = x / 2 ^ (n + low) in
     let z : ℕ = x / 2 ^ low in
-    let one : bitsOf 8 x ≡ bitsOf r y ++ (bitsOf n z ++ bitsOf low x) = ap (λ (k : ℕ). bitsOf k x) e ∙ bits-split r (n + low) x ∙ ap (λ (k : Bits). bitsOf r y ++ k) (bits-split n low x) in
-    let two : bitsOf 8 x ≡ bitsOf (r + n) z ++ bitsOf low x = ap (λ (k : ℕ). bitsOf k x) f ∙ bits-split (r + n) low x in
+    let one : bitsOf m x ≡ bitsOf r y ++ (bitsOf n z ++ bitsOf low x) = ap (λ (k : ℕ). bitsOf k x) e ∙ bits-split r (n + low) x ∙ ap (λ (k : Bits). bitsOf r y ++ k) (bits-split n low x) in
+    let two : bitsOf m x ≡ bitsOf (r + n) z ++ bitsOf low x = ap (λ (k : ℕ). bitsOf k x) f ∙ bits-split (r + n) low x in
     ap (λ (k : Bits). drop r (k ++ t)) one ∙ ap (drop r) (append-assoc (bitsOf r y) (bitsOf n z ++ bitsOf low x) t)
     ∙ drop-at (bitsOf r y) ((bitsOf n z ++ bitsOf low x) ++ t) r (length-bits r y)
     ∙ append-assoc (bitsOf n z) (bitsOf low x) t
@@ -42,12 +43,13 @@ part-first r n x t h =
     (sym (ap (λ (k : Bits). drop (r + n) (k ++ t)) two ∙ ap (drop (r + n)) (append-assoc (bitsOf (r + n) z) (bitsOf low x) t)
     ∙ drop-at (bitsOf (r + n) z) (bitsOf low x ++ t) (r + n) (length-bits (r + n) z)))
 
-part-at : (s : List ℕ) (q r n : ℕ) → q < length s → r + n ≤ 8
+-- The bits from any bit on are the next n of its byte and then the others.
+pub part-at : (s : List ℕ) (q r n : ℕ) → q < length s → r + n ≤ 8
     → drop (q * 8 + r) (bitsOfBytes s) ≡ bitsOf n (getD s q 0 / 2 ^ (8 - r - n)) ++ drop (q * 8 + r + n) (bitsOfBytes s)
 part-at [] q r n h l = absurd (omega arith)
 part-at (x ∷ s) zero r n h l =
     let e : 0 * 8 + r ≡ r = omega arith in
-    ap (λ (k : ℕ). drop k (bitsOfBytes (x ∷ s))) e ∙ part-first r n x (bitsOfBytes s) l
+    ap (λ (k : ℕ). drop k (bitsOfBytes (x ∷ s))) e ∙ part-first 8 r n x (bitsOfBytes s) l
     ∙ ap (λ (k : ℕ). bitsOf n (x / 2 ^ (8 - r - n)) ++ drop (k + n) (bitsOfBytes (x ∷ s))) (sym e)
 part-at (x ∷ s) (suc q) r n h l =
     past (q * 8 + r) (suc q * 8 + r) (omega arith) ∙ part-at s q r n (omega arith) l
@@ -56,67 +58,7 @@ part-at (x ∷ s) (suc q) r n h l =
     past : (i j : ℕ) → j ≡ length (bitsOf 8 x) + i → drop j (bitsOfBytes (x ∷ s)) ≡ drop i (bitsOfBytes s)
     past i j e = ap (λ (k : ℕ). drop k (bitsOfBytes (x ∷ s))) e ∙ drop-append-add (bitsOf 8 x) (bitsOfBytes s) i
 
--- The bits from any bit on are the next n of its byte and then the others.
-part-of : (s : List ℕ) (bit n : ℕ) → bit < length s * 8 → bit % 8 + n ≤ 8
-    → drop bit (bitsOfBytes s) ≡ bitsOf n (getD s (bit / 8) 0 / 2 ^ (8 - bit % 8 - n)) ++ drop (bit + n) (bitsOfBytes s)
-part-of s bit n h l =
-    let e : bit ≡ bit / 8 * 8 + bit % 8 = omega arith in
-    ap (λ (k : ℕ). drop k (bitsOfBytes s)) e ∙ part-at s (bit / 8) (bit % 8) n (omega arith) l
-    ∙ ap (λ (k : ℕ). bitsOf n (getD s (bit / 8) 0 / 2 ^ (8 - bit % 8 - n)) ++ drop (k + n) (bitsOfBytes s)) (sym e)
-
-take-part : (m w a n : ℕ) (r : Bits) → takeOn a (m + w) (bitsOf m n ++ r) ≡ takeOn (a * 2 ^ m + n % 2 ^ m) w r
-take-part zero w a n r =
-    let e : 0 + w ≡ w = omega arith in
-    let f : a ≡ a * 2 ^ 0 + n % 2 ^ 0 = omega (arith, mod-one n) in
-    ap₂ (λ (x y : ℕ). takeOn x y r) f e
-take-part (suc m) w a n r =
-    ap (λ (k : ℕ). takeOn a k (bitsOf (suc m) n ++ r)) (suc-add m w) ∙ take-part m w (a * 2 + unit (odd (n / 2 ^ m))) n r
-    ∙ ap (λ (x : ℕ). takeOn x w r) (digit-taken m a n)
-
--- ---- A field, a part of a byte at a time
-
--- The first i bits of the field make the number: to take on is to take the field.
-pub record Taking (bs : Bits) (bit width number i : ℕ) : Type 0 where
-  pub within : i ≤ width
-  pub small : number < 2 ^ i
-  pub same : takeField width (drop bit bs) ≡ takeOn number (width - i) (drop (bit + i) bs)
-
-pub taking-none : (bs : Bits) (bit width : ℕ) → Taking bs bit width 0 0
-taking-none bs bit width =
-    let p : width ≡ width - 0 = omega arith in
-    let q : bit ≡ bit + 0 = omega arith in
-    record { within = omega arith; small = omega arith; same = ap₂ (λ (x y : ℕ). takeOn 0 x (drop y bs)) p q }
-
-module _ (s : List ℕ) {bit width number i : ℕ} (d : Taking (bitsOfBytes s) bit width number i) (n low high : ℕ) where
-  pub taking-fits : i + n ≤ 31 → high ≡ 2 ^ n → (x : ℕ) → number * high + x % high < 2 ^ 32
-  taking-fits h e x =
-      let p : number * 2 ^ n + x % 2 ^ n < 2 ^ i * 2 ^ n = digits-lt (d .small) (mod-lt x (pow-pos n)) in
-      let q : 2 ^ i * 2 ^ n ≤ 2 ^ 31 = subst (λ (k : ℕ). k ≤ 2 ^ 31) (pow-add 2 i n) (pow-mono {j = 31} h) in
-      let z : number * high + x % high < 2 ^ 31 = subst (λ (k : ℕ). number * k + x % k < 2 ^ 31) (sym e) (omega arith) in
-      omega arith
-
-  pub taking-more : (byte : ℕ) → byte ≡ getD s ((bit + i) / 8) 0 → i < width → n ≤ width - i → (bit + i) % 8 + n ≤ 8 → bit + i < length s * 8
-      → low ≡ 2 ^ (8 - (bit + i) % 8 - n) → high ≡ 2 ^ n → Taking (bitsOfBytes s) bit width (number * high + byte / low % high) (i + n)
-  taking-more byte at h g l b e f =
-      let x : ℕ = getD s ((bit + i) / 8) 0 in
-      let y : ℕ = x / 2 ^ (8 - (bit + i) % 8 - n) in
-      let is : number * 2 ^ n + y % 2 ^ n ≡ number * high + byte / low % high =
-      ap₂ (λ (u v : ℕ). number * v + x / u % v) (sym e) (sym f) ∙ ap (λ (u : ℕ). number * high + u / low % high) (sym at) in
-      let p : width - i ≡ n + (width - (i + n)) = omega arith in
-      let q : bit + i + n ≡ bit + (i + n) = omega arith in
-      record {
-        within = omega arith;
-        small = subst (λ (u : ℕ). u < 2 ^ (i + n)) is (subst (λ (u : ℕ). number * 2 ^ n + y % 2 ^ n < u) (sym (pow-add 2 i n)) (digits-lt (d .small) (mod-lt y (pow-pos n))));
-        same =
-            d .same ∙ ap₂ (λ (u : ℕ) (v : Bits). takeOn number u v) p (part-of s (bit + i) n b l)
-            ∙ take-part n (width - (i + n)) number y (drop (bit + i + n) (bitsOfBytes s))
-            ∙ ap₂ (λ (u v : ℕ). takeOn u (width - (i + n)) (drop v (bitsOfBytes s))) is q;
-      }
-
-pub taking-all : {bs : Bits} {bit width number i : ℕ} → Taking bs bit width number i → width ≤ i → Number number ≡ answered (takeField width (drop bit bs))
-taking-all {bs} {bit} {width} {number} {i} d h =
-    let q : width - i ≡ 0 = omega (arith, d .within) in
-    sym (ap answered (d .same ∙ ap (λ (k : ℕ). takeOn number k (drop (bit + i) bs)) q))
+-- ---- A field
 
 pub taking-short : (s : List ℕ) (bit width : ℕ) → length s * 8 - bit < width → Short ≡ answered (takeField width (drop bit (bitsOfBytes s)))
 taking-short s bit width h = sym (ap answered (take-short width 0 (drop bit (bitsOfBytes s)) (omega (arith, length-drop bit (bitsOfBytes s), length-bytes s))))

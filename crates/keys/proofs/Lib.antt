@@ -1,4 +1,5 @@
 pub mod Chunks
+pub mod Windows
 pub mod Cells
 pub mod Nevers
 pub mod Steps

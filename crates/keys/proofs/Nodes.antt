@@ -7,7 +7,7 @@ use native.Mathlib.Omega.{arith}
 use lib.ListN.{length, drop, length-drop}
 use Rattle.keys.specs.Bits.{Bits}
 use Rattle.keys.specs.Form.{Form, never, one, word, choose, both, child, Grammar, State, state}
-use Rattle.keys.specs.Limits.{badKey, tooTall, noRoom}
+use Rattle.keys.specs.Limits.{widest, badKey, tooTall, noRoom}
 use Rattle.keys.specs.Store.{Run, done, chose, name, kid}
 use Rattle.keys.specs.StoreLaws.{_⊕_, join-done}
 use Rattle.keys.specs.Table.{oneOf}
@@ -37,7 +37,7 @@ pub after-as : {bs : Bits} {lm lx lm' lx' w : ℕ} {s : Fill} {M X : List ℕ} {
 after-as {bs} {lm} {lx} {lm'} {lx'} {w} {s} {M} {X} {q} {M'} {X'} a b d = subst₂ (λ (x y : ℕ). AfterIn bs x y w s M X q M' X') a b d
 
 pub row-sized : (T : List ℕ) (f : ℕ) {r : Row} → IsRow (entryAt T f) r → Narrow T → Sized r
-row-sized T f {r} i n = record { w = subst (λ (x : Entry). x .w ≤ 31) (sym (i .is)) (n .at f); a = i .from; b = i .next }
+row-sized T f {r} i n = record { w = subst (λ (x : Entry). x .w ≤ widest) (sym (i .is)) (n .at f); a = i .from; b = i .next }
 
 -- ---- n nodes, i of them taken
 
@@ -205,7 +205,7 @@ module _ (bs : Bits) (lm lx : ℕ) (G : Grammar) (left : ℕ) (r : Row) (s : Fil
 -- ---- A node
 
 module _ (bs : Bits) (ln lm lx : ℕ) (T : List ℕ) (class : ℕ) (p : Pos) (h : Asks bs ln lm lx T class p) (steps : ℕ) (st : steps ≡ stepsOf T) (r : Row) (i : IsRow (classAt T class) r) (c : Pick)
-    (k : Picked bs T steps (r .w) (leads T (formOf T steps) (entryOf (record { op = 5; w = r .w; a = r .a; b = r .b })) 0) (p .bit) c) where
+    (k : Picked bs T steps (r .w) (leads T (formOf T steps) (entryOf r) 0) (p .bit) c) where
   abbrev G : Grammar
   G = grammarOf T
 
@@ -270,8 +270,8 @@ module _ (bs : Bits) (ln lm lx : ℕ) (T : List ℕ) (class : ℕ) (p : Pos) (h 
             entered (suc m) e
             ∙ ap₂ (λ (x : Form) (n : ℕ). asChild (grammarOf T .tagWidth class) (c .number) (formRun lx (nodeRun lx G l) x (state n (lm - p .names) (lx - p .chars) (drop (c .bit) bs)))) to (less (p .nodes) e)
 
-        narrow : r .w ≤ 31
-        narrow = subst (λ (x : Entry). x .w ≤ 31) (sym (i .is)) (h .slim .narrow .tag class)
+        narrow : r .w ≤ widest
+        narrow = subst (λ (x : Entry). x .w ≤ widest) (sym (i .is)) (h .slim .narrow .tag class)
 
         pub start-steady : Steady bs lm lx s₀
         start-steady =

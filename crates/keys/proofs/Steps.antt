@@ -21,7 +21,7 @@ use Rattle.keys.specs.Forms.{formOf, spellingsThen, spellingIf}
 use Rattle.keys.specs.Runs.{Ran, ran, halt, after, thenRun, asName, choiceRun, wholeRun, allowedRun, formRun}
 use Rattle.keys.specs.Take.{answered}
 use Rattle.keys.specs.Stored.{lettersIn, Base, Stored, Own}
-use Rattle.keys.specs.Back.{stateAt, Inside, Named, NamesIn, SpellingIn, SpellingsIn, Picked, refusedAt}
+use Rattle.keys.specs.Back.{stateAt, Inside, Named, NamesIn, SpellingIn, SpellingsIn, Picked, refusedAt, unpicked}
 use Rattle.keys.specs.declared.take.TakenField.the-variants.{Number, Short}
 use Rattle.keys.specs.declared.back.Pos.{Pos}
 use Rattle.keys.specs.declared.back.Pick.{Pick}
@@ -287,12 +287,9 @@ if-spelled (suc w) g h = refl
 -- ---- A choice, as the code meets it
 
 module _ (bs : Bits) (T : List ℕ) (steps w : ℕ) (fs : ℕ → Form) (bit : ℕ) (h : bit ≤ length bs) where
-  abbrev badPick : Pick
-  badPick = record { why = 10; bit = bit; number = 0; form = 0; n = 0 }
-
-  picked-bad : ((n k m : ℕ) (K : ℕ → Bits → Ran) → choiceRun w fs (state n k m (drop bit bs)) K ≡ halt badKey (length (drop bit bs))) → Picked bs T steps w fs bit badPick
-  picked-bad e =
-      record {
+  picked-bad : ((n k m : ℕ) (K : ℕ → Bits → Ran) → choiceRun w fs (state n k m (drop bit bs)) K ≡ halt badKey (length (drop bit bs))) → {c : Pick} → c ≡ unpicked bit → Picked bs T steps w fs bit c
+  picked-bad e {c} u =
+      subst (Picked bs T steps w fs bit) (sym u) (record {
         stopped = λ _ n k m K. e n k m K ∙ ap (halt badKey) (length-drop bit bs);
         went = λ z. absurd (omega arith);
         small = λ z. absurd (omega arith);
@@ -301,15 +298,15 @@ module _ (bs : Bits) (T : List ℕ) (steps w : ℕ) (fs : ℕ → Form) (bit : �
         to = λ z. absurd (omega arith);
         in-table = omega arith;
         few = omega arith;
-      }
+      })
 
-  pub picked-short : Short ≡ answered (takeField w (drop bit bs)) → Picked bs T steps w fs bit (record { why = 10; bit = bit; number = 0; form = 0; n = 0 })
-  picked-short e = picked-bad (λ n k m K. ap (wholeRun (state n k m (drop bit bs)) fs K) (field-short (takeField w (drop bit bs)) e))
+  pub picked-short : {c : Pick} → c ≡ unpicked bit → Short ≡ answered (takeField w (drop bit bs)) → Picked bs T steps w fs bit c
+  picked-short u e = picked-bad (λ n k m K. ap (wholeRun (state n k m (drop bit bs)) fs K) (field-short (takeField w (drop bit bs)) e)) u
 
   module _ (t : ℕ) (o : Told bs bit w t) where
-    pub picked-never : isNever (fs t) ≡ true → Picked bs T steps w fs bit (record { why = 10; bit = bit; number = 0; form = 0; n = 0 })
-    picked-never e =
-        picked-bad (λ n k m K. ap (wholeRun (state n k m (drop bit bs)) fs K) (o .is) ∙ ap (allowedRun (state n k m (drop bit bs)) K t (drop (bit + w) bs)) e)
+    pub picked-never : {c : Pick} → c ≡ unpicked bit → isNever (fs t) ≡ true → Picked bs T steps w fs bit c
+    picked-never u e =
+        picked-bad (λ n k m K. ap (wholeRun (state n k m (drop bit bs)) fs K) (o .is) ∙ ap (allowedRun (state n k m (drop bit bs)) K t (drop (bit + w) bs)) e) u
 
     pub picked-to : (form n : ℕ) → isNever (fs t) ≡ false → fs t ≡ formOf T steps n form → form < 2 ^ 32 → n < 2 ^ 32
         → Picked bs T steps w fs bit (record { why = 0; bit = bit + w; number = t; form = form; n = n })

@@ -7,7 +7,7 @@ use lib.Dec.{eqb}
 use lib.ListN.{length, take, drop}
 use Rattle.keys.specs.Bits.{Bits}
 use Rattle.keys.specs.Form.{Value, spelt, nodes, names, letters, Form, never, one, word, choose, both, child, Grammar, State, state, Result, got, stop, takeSpelling}
-use Rattle.keys.specs.Limits.{badKey, noSpace}
+use Rattle.keys.specs.Limits.{badKey, noSpace, widest}
 use Rattle.keys.specs.Placed.{laid}
 use Rattle.keys.specs.Key.{padding, taken, refused, placeOf, takeKey}
 use Rattle.keys.specs.Store.{Run, done, chose, name, kid, under, called, packed, firstKid, records, nameOf, namesIn, nodesOf, namesOf, textOf, TakenBack}
@@ -62,14 +62,14 @@ Spans (choose w fs) n = (w ≤ n) × ((k : ℕ) → Spans (fs k) (n - w))
 Spans (both f g) n = Spans g n
 Spans (child c) n = Unit {0}
 
--- The table's choices fit: each in 31 bits, all of a node's in 60.
+-- The table's choices fit: each in 24 bits, all of a node's in 60.
 pub record Slim (T : List ℕ) : Type 0 where
   pub narrow : Narrow T
   pub rows : (c t : ℕ) → Spans (grammarOf T .row c t) (60 - classAt T c .w)
 
--- What a row that was read has: widths to 31 bits, numbers that fit the table.
+-- What a row that was read has: widths to 24 bits, numbers that fit the table.
 pub record Sized (r : Row) : Type 0 where
-  pub w : r .w ≤ 31
+  pub w : r .w ≤ widest
   pub a : r .a < 2 ^ 32
   pub b : r .b < 2 ^ 32
 
@@ -92,6 +92,10 @@ onward s p f n = record { at = p; base = s .base; word = s .word; shift = s .shi
 -- A place further on in the key.
 abbrev pub atBit : Pos → ℕ → Pos
 atBit p bit = record { why = 0; bit = bit; nodes = p .nodes; used = p .used; names = p .names; chars = p .chars }
+
+-- No choice, at a bit.
+abbrev pub unpicked : ℕ → Pick
+unpicked bit = record { why = badKey; bit = bit; number = 0; form = 0; n = 0 }
 
 -- The walk after a choice of w bits: its number stands above those before it.
 abbrev pub chosen : Fill → Pick → ℕ → Fill

@@ -64,7 +64,8 @@ digit-taken w a n =
     ap (λ (x : ℕ). (a * 2 + x) * 2 ^ w + n % 2 ^ w) (unit-odd (n / 2 ^ w)) ∙ spread a (n / 2 ^ w % 2) (2 ^ w) (n % 2 ^ w)
     ∙ ap₂ (λ (x y : ℕ). x + y) (sym (shift a w)) (sym (ap (λ (x : ℕ). n % x) (pow-succ' 2 w) ∙ mod-mul n (zero-lt-suc 1) (pow-pos w)))
 
-takeOn-written : (w a n : ℕ) (r : Bits) → takeOn a w (bitsOf w n ++ r) ≡ field (a * 2 ^ w + n % 2 ^ w) r
+-- The bits of a number behind what was taken.
+pub takeOn-written : (w a n : ℕ) (r : Bits) → takeOn a w (bitsOf w n ++ r) ≡ field (a * 2 ^ w + n % 2 ^ w) r
 takeOn-written zero a n r = ap (λ (x : ℕ). field x r) omega (arith, mod-one n)
 takeOn-written (suc w) a n r = takeOn-written w (a * 2 + unit (odd (n / 2 ^ w))) n r ∙ ap (λ (x : ℕ). field x r) (digit-taken w a n)
 

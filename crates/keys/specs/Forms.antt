@@ -5,6 +5,7 @@ use mathlib.Core.Path.{_≡_}
 use Prim.Native.Nat.{ℕ, zero, suc, _+_, _-_, _*_, _^_, _≤_, _<_}
 use lib.Dec.{leb, ltb}
 use lib.ListN.{getD}
+use Rattle.keys.specs.Limits.{widest}
 use Rattle.keys.specs.Form.{Form, never, one, word, choose, both, child, Grammar}
 use Rattle.keys.specs.Table.{when, oneOf}
 use Rattle.keys.specs.declared.forms.Row.{Row}
@@ -115,10 +116,10 @@ grammarOf T =
       row = λ c t. oneOf (listed T (λ f. formOf T (stepsOf T) 1 f) (classAt T c .a) (classAt T c .b)) t;
     }
 
--- Every width of the words is below 32.
+-- No width of the words is more than can be put or taken.
 pub record Narrow (T : List ℕ) : Type 0 where
-  pub at : (f : ℕ) → entryAt T f .w ≤ 31
-  pub tag : (c : ℕ) → classAt T c .w ≤ 31
+  pub at : (f : ℕ) → entryAt T f .w ≤ widest
+  pub tag : (c : ℕ) → classAt T c .w ≤ widest
 
 -- ---- What the code reads off the words
 
@@ -170,13 +171,13 @@ formEntries c =
     ∷ entry 2 16 0 11  -- 12 names, opt args
     ∷ entry 6 c 1 12  -- 13 1, 17: how many names
     ∷ entry 5 4 362 13  -- 14 2: which keyword
-    ∷ entry 2 16 0 7  -- 15 a spelling
+    ∷ entry 4 16 0 7  -- 15 a spelling
     ∷ entry 5 3 375 7  -- 16 3: which literal
     ∷ entry 6 c 1 8  -- 17 5, 6: how many parts
     ∷ entry 3 0 0 8  -- 18 8: two types
     ∷ entry 3 0 0 18  -- 19 three types
     ∷ entry 3 0 0 19  -- 20 9: four types
-    ∷ entry 2 16 0 9  -- 21 10: a name, opt type
+    ∷ entry 4 16 0 9  -- 21 10: a name, opt type
     ∷ entry 5 2 382 3  -- 22 11: which operator, a type
     ∷ entry 3 0 5 8  -- 23 parameters, the return
     ∷ entry 6 c 0 23  -- 24 how many parameters
@@ -194,30 +195,30 @@ formEntries c =
     ∷ entry 3 0 0 35  -- 36 the name type
     ∷ entry 5 1 397 2  -- 37 opt name type
     ∷ entry 3 0 0 37  -- 38 the constraint
-    ∷ entry 2 16 0 38  -- 39 the key
+    ∷ entry 4 16 0 38  -- 39 the key
     ∷ entry 5 2 399 4  -- 40 14: which readonly
     ∷ entry 3 16 0 7  -- 41 types, each with a spelling
     ∷ entry 4 16 0 41  -- 42 the first spelling
     ∷ entry 6 c 0 42  -- 43 15: how many types
     ∷ entry 5 1 403 2  -- 44 a type that is needed
-    ∷ entry 2 16 0 44  -- 45 a name, a type
+    ∷ entry 4 16 0 44  -- 45 a name, a type
     ∷ entry 5 1 405 2  -- 46 the bit of this: a type
     ∷ entry 5 1 407 2  -- 47 the bit of this: opt type
     ∷ entry 5 1 409 2  -- 48 16: the asserts bit
     ∷ entry 6 c 0 12  -- 49 how many names
-    ∷ entry 2 16 0 49  -- 50 the source
+    ∷ entry 4 16 0 49  -- 50 the source
     ∷ entry 7 1 0 50  -- 51 18: the typeof bit
     ∷ entry 3 0 1 7  -- 52 elements
     ∷ entry 6 c 0 52  -- 53 19: how many elements
     ∷ entry 3 0 2 7  -- 54 21: what is under a rest
     ∷ entry 3 0 3 7  -- 55 what is under a name
     ∷ entry 7 1 0 55  -- 56 the `?` bit
-    ∷ entry 2 16 0 56  -- 57 22: a name
+    ∷ entry 4 16 0 56  -- 57 22: a name
     ∷ entry 3 0 0 9  -- 58 a type, opt type
     ∷ entry 5 1 411 2  -- 59 opt type, opt type
-    ∷ entry 2 16 0 59  -- 60 a type parameter: its name
+    ∷ entry 4 16 0 59  -- 60 a type parameter: its name
     ∷ entry 7 1 0 9  -- 61 the `?` bit, opt type
-    ∷ entry 2 16 0 61  -- 62 the name
+    ∷ entry 4 16 0 61  -- 62 the name
     ∷ entry 7 1 0 62  -- 63 a parameter: the rest bit
     ∷ []
 

@@ -11,7 +11,7 @@ use lib.Dec.{leb, ltb, leb·zero, leb·suc-suc}
 use lib.ListN.{getD, take, drop, replicate}
 use Rattle.keys.specs.BitsLaws.{clash}
 use Rattle.keys.specs.Form.{Form, never, one, word, both, child}
-use Rattle.keys.specs.Limits.{countWidth, lengthWidth}
+use Rattle.keys.specs.Limits.{countWidth, lengthWidth, widest}
 use Rattle.keys.specs.Table.{when, times, oneOf, type, underRest, namedRow, table, rows, rowsOf}
 use Rattle.keys.specs.Forms.{inLine, lined, spellingsThen, nodesThen, listed, leads, Entry, entry, entryFrom, entryBy, entryAt, stepsOf, formBy, formOf, classAt, grammarOf, formsOf, classesOf, Narrow, entryOf, IsRow, Lists, Jumps, tableWords}
 use Rattle.keys.specs.declared.forms.Row.{Row}
@@ -117,44 +117,44 @@ le-or-lt (suc a) (suc b) = ⊎-elim (λ p. inl (omega arith)) (λ q. inr (omega 
 -- Are the widths of the first n forms below 32?
 abbrev narrowTo : List ℕ → ℕ → Bool
 narrowTo T zero = true
-narrowTo T (suc f) = leb (entryAt T f .w) 31 && narrowTo T f
+narrowTo T (suc f) = leb (entryAt T f .w) widest && narrowTo T f
 
 both-true : (a b : Bool) → a && b ≡ true → (a ≡ true) × (b ≡ true)
 both-true true b e = (refl, e)
 both-true false b e = clash (cc)
 
-narrow-below : (T : List ℕ) (n : ℕ) → narrowTo T n ≡ true → (f : ℕ) → f < n → entryAt T f .w ≤ 31
+narrow-below : (T : List ℕ) (n : ℕ) → narrowTo T n ≡ true → (f : ℕ) → f < n → entryAt T f .w ≤ widest
 narrow-below T zero e f h = absurd (omega arith)
 narrow-below T (suc n) e f h = by (le-or-lt n f) (λ l. narrow-below T n (two .1) f l)
   where
-    two : (leb (entryAt T n .w) 31 ≡ true) × (narrowTo T n ≡ true)
-    two = both-true (leb (entryAt T n .w) 31) (narrowTo T n) e
+    two : (leb (entryAt T n .w) widest ≡ true) × (narrowTo T n ≡ true)
+    two = both-true (leb (entryAt T n .w) widest) (narrowTo T n) e
 
-    by : (n ≤ f) ⊎ (f < n) → (f < n → entryAt T f .w ≤ 31) → entryAt T f .w ≤ 31
+    by : (n ≤ f) ⊎ (f < n) → (f < n → entryAt T f .w ≤ widest) → entryAt T f .w ≤ widest
     by (inl l) others =
         let q : n ≡ f = omega arith in
-        subst (λ (x : ℕ). entryAt T x .w ≤ 31) q (leb-true (entryAt T n .w) 31 (two .0))
+        subst (λ (x : ℕ). entryAt T x .w ≤ widest) q (leb-true (entryAt T n .w) widest (two .0))
     by (inr l) others = others l
 
-narrow-past : (T : List ℕ) (f : ℕ) → formsOf T ≤ f → entryAt T f .w ≤ 31
-narrow-past T f h = subst (λ (x : Bool). entryBy T f x .w ≤ 31) (sym (le-ltb f (formsOf T) h)) (omega arith)
+narrow-past : (T : List ℕ) (f : ℕ) → formsOf T ≤ f → entryAt T f .w ≤ widest
+narrow-past T f h = subst (λ (x : Bool). entryBy T f x .w ≤ widest) (sym (le-ltb f (formsOf T) h)) (omega arith)
 
 all-narrow : narrowTo (tableWords countWidth) (formsOf (tableWords countWidth)) ≡ true
 unfolding tableWords
 all-narrow = refl
 
-tag-small : (c : ℕ) → table countWidth .tagWidth c ≤ 31
+tag-small : (c : ℕ) → table countWidth .tagWidth c ≤ widest
 tag-small zero = omega arith
 tag-small (suc zero) = omega arith
 tag-small (suc (suc zero)) = omega arith
 tag-small (suc (suc (suc zero))) = omega arith
 tag-small (suc (suc (suc (suc c)))) = omega arith
 
--- A choice has at most 31 bits.
+-- A choice has at most 24 bits.
 pub words-narrow : Narrow (tableWords countWidth)
 words-narrow = record { at = λ f. by f (le-or-lt (formsOf (tableWords countWidth)) f); tag = λ c. omega (arith, tags-are countWidth c, tag-small c) }
   where
-    by : (f : ℕ) → (formsOf (tableWords countWidth) ≤ f) ⊎ (f < formsOf (tableWords countWidth)) → entryAt (tableWords countWidth) f .w ≤ 31
+    by : (f : ℕ) → (formsOf (tableWords countWidth) ≤ f) ⊎ (f < formsOf (tableWords countWidth)) → entryAt (tableWords countWidth) f .w ≤ widest
     by f (inl h) = narrow-past (tableWords countWidth) f h
     by f (inr h) = narrow-below (tableWords countWidth) (formsOf (tableWords countWidth)) all-narrow f h
 

@@ -27,6 +27,10 @@ lengthWidth = 16
 abbrev pub tagWide : ℕ
 tagWide = 6
 
+-- The widest field that is put or taken.
+abbrev pub widest : ℕ
+widest = 24
+
 -- The width of the edition.
 abbrev pub editionWidth : ℕ
 editionWidth = 4

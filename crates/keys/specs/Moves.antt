@@ -105,6 +105,10 @@ placeOf s = cursor (s .word) (s .child) (s .name)
 abbrev pub mark : (to next : ℕ) → Mark
 mark to next = record { to = to; name = next }
 
+-- The position at which a walk is.
+abbrev pub markOf : Walk → Mark
+markOf s = mark (s .to) (s .name)
+
 -- A walk with what was put out of it, at another form.
 abbrev pub movedTo : Walk → Mark → (form n steps : ℕ) → Walk
 movedTo s o form n steps = record { to = o .to; name = o .name; word = s .word; child = s .child; form = form; n = n; steps = steps }

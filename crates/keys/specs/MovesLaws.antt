@@ -11,7 +11,7 @@ use Rattle.keys.specs.Forms.{spellingsThen, spellingIf, nodesThen, Entry
 use Rattle.keys.specs.FormsLaws.{form-at}
 use Rattle.keys.specs.Put.{far}
 use Rattle.keys.specs.Holds.{wordAt, childAt, nextAt, Cursor, cursor, HoldsBy}
-use Rattle.keys.specs.Moves.{tagged, Of, of-one, of-word, of-choose, of-child, levels, Output, items, Moved, Moves, Noded, Spelled, formAt, placeOf, mark, movedTo, besideTo, Ready, toDo, Own, After, Begun}
+use Rattle.keys.specs.Moves.{tagged, Of, of-one, of-word, of-choose, of-child, levels, Output, items, Moved, Moves, Noded, Spelled, formAt, placeOf, mark, markOf, movedTo, besideTo, Ready, toDo, Own, After, Begun}
 use Rattle.keys.specs.declared.forms.Row.{Row}
 use Rattle.keys.specs.declared.forms.Jump.{Jump}
 use Rattle.keys.specs.declared.moves.Mark.{Mark}
@@ -374,6 +374,24 @@ module _ (O : Output) (L : Sound O) (T N : List ℕ) (P : ℕ → List ℕ → T
 
   pub along-own : {s q : Walk} {k k' : List ℕ} → Along s k → Own O T P most d s k q k' → Along q k'
   along-own p x = record { same = x .same ∙ p .same; ready = x .ready; on = moves-then O L (grammarOf T) N P high d (p .on) (x .on (grammarOf T) N high) }
+
+  -- Behind the last child the walk goes on at the next form.
+  module _ (s q : Walk) (r : Row) (h : 0 < s .steps) (f : s .n ≡ 0 → q ≡ movedTo s (markOf s) (r .b) 1 (s .steps - 1)) (g : (s .n ≡ 0 → ⊥) → q ≡ s) where
+    pub along-past : {k : List ℕ} → r .op ≡ 3 → IsRow (entryAt T (s .form)) r → Along s k → Along q k
+    along-past {k} e i p = by (s .n) refl
+      where
+        by : (n : ℕ) → s .n ≡ n → Along q k
+        by zero z =
+            along-own p (own-as (f z) (own-next O L T P most d s k (p .ready) r i h z (omega (arith, e)) (λ x. absurd (omega (arith, x, e))) (λ x. absurd (omega (arith, x, e)))))
+        by (suc n) z = subst (λ (x : Walk). Along x k) (sym (g (λ x. absurd (omega (arith, x, z))))) p
+
+    -- Nothing is added to what is left to do.
+    pub past-less : toDo q ≤ toDo s
+    past-less = by (s .n) refl
+      where
+        by : (n : ℕ) → s .n ≡ n → toDo q ≤ toDo s
+        by zero z = subst (λ (x : Walk). toDo x ≤ toDo s) (sym (f z)) (omega (arith, h))
+        by (suc n) z = subst (λ (x : Walk). toDo x ≤ toDo s) (sym (g (λ x. absurd (omega (arith, x, z))))) (omega arith)
 
   module _ {s : Walk} {k : List ℕ} (p : Along s k) (r : Row) (z : IsRow (entryAt T (s .form)) r) (h : 0 < s .steps) where
     now-at : (n f : ℕ) → r .op ≡ f → formOf T (s .steps) n (s .form) ≡ formBy T (λ m g. formOf T (s .steps - 1) m g) n (entryOf r) f

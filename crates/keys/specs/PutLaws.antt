@@ -33,7 +33,7 @@ pub bits-mod : (w n : ℕ) → bitsOf w (n % 2 ^ w) ≡ bitsOf w n
 bits-mod w n = sym (bits-low w (n / 2 ^ w) (n % 2 ^ w)) ∙ ap (bitsOf w) (split n w)
 
 -- The bits of a number that is made of three.
-bits-three : (m s n l h x y : ℕ) → m ≡ s + n + l → x < 2 ^ n → y < 2 ^ l → bitsOf m ((h * 2 ^ n + x) * 2 ^ l + y) ≡ (bitsOf s h ++ bitsOf n x) ++ bitsOf l y
+pub bits-three : (m s n l h x y : ℕ) → m ≡ s + n + l → x < 2 ^ n → y < 2 ^ l → bitsOf m ((h * 2 ^ n + x) * 2 ^ l + y) ≡ (bitsOf s h ++ bitsOf n x) ++ bitsOf l y
 bits-three m s n l h x y e p q =
     bits-front m (s + n) l ((h * 2 ^ n + x) * 2 ^ l + y) e
     ∙ ap₂ (λ (a : ℕ) (b : Bits). bitsOf (s + n) a ++ b) (high (h * 2 ^ n + x) l q) (bits-low l (h * 2 ^ n + x) y)
@@ -68,7 +68,7 @@ module _ {A : Type 0} where
   sets-past [] l i h = refl
   sets-past (v ∷ vs) l i h = ap (λ (x : List A). sets x (suc i) vs) (set-out l i v h) ∙ sets-past vs l (suc i) (omega arith)
 
-  sets-left : (vs xs ys : List A) (i : ℕ) → i + length vs ≤ length xs → sets (xs ++ ys) i vs ≡ sets xs i vs ++ ys
+  pub sets-left : (vs xs ys : List A) (i : ℕ) → i + length vs ≤ length xs → sets (xs ++ ys) i vs ≡ sets xs i vs ++ ys
   sets-left [] xs ys i h = refl
   sets-left (v ∷ vs) xs ys i h =
       ap (λ (x : List A). sets x (suc i) vs) (set-append-left xs ys i v (omega arith)) ∙ sets-left vs (set xs i v) ys (suc i) (omega (arith, length-set xs i v))
@@ -77,7 +77,7 @@ module _ {A : Type 0} where
   set-right [] ys n a = ap (λ (k : ℕ). set ys k a) (zero-add n)
   set-right (x ∷ xs) ys n a = ap (λ (k : ℕ). set (x ∷ (xs ++ ys)) k a) (suc-add (length xs) n) ∙ ap (λ (l : List A). x ∷ l) (set-right xs ys n a)
 
-  sets-right : (vs xs ys : List A) (n : ℕ) → sets (xs ++ ys) (length xs + n) vs ≡ xs ++ sets ys n vs
+  pub sets-right : (vs xs ys : List A) (n : ℕ) → sets (xs ++ ys) (length xs + n) vs ≡ xs ++ sets ys n vs
   sets-right [] xs ys n = refl
   sets-right (v ∷ vs) xs ys n =
       ap (λ (l : List A). sets l (suc (length xs + n)) vs) (set-right xs ys n v)
@@ -87,14 +87,14 @@ module _ {A : Type 0} where
   pub sets-cons : (vs : List A) (v : A) (xs : List A) → sets (v ∷ xs) 1 vs ≡ v ∷ sets xs 0 vs
   sets-cons vs v xs = sets-right vs (v ∷ []) xs 0
 
-  sets-whole : (vs xs : List A) → length vs ≡ length xs → sets xs 0 vs ≡ vs
+  pub sets-whole : (vs xs : List A) → length vs ≡ length xs → sets xs 0 vs ≡ vs
   sets-whole [] [] h = refl
   sets-whole [] (x ∷ xs) h = absurd (omega arith)
   sets-whole (v ∷ vs) [] h = absurd (omega arith)
   sets-whole (v ∷ vs) (x ∷ xs) h = sets-cons vs v xs ∙ ap (λ (l : List A). v ∷ l) (sets-whole vs xs (omega arith))
 
   -- A part in the middle is replaced.
-  sets-middle : (xs bs cs vs : List A) (i : ℕ) → i ≡ length xs → length vs ≡ length bs → sets ((xs ++ bs) ++ cs) i vs ≡ (xs ++ vs) ++ cs
+  pub sets-middle : (xs bs cs vs : List A) (i : ℕ) → i ≡ length xs → length vs ≡ length bs → sets ((xs ++ bs) ++ cs) i vs ≡ (xs ++ vs) ++ cs
   sets-middle xs bs cs vs i e h =
       sets-left vs (xs ++ bs) cs i (omega (arith, length-append xs bs))
       ∙ ap (λ (l : List A). l ++ cs)
@@ -164,7 +164,7 @@ module _ (old skip size part u : ℕ) (l : old < 256) (b : skip + size ≤ 8) (h
 
 -- ---- Bytes and their bits
 
-bytes-set : (s : List ℕ) (q r y : ℕ) (bs : Bits) → q < length s → r + length bs ≤ 8 → bitsOf 8 y ≡ sets (bitsOf 8 (getD s q 0)) r bs
+pub bytes-set : (s : List ℕ) (q r y : ℕ) (bs : Bits) → q < length s → r + length bs ≤ 8 → bitsOf 8 y ≡ sets (bitsOf 8 (getD s q 0)) r bs
     → bitsOfBytes (set s q y) ≡ sets (bitsOfBytes s) (q * 8 + r) bs
 bytes-set [] q r y bs h l e = absurd (omega arith)
 bytes-set (x ∷ s) zero r y bs h l e =
@@ -216,15 +216,14 @@ putting-more {all} {bit} {width} {number} {at} {left} {key} size part new d h p 
           (length-bits size (number / 2 ^ (left - size)));
     }
 
-pub putting-all : {old : List ℕ} {bit width number at left : ℕ} {key : List ℕ} (next : ℕ) → Putting (bitsOfBytes old) bit width number at left key → left ≡ 0
-    → length old * 8 ≤ far → length key ≡ length old → next ≡ onward bit width → Put bit (bitsOf width number) next old key
-putting-all {old} {bit} {width} {number} {at} {left} {key} next d z h s n =
-    record {
-      short = h;
-      next = n ∙ ap (onward bit) (sym (length-bits width number));
-      same = s;
-      bits = sym (d .same ∙ ap (λ (k : ℕ). sets (bitsOfBytes key) at (bitsOf k number)) z);
-    }
+pub putting-all : (old : List ℕ) {bit width number at left : ℕ} {key : List ℕ} → Putting (bitsOfBytes old) bit width number at left key → left ≡ 0
+    → bitsOfBytes key ≡ sets (bitsOfBytes old) bit (bitsOf width number)
+putting-all old {bit} {width} {number} {at} {left} {key} d z = sym (d .same ∙ ap (λ (k : ℕ). sets (bitsOfBytes key) at (bitsOf k number)) z)
+
+-- A number that is put.
+pub number-put : (bit width number next : ℕ) (old key : List ℕ) → length old * 8 ≤ far → length key ≡ length old → next ≡ onward bit width
+    → bitsOfBytes key ≡ sets (bitsOfBytes old) bit (bitsOf width number) → Put bit (bitsOf width number) next old key
+number-put bit width number next old key h s n e = record { short = h; next = n ∙ ap (onward bit) (sym (length-bits width number)); same = s; bits = e }
 
 -- ---- What is put after what was put
 
@@ -259,7 +258,7 @@ bytes-append [] t = refl
 bytes-append (x ∷ s) t = ap (λ (y : Bits). bitsOf 8 x ++ y) (bytes-append s t) ∙ sym (append-assoc (bitsOf 8 x) (bitsOfBytes s) (bitsOfBytes t))
 
 -- One byte more of a text.
-text-suc : (text : List ℕ) (start i : ℕ) → start + i < length text
+pub text-suc : (text : List ℕ) (start i : ℕ) → start + i < length text
     → bitsOfBytes (part text start (i + 1)) ≡ bitsOfBytes (part text start i) ++ bitsOf 8 (getD text (start + i) 0)
 text-suc text start i h =
     ap bitsOfBytes

@@ -4,7 +4,7 @@ ghost use mathlib.Core.Bool.{Bool};
 ghost use Prim.Native.Nat.{ℕ, _+_, _-_, _*_, _/_, _^_, _<_, _≤_};
 ghost use lib.Dec.{eqb};
 ghost use lib.ListN.{length};
-ghost use Rattle.keys.specs.Limits.{longestKey, recordWords, noSpace};
+ghost use Rattle.keys.specs.Limits.{longestKey, recordWords, noSpace, widest};
 ghost use Rattle.keys.specs.Bits.{bitsOfBytes};
 ghost use Rattle.keys.specs.Form.{isNever};
 ghost use Rattle.keys.specs.Forms.{formBy, formOf, leads, grammarOf, entryOf};
@@ -73,7 +73,7 @@ fn refused(why: u32, bit: usize) -> Pos
 
 // A spelling: 10 where it is cut short or has no byte, 11 where there is no room for its bytes or its name.
 fn take_spelling(key: &[u8], names: &mut [u64], text: &mut [u8], w: usize, p: Pos) -> Pos
-    requires { ⌜ (length (now key) ≤ longestKey) × (w ≤ 31) × back.Inside (bitsOfBytes (now key)) (length (now names)) (length (now text)) p ⌝ }
+    requires { ⌜ (length (now key) ≤ longestKey) × (w ≤ widest) × back.Inside (bitsOfBytes (now key)) (length (now names)) (length (now text)) p ⌝ }
     ensures { λ r. ⌜ back.SpellingIn (bitsOfBytes (now (key .entry))) (length (now (names .entry))) (length (now (text .entry))) w p (now (names .entry)) (now (text .entry)) r (now (names .exit)) (now (text .exit)) ⌝ }
 {
     let bit = p.bit;
@@ -111,10 +111,17 @@ fn take_spelling(key: &[u8], names: &mut [u64], text: &mut [u8], w: usize, p: Po
 
 // n spellings.
 fn take_spellings(key: &[u8], names: &mut [u64], text: &mut [u8], w: usize, n: usize, p: Pos) -> Pos
-    requires { ⌜ (length (now key) ≤ longestKey) × (w ≤ 31) × (p .why ≡ 0) × back.Inside (bitsOfBytes (now key)) (length (now names)) (length (now text)) p ⌝ }
+    requires { ⌜ (length (now key) ≤ longestKey) × (w ≤ widest) × (p .why ≡ 0) × back.Inside (bitsOfBytes (now key)) (length (now names)) (length (now text)) p ⌝ }
     ensures { λ r. ⌜ back.SpellingsIn (bitsOfBytes (now (key .entry))) (length (now (names .entry))) (length (now (text .entry))) w n p (now (names .entry)) (now (text .entry)) r (now (names .exit)) (now (text .exit)) ⌝ }
 {
-    let mut q = p;
+    let mut q = Pos {
+        why: p.why,
+        bit: p.bit,
+        nodes: p.nodes,
+        used: p.used,
+        names: p.names,
+        chars: p.chars,
+    };
     let mut i: usize = 0;
     while i < n {
         q = take_spelling(key, names, text, w, q);
@@ -127,7 +134,7 @@ fn take_spellings(key: &[u8], names: &mut [u64], text: &mut [u8], w: usize, n: u
 }
 
 // Whether the table has no form there, of so many steps.
-fn is_none(forms: &[u32], steps: usize, form: usize) -> bool
+fn is_none(forms: &[u16], steps: usize, form: usize) -> bool
     requires { ⌜ form < 2 ^ 32 ⌝ }
     ensures { λ r. ⌜ ((n : ℕ) → 1 ≤ n → r ≡ isNever (formOf (now (forms .entry)) steps n form)) ⌝ }
 {
@@ -139,7 +146,7 @@ fn is_none(forms: &[u32], steps: usize, form: usize) -> bool
 }
 
 // The same where the form's first step is done n times: done 0 times it is the form after it.
-fn is_never(forms: &[u32], steps: usize, n: usize, form: usize) -> bool
+fn is_never(forms: &[u16], steps: usize, n: usize, form: usize) -> bool
     requires { ⌜ form < 2 ^ 32 ⌝ }
     ensures { λ r. ⌜ r ≡ isNever (formOf (now (forms .entry)) steps n form) ⌝ }
 {
@@ -160,31 +167,32 @@ fn is_never(forms: &[u32], steps: usize, n: usize, form: usize) -> bool
     op == 0
 }
 
+// No choice, at a bit.
+fn no_pick(bit: usize) -> Pick
+    ensures { λ c. ⌜ c ≡ back.unpicked bit ⌝ }
+{
+    Pick {
+        why: Refusal::BAD_KEY,
+        bit,
+        number: 0,
+        form: 0,
+        n: 0,
+    }
+}
+
 // A field that chooses: 10 where it is cut short or leads to no form.
-fn take_choice(forms: &[u32], key: &[u8], steps: usize, r: Row, bit: usize) -> Pick
-    requires { ⌜ (length (now key) ≤ longestKey) × (bit ≤ length (now key) * 8) × (r .w ≤ 31) × (r .a < 2 ^ 32) × (r .b < 2 ^ 32) × (5 ≤ r .op) ⌝ }
+fn take_choice(forms: &[u16], key: &[u8], steps: usize, r: Row, bit: usize) -> Pick
+    requires { ⌜ (length (now key) ≤ longestKey) × (bit ≤ length (now key) * 8) × (r .w ≤ widest) × (r .a < 2 ^ 32) × (r .b < 2 ^ 32) × (5 ≤ r .op) ⌝ }
     ensures { λ c. ⌜ back.Picked (bitsOfBytes (now (key .entry))) (now (forms .entry)) steps (r .w) (leads (now (forms .entry)) (formOf (now (forms .entry)) steps) (entryOf r) (r .op - 5)) bit c ⌝ }
 {
     let taken = take::take_field(key, bit, r.w);
     let TakenField::Number(n) = taken else {
-        return Pick {
-            why: Refusal::BAD_KEY,
-            bit,
-            number: 0,
-            form: 0,
-            n: 0,
-        };
+        return no_pick(bit);
     };
     let t = slim(n);
     let j = forms::jump_at(forms, r, t);
     if is_never(forms, steps, j.n, j.form) {
-        return Pick {
-            why: Refusal::BAD_KEY,
-            bit,
-            number: 0,
-            form: 0,
-            n: 0,
-        };
+        return no_pick(bit);
     }
     Pick {
         why: 0,
@@ -192,6 +200,29 @@ fn take_choice(forms: &[u32], key: &[u8], steps: usize, r: Row, bit: usize) -> P
         number: t,
         form: j.form,
         n: j.n,
+    }
+}
+
+// The tag of a class: 10 where it is cut short or there is no such row.
+fn take_tag(forms: &[u16], key: &[u8], steps: usize, tags: Row, bit: usize) -> Pick
+    requires { ⌜ (length (now key) ≤ longestKey) × (bit ≤ length (now key) * 8) × (tags .w ≤ widest) × (tags .a < 2 ^ 32) ⌝ }
+    ensures { λ c. ⌜ back.Picked (bitsOfBytes (now (key .entry))) (now (forms .entry)) steps (tags .w) (leads (now (forms .entry)) (formOf (now (forms .entry)) steps) (entryOf tags) 0) bit c ⌝ }
+{
+    let taken = take::take_field(key, bit, tags.w);
+    let TakenField::Number(n) = taken else {
+        return no_pick(bit);
+    };
+    let t = slim(n);
+    let j = forms::listed_at(forms, tags, t);
+    if is_none(forms, steps, j.form) {
+        return no_pick(bit);
+    }
+    Pick {
+        why: 0,
+        bit: bit + tags.w,
+        number: t,
+        form: j.form,
+        n: 1,
     }
 }
 
@@ -249,7 +280,7 @@ fn choose(s: Fill, w: usize, c: Pick) -> Fill
 
 // A step that goes into no child.
 fn take_plain(
-    forms: &[u32],
+    forms: &[u16],
     key: &[u8],
     names: &mut [u64],
     text: &mut [u8],
@@ -261,6 +292,11 @@ fn take_plain(
     ensures { λ q. ⌜ back.PlainIn (bitsOfBytes (now (key .entry))) (length (now (names .entry))) (length (now (text .entry))) (now (forms .entry)) steps r s (now (names .entry)) (now (text .entry)) q (now (names .exit)) (now (text .exit)) ⌝ }
 {
     let op = r.op;
+    if forms::CHOICE <= op {
+        let p = s.at;
+        let c = take_choice(forms, key, steps, r, p.bit);
+        return choose(s, r.w, c);
+    }
     let p = s.at;
     if op == forms::SPELLINGS {
         let at = take_spellings(key, names, text, r.w, s.n, p);
@@ -285,10 +321,6 @@ fn take_plain(
             form: r.b,
             n: s.n,
         };
-    }
-    if forms::CHOICE <= op {
-        let c = take_choice(forms, key, steps, r, p.bit);
-        return choose(s, r.w, c);
     }
     moved(s, refused(Refusal::BAD_KEY, p.bit))
 }
@@ -326,7 +358,7 @@ fn link_child(nodes: &mut [u64], s: Fill, at: Pos) -> Fill
 
 // The spelling after a child, if its length has any bits.
 fn take_after(key: &[u8], names: &mut [u64], text: &mut [u8], w: usize, s: Fill) -> Fill
-    requires { ⌜ (length (now key) ≤ longestKey) × (w ≤ 31) × (s .at .why ≡ 0) × back.Inside (bitsOfBytes (now key)) (length (now names)) (length (now text)) (s .at) ⌝ }
+    requires { ⌜ (length (now key) ≤ longestKey) × (w ≤ widest) × (s .at .why ≡ 0) × back.Inside (bitsOfBytes (now key)) (length (now names)) (length (now text)) (s .at) ⌝ }
     ensures { λ q. ⌜ back.AfterIn (bitsOfBytes (now (key .entry))) (length (now (names .entry))) (length (now (text .entry))) w s (now (names .entry)) (now (text .entry)) q (now (names .exit)) (now (text .exit)) ⌝ }
 {
     if w == 0 {
@@ -339,7 +371,7 @@ fn take_after(key: &[u8], names: &mut [u64], text: &mut [u8], w: usize, s: Fill)
 
 // A node of a class, with room for `left` nodes one above the other: it meets 10 at its tag, 6, 8, then its fields in order.
 fn take_node(
-    forms: &[u32],
+    forms: &[u16],
     key: &[u8],
     nodes: &mut [u64],
     names: &mut [u64],
@@ -354,18 +386,7 @@ fn take_node(
     let bit = p.bit;
     let steps = forms::word_at(forms, 1);
     let tags = forms::class_at(forms, class);
-    let tag = take_choice(
-        forms,
-        key,
-        steps,
-        Row {
-            op: forms::CHOICE,
-            w: tags.w,
-            a: tags.a,
-            b: tags.b,
-        },
-        bit,
-    );
+    let tag = take_tag(forms, key, steps, tags, bit);
     if tag.why != 0 {
         return refused(Refusal::BAD_KEY, bit);
     }
@@ -429,7 +450,7 @@ fn take_node(
 
 // n nodes, one after the other, a spelling after each if its length has any bits.
 fn take_nodes(
-    forms: &[u32],
+    forms: &[u16],
     key: &[u8],
     nodes: &mut [u64],
     names: &mut [u64],
@@ -503,7 +524,7 @@ fn take_whole(key: &[u8], nodes: &mut [u64], names: &mut [u64], text: &mut [u8])
     let start = Pos {
         why: 0,
         bit: forms::EDITION_WIDTH,
-        nodes: nodes.len() / 4,
+        nodes: nodes.len() / store::RECORD,
         used: 0,
         names: 0,
         chars: 0,
@@ -555,7 +576,7 @@ pub fn take_back(key: &[u8], nodes: &mut [u64], names: &mut [u64], text: &mut [u
         store::clear_bytes(text, 0);
         return Answer::Refused(q.why, place_of(q.why, q.bit));
     }
-    store::clear_words(nodes, q.used * 4);
+    store::clear_words(nodes, q.used * store::RECORD);
     store::clear_words(names, q.names);
     store::clear_bytes(text, q.chars);
     Answer::Taken(q.used, q.names, q.chars)

@@ -29,7 +29,7 @@ pub const CHOICE: usize = 5;
 pub const TIMES: usize = 6;
 
 // The whole table, to be taken once a call and lent.
-pub fn words() -> [u32; 413]
+pub fn words() -> [u16; 413]
     ensures { λ r. ⌜ r ≡ tableWords countWidth ⌝ }
 {
     tables::WORDS
@@ -43,24 +43,32 @@ pub struct Row {
     pub b: usize,
 }
 
-fn slim(x: u32) -> usize
+fn slim(x: u16) -> usize
     ensures { λ r. ⌜ (r ≡ x) × (r < 2 ^ 32) ⌝ }
 {
     x as usize
 }
 
 // A word of the table, 0 past its end.
-pub fn word_at(forms: &[u32], at: usize) -> usize
+pub fn word_at(forms: &[u16], at: usize) -> usize
     ensures { λ r. ⌜ (r ≡ getD (now (forms .entry)) at 0) × (r < 2 ^ 32) ⌝ }
 {
     if at < forms.len() { slim(forms[at]) } else { 0 }
 }
 
-// The four words from a place on.
-fn row_from(forms: &[u32], at: usize) -> Row
+// The four words from a place on, 0 past the end.
+fn row_from(forms: &[u16], at: usize) -> Row
     requires { ⌜ at ≤ 2 ^ 40 ⌝ }
     ensures { λ r. ⌜ IsRow (entryFrom (now (forms .entry)) at) r ⌝ }
 {
+    if at + 3 < forms.len() {
+        return Row {
+            op: slim(forms[at]),
+            w: slim(forms[at + 1]),
+            a: slim(forms[at + 2]),
+            b: slim(forms[at + 3]),
+        };
+    }
     Row {
         op: word_at(forms, at),
         w: word_at(forms, at + 1),
@@ -70,7 +78,7 @@ fn row_from(forms: &[u32], at: usize) -> Row
 }
 
 // A form of the table, never past the last.
-pub fn row_at(forms: &[u32], form: usize) -> Row
+pub fn row_at(forms: &[u16], form: usize) -> Row
     requires { ⌜ form < 2 ^ 32 ⌝ }
     ensures { λ r. ⌜ IsRow (entryAt (now (forms .entry)) form) r ⌝ }
 {
@@ -86,7 +94,7 @@ pub fn row_at(forms: &[u32], form: usize) -> Row
 }
 
 // The choice of a class's tag, none past the last class.
-pub fn class_at(forms: &[u32], class: usize) -> Row
+pub fn class_at(forms: &[u16], class: usize) -> Row
     requires { ⌜ class < 2 ^ 32 ⌝ }
     ensures { λ r. ⌜ IsRow (classAt (now (forms .entry)) class) r ⌝ }
 {
@@ -108,7 +116,7 @@ pub struct Jump {
 }
 
 // One of the forms that a row lists; past the last form where the number is too large.
-pub fn listed_at(forms: &[u32], r: Row, t: usize) -> Jump
+pub fn listed_at(forms: &[u16], r: Row, t: usize) -> Jump
     requires { ⌜ (r .a < 2 ^ 32) × (t < 2 ^ 32) ⌝ }
     ensures { λ j. ⌜ Lists (now (forms .entry)) r t j ⌝ }
 {
@@ -125,7 +133,7 @@ pub fn listed_at(forms: &[u32], r: Row, t: usize) -> Jump
 }
 
 // What the number t of a choice leads to.
-pub fn jump_at(forms: &[u32], r: Row, t: usize) -> Jump
+pub fn jump_at(forms: &[u16], r: Row, t: usize) -> Jump
     requires { ⌜ (r .a < 2 ^ 32) × (r .b < 2 ^ 32) × (t < 2 ^ 32) × (5 ≤ r .op) ⌝ }
     ensures { λ j. ⌜ Jumps (now (forms .entry)) r t j ⌝ }
 {

@@ -1,8 +1,9 @@
 // Where a walk of a tree is, and its moves: what key out and the visits share.
 ghost use mathlib.Core.Path.{_≡_};
 ghost use mathlib.Core.Bool.{true, false};
-ghost use Prim.Native.Nat.{_/_, _%_, _≤_, _<_, _^_};
-ghost use Rattle.keys.specs.Moves.{movedTo, besideTo};
+ghost use Prim.Native.Nat.{_-_, _/_, _%_, _≤_, _<_, _^_};
+ghost use Rattle.keys.specs.Limits.{widest};
+ghost use Rattle.keys.specs.Moves.{markOf, movedTo, besideTo};
 use crate::forms;
 use crate::forms::Row;
 
@@ -31,7 +32,7 @@ pub struct Chosen {
 
 // The next of a node's own choices, of w bits.
 pub fn choice_of(word: u64, w: usize) -> Chosen
-    requires { ⌜ w ≤ 31 ⌝ }
+    requires { ⌜ w ≤ widest ⌝ }
     ensures { λ r. ⌜ (r .number ≡ word % 2 ^ w) × (r .word ≡ word / 2 ^ w) × (r .number < 2 ^ 31) ⌝ }
 {
     let rest = word >> w;
@@ -71,6 +72,21 @@ pub fn beside(s: Walk, o: Mark, next: usize) -> Walk
         n: s.n - 1,
         steps: s.steps,
     }
+}
+
+// The walk behind the last of its children, or as it is.
+pub fn past_last(r: Row, s: Walk) -> Walk
+    requires { ⌜ 0 < s .steps ⌝ }
+    ensures { λ q. ⌜ (s .n ≡ 0 → q ≡ movedTo s (markOf s) (r .b) 1 (s .steps - 1)) × ((s .n ≡ 0 → ⊥) → q ≡ s) ⌝ }
+{
+    if 0 < s.n {
+        return s;
+    }
+    let o = Mark {
+        to: s.to,
+        name: s.name,
+    };
+    moved(s, o, r.b, 1, s.steps - 1)
 }
 
 // Does the next step go into a child?

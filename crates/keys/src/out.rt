@@ -3,6 +3,7 @@ ghost use mathlib.Core.Path.{_≡_};
 ghost use mathlib.Core.List.{List};
 ghost use Prim.Native.Nat.{ℕ, _*_, _≤_, _<_, _^_};
 ghost use lib.ListN.{length};
+ghost use Rattle.keys.specs.Limits.{widest};
 ghost use Rattle.keys.specs.Forms.{entryAt, grammarOf, IsRow, Narrow};
 ghost use Rattle.keys.specs.Put.{far};
 ghost use Rattle.keys.specs.Holds.{Spells};
@@ -18,7 +19,7 @@ use crate::store;
 
 // The next spelling, its length in w bits.
 fn put_spelling(names: &[u64], text: &[u8], key: &mut [u8], w: usize, o: Mark) -> Mark
-    requires { ⌜ (length (now key) * 8 ≤ far) × (o .to ≤ far) × (w ≤ 31) × (o .name ≤ length (now names)) ⌝ }
+    requires { ⌜ (length (now key) * 8 ≤ far) × (o .to ≤ far) × (w ≤ widest) × (o .name ≤ length (now names)) ⌝ }
     ensures { λ r. ⌜ Spelled keyBits (Spells (now (names .entry)) (now (text .entry))) (length (now (names .entry))) w 0 (o .name) (o .to) (now (key .entry)) (r .name) (r .to) (now (key .exit)) ⌝ }
 {
     let name = o.name;
@@ -39,8 +40,8 @@ fn put_spelling(names: &[u64], text: &[u8], key: &mut [u8], w: usize, o: Mark) -
 }
 
 // A step that is a choice.
-fn put_chosen(forms: &[u32], names: &[u64], text: &[u8], key: &mut [u8], r: Row, s: Walk) -> Walk
-    requires { ⌜ Ready (length (now names)) (now key) s × IsRow (entryAt (now forms) (s .form)) r × (r .w ≤ 31) × (0 < s .steps) × (5 ≤ r .op) ⌝ }
+fn put_chosen(forms: &[u16], names: &[u64], text: &[u8], key: &mut [u8], r: Row, s: Walk) -> Walk
+    requires { ⌜ Ready (length (now names)) (now key) s × IsRow (entryAt (now forms) (s .form)) r × (r .w ≤ widest) × (0 < s .steps) × (5 ≤ r .op) ⌝ }
     ensures { λ q. ⌜ Own keyBits (now (forms .entry)) (Spells (now (names .entry)) (now (text .entry))) (length (now (names .entry))) 0 s (now (key .entry)) q (now (key .exit)) ⌝ }
 {
     let c = moves::choice_of(s.word, r.w);
@@ -58,8 +59,8 @@ fn put_chosen(forms: &[u32], names: &[u64], text: &[u8], key: &mut [u8], r: Row,
 }
 
 // A step that is no choice and goes into no child: a spelling, or on to the next form.
-fn put_said(forms: &[u32], names: &[u64], text: &[u8], key: &mut [u8], r: Row, s: Walk) -> Walk
-    requires { ⌜ Ready (length (now names)) (now key) s × IsRow (entryAt (now forms) (s .form)) r × (r .w ≤ 31) × (0 < s .steps) × (r .op < 5) × (r .op ≡ 1 → ⊥) × (r .op ≡ 3 → s .n ≡ 0) ⌝ }
+fn put_said(forms: &[u16], names: &[u64], text: &[u8], key: &mut [u8], r: Row, s: Walk) -> Walk
+    requires { ⌜ Ready (length (now names)) (now key) s × IsRow (entryAt (now forms) (s .form)) r × (r .w ≤ widest) × (0 < s .steps) × (r .op < 5) × (r .op ≡ 1 → ⊥) × (r .op ≡ 3 → s .n ≡ 0) ⌝ }
     ensures { λ q. ⌜ Own keyBits (now (forms .entry)) (Spells (now (names .entry)) (now (text .entry))) (length (now (names .entry))) 0 s (now (key .entry)) q (now (key .exit)) ⌝ }
 {
     let op = r.op;
@@ -83,8 +84,8 @@ fn put_said(forms: &[u32], names: &[u64], text: &[u8], key: &mut [u8], r: Row, s
 }
 
 // A step of a node that goes into no child.
-fn put_own(forms: &[u32], names: &[u64], text: &[u8], key: &mut [u8], r: Row, s: Walk) -> Walk
-    requires { ⌜ Ready (length (now names)) (now key) s × IsRow (entryAt (now forms) (s .form)) r × (r .w ≤ 31) × (0 < s .steps) × (r .op ≡ 1 → ⊥) × (r .op ≡ 3 → s .n ≡ 0) ⌝ }
+fn put_own(forms: &[u16], names: &[u64], text: &[u8], key: &mut [u8], r: Row, s: Walk) -> Walk
+    requires { ⌜ Ready (length (now names)) (now key) s × IsRow (entryAt (now forms) (s .form)) r × (r .w ≤ widest) × (0 < s .steps) × (r .op ≡ 1 → ⊥) × (r .op ≡ 3 → s .n ≡ 0) ⌝ }
     ensures { λ q. ⌜ Own keyBits (now (forms .entry)) (Spells (now (names .entry)) (now (text .entry))) (length (now (names .entry))) 0 s (now (key .entry)) q (now (key .exit)) ⌝ }
 {
     if forms::CHOICE <= r.op {
@@ -103,7 +104,7 @@ fn after_child(
     s: Walk,
     o: Mark,
 ) -> Walk
-    requires { ⌜ (length (now key) * 8 ≤ far) × (o .to ≤ far) × (o .name ≤ length (now names)) × (w ≤ 31) × (s .child < 2 ^ 32) × (s .form < 2 ^ 32) × (0 < s .n) × (s .n < 2 ^ 32) × (s .steps < 2 ^ 32) ⌝ }
+    requires { ⌜ (length (now key) * 8 ≤ far) × (o .to ≤ far) × (o .name ≤ length (now names)) × (w ≤ widest) × (s .child < 2 ^ 32) × (s .form < 2 ^ 32) × (0 < s .n) × (s .n < 2 ^ 32) × (s .steps < 2 ^ 32) ⌝ }
     ensures { λ q. ⌜ After keyBits (now (nodes .entry)) (Spells (now (names .entry)) (now (text .entry))) (length (now (names .entry))) w 0 s o (now (key .entry)) q (now (key .exit)) ⌝ }
 {
     let next = store::next_of(nodes, s.child);
@@ -115,7 +116,7 @@ fn after_child(
 }
 
 // A node's tag, and the walk behind it.
-fn put_tag(forms: &[u32], nodes: &[u64], key: &mut [u8], class: usize, at: usize, o: Mark) -> Walk
+fn put_tag(forms: &[u16], nodes: &[u64], key: &mut [u8], class: usize, at: usize, o: Mark) -> Walk
     requires { ⌜ (length (now key) * 8 ≤ far) × (o .to ≤ far) × (class < 2 ^ 32) × (at < 2 ^ 32) × Narrow (now forms) ⌝ }
     ensures { λ q. ⌜ ((M X : List ℕ) → Begun keyBits (now (forms .entry)) (now (nodes .entry)) (Spells M X) 0 class at o (now (key .entry)) q (now (key .exit))) ⌝ }
 {
@@ -137,7 +138,7 @@ fn put_tag(forms: &[u32], nodes: &[u64], key: &mut [u8], class: usize, at: usize
 
 // The node `at`, of a class; `left` is how many levels there may be.
 fn put_node(
-    forms: &[u32],
+    forms: &[u16],
     nodes: &[u64],
     names: &[u64],
     text: &[u8],
@@ -177,7 +178,8 @@ fn put_node(
                     name: s.name,
                 },
             );
-            s = after_child(nodes, names, text, key, r.w, s, q);
+            let t = after_child(nodes, names, text, key, r.w, s, q);
+            s = moves::past_last(r, t);
         } else {
             s = put_own(forms, names, text, key, r, s);
         }

@@ -3,8 +3,10 @@ ghost use mathlib.Core.Path.{_≡_};
 ghost use Prim.Native.Nat.{_+_, _-_, _*_, _/_, _%_, _≤_, _<_, _^_};
 ghost use lib.ListN.{length};
 ghost use lib.Seq.{sets};
+ghost use Rattle.keys.specs.Limits.{widest};
 ghost use Rattle.keys.specs.Bits.{bitsOf, bitsOfBytes};
 ghost use Rattle.keys.specs.Put.{far, onward, Put, part};
+use crate::take;
 
 // Where a position stands still: further than any key.
 pub const FAR: usize = 1152921504606846976;
@@ -71,10 +73,10 @@ fn first_of(bit: usize, left: usize) -> usize
     if room < left { room } else { left }
 }
 
-// A number of any width to 31 bits, at any bit; the next position.
-pub fn put_number(key: &mut [u8], bit: usize, width: usize, number: u32) -> usize
-    requires { ⌜ (length (now key) * 8 ≤ far) × (bit ≤ far) × (width ≤ 31) ⌝ }
-    ensures { λ r. ⌜ Put bit (bitsOf width number) r (now (key .entry)) (now (key .exit)) ⌝ }
+// A number, part by part.
+fn put_parts(key: &mut [u8], bit: usize, width: usize, number: u32)
+    requires { ⌜ (length (now key) * 8 ≤ far) × (bit ≤ far) × (width ≤ widest) ⌝ }
+    ensures { λ _. ⌜ bitsOfBytes (now (key .exit)) ≡ sets (bitsOfBytes (now (key .entry))) bit (bitsOf width number) ⌝ }
 {
     let mut at = bit;
     let mut left = width;
@@ -84,11 +86,122 @@ pub fn put_number(key: &mut [u8], bit: usize, width: usize, number: u32) -> usiz
         at += size;
         left -= size;
     }
+}
+
+// The lowest byte of a number.
+fn slim(x: u64) -> u8
+    ensures { λ r. ⌜ r ≡ x % 256 ⌝ }
+{
+    (x % 256) as u8
+}
+
+// Four bytes, those of one number.
+fn put_four(key: &mut [u8], at: usize, x: u64)
+    requires { ⌜ (at + 4 ≤ length (now key)) × (length (now key) ≤ far) ⌝ }
+    ensures { λ _. ⌜ bitsOfBytes (now (key .exit)) ≡ sets (bitsOfBytes (now (key .entry))) (at * 8) (bitsOf 32 x) ⌝ }
+{
+    key[at] = slim(x >> 24);
+    key[at + 1] = slim(x >> 16);
+    key[at + 2] = slim(x >> 8);
+    key[at + 3] = slim(x);
+}
+
+// The lowest k bits of a number of four bytes.
+fn lowest_of(x: u64, k: usize) -> u64
+    requires { ⌜ k ≤ 32 ⌝ }
+    ensures { λ r. ⌜ r ≡ x % 2 ^ k ⌝ }
+{
+    x - ((x >> k) << k)
+}
+
+// Four bytes with `width` of their bits, before the last `rest`, replaced.
+fn replaced(old: u64, width: usize, rest: usize, number: u64) -> u64
+    requires { ⌜ (old < 2 ^ 32) × (width + rest ≤ 32) × (number < 2 ^ width) ⌝ }
+    ensures { λ r. ⌜ r ≡ (old / 2 ^ rest / 2 ^ width * 2 ^ width + number) * 2 ^ rest + old % 2 ^ rest ⌝ }
+{
+    let part = lowest_of(old >> rest, width);
+    old - (part << rest) + (number << rest)
+}
+
+// A number that stands in four bytes.
+fn put_window(key: &mut [u8], bit: usize, width: usize, number: u32)
+    requires { ⌜ (bit / 8 + 4 ≤ length (now key)) × (length (now key) * 8 ≤ far) × (width ≤ widest) ⌝ }
+    ensures { λ _. ⌜ bitsOfBytes (now (key .exit)) ≡ sets (bitsOfBytes (now (key .entry))) bit (bitsOf width number) ⌝ }
+{
+    let at = bit / 8;
+    let old = take::four_at(key, at);
+    let new = replaced(
+        old,
+        width,
+        32 - bit % 8 - width,
+        lowest_of(number as u64, width),
+    );
+    put_four(key, at, new);
+}
+
+// A number of any width to 24 bits, at any bit; the next position.
+pub fn put_number(key: &mut [u8], bit: usize, width: usize, number: u32) -> usize
+    requires { ⌜ (length (now key) * 8 ≤ far) × (bit ≤ far) × (width ≤ widest) ⌝ }
+    ensures { λ r. ⌜ Put bit (bitsOf width number) r (now (key .entry)) (now (key .exit)) ⌝ }
+{
+    if bit / 8 + 4 <= key.len() {
+        put_window(key, bit, width, number);
+        return on_by(bit, width);
+    }
+    put_parts(key, bit, width, number);
     on_by(bit, width)
 }
 
-// `count` bytes of a text; the next position.
-pub fn put_text(text: &[u8], from: usize, count: usize, key: &mut [u8], bit: usize) -> usize
+// Bytes of a text that stand as bytes of the key.
+fn put_whole(text: &[u8], from: usize, count: usize, key: &mut [u8], at: usize)
+    requires { ⌜ (length (now key) * 8 ≤ far) × (at + count ≤ length (now key)) × (from + count ≤ length (now text)) ⌝ }
+    ensures { λ _. ⌜ bitsOfBytes (now (key .exit)) ≡ sets (bitsOfBytes (now (key .entry))) (at * 8) (bitsOfBytes (part (now (text .entry)) from count)) ⌝ }
+{
+    let mut i: usize = 0;
+    while i < count {
+        key[at + i] = text[from + i];
+        i += 1;
+    }
+}
+
+// The byte between two of a text, `skip` bits of the first and the rest of the second.
+fn between(first: u32, second: u32, skip: usize) -> u8
+    requires { ⌜ (first < 256) × (second < 256) × (skip ≤ 8) ⌝ }
+    ensures { λ r. ⌜ r ≡ (first * 256 + second) / 2 ^ skip % 256 ⌝ }
+{
+    (((first * 256 + second) >> skip) % 256) as u8
+}
+
+// Bytes of a text that stand across bytes of the key, behind `skip` bits.
+fn put_across(text: &[u8], from: usize, count: usize, key: &mut [u8], at: usize, skip: usize)
+    requires { ⌜ (length (now key) * 8 ≤ far) × (at + count < length (now key)) × (from + count ≤ length (now text)) × (skip ≤ 8) ⌝ }
+    ensures { λ _. ⌜ bitsOfBytes (now (key .exit)) ≡ sets (bitsOfBytes (now (key .entry))) (at * 8 + skip) (bitsOfBytes (part (now (text .entry)) from count)) ⌝ }
+{
+    let mut last = wide(key[at]) >> (8 - skip);
+    let mut i: usize = 0;
+    while i < count {
+        let byte = wide(text[from + i]);
+        key[at + i] = between(last, byte, skip);
+        last = byte;
+        i += 1;
+    }
+    put_part(key, (at + count) * 8, skip, lowest(last, skip));
+}
+
+// `count` bytes of a text that fit.
+fn put_within(text: &[u8], from: usize, count: usize, key: &mut [u8], bit: usize)
+    requires { ⌜ (length (now key) * 8 ≤ far) × (bit + count * 8 ≤ length (now key) * 8) × (from + count ≤ length (now text)) ⌝ }
+    ensures { λ _. ⌜ bitsOfBytes (now (key .exit)) ≡ sets (bitsOfBytes (now (key .entry))) bit (bitsOfBytes (part (now (text .entry)) from count)) ⌝ }
+{
+    if bit % 8 == 0 {
+        put_whole(text, from, count, key, bit / 8);
+        return;
+    }
+    put_across(text, from, count, key, bit / 8, bit % 8);
+}
+
+// The same where they may not fit; the next position.
+fn put_bytes(text: &[u8], from: usize, count: usize, key: &mut [u8], bit: usize) -> usize
     requires { ⌜ (length (now key) * 8 ≤ far) × (bit ≤ far) × (from + count ≤ length (now text)) ⌝ }
     ensures { λ r. ⌜ Put bit (bitsOfBytes (part (now (text .entry)) from count)) r (now (key .entry)) (now (key .exit)) ⌝ }
 {
@@ -99,4 +212,18 @@ pub fn put_text(text: &[u8], from: usize, count: usize, key: &mut [u8], bit: usi
         i += 1;
     }
     at
+}
+
+// `count` bytes of a text; the next position.
+pub fn put_text(text: &[u8], from: usize, count: usize, key: &mut [u8], bit: usize) -> usize
+    requires { ⌜ (length (now key) * 8 ≤ far) × (bit ≤ far) × (from + count ≤ length (now text)) ⌝ }
+    ensures { λ r. ⌜ Put bit (bitsOfBytes (part (now (text .entry)) from count)) r (now (key .entry)) (now (key .exit)) ⌝ }
+{
+    if count <= key.len() {
+        if bit <= (key.len() - count) * 8 {
+            put_within(text, from, count, key, bit);
+            return on_by(bit, count * 8);
+        }
+    }
+    put_bytes(text, from, count, key, bit)
 }

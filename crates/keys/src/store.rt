@@ -8,6 +8,9 @@ ghost use Rattle.keys.specs.Store.{filled};
 ghost use Rattle.keys.specs.Words.{firstNodes, firstNames};
 ghost use Rattle.keys.specs.Holds.{wordAt, childAt, nextAt, startAt, sizeAt};
 
+// The words of a node's record.
+pub const RECORD: usize = 4;
+
 // Two numbers in one word, the first lowest.
 fn halves(low: usize, high: usize) -> u64
     requires { ⌜ (low < 2 ^ 63) × (high < 2 ^ 31) ⌝ }
@@ -29,7 +32,7 @@ pub fn append_node(
     requires { ⌜ (recordWords * (at + 1) ≤ length (now nodes)) × (first < 2 ^ 63) × (end < 2 ^ 31) × (child < 2 ^ 63) × (name < 2 ^ 31) ⌝ }
     ensures { λ _. ⌜ firstNodes (now (nodes .exit)) (at + 1) ≡ firstNodes (now (nodes .entry)) at ++ (choices ∷ (first + 2 ^ 32 * end) ∷ (child + 2 ^ 32 * name) ∷ 0 ∷ []) ⌝ }
 {
-    let to = at * 4;
+    let to = at * RECORD;
     let place = halves(first, end);
     let under = halves(child, name);
     nodes[to] = choices;
@@ -43,7 +46,7 @@ pub fn link_node(nodes: &mut [u64], at: usize, next: usize)
     requires { ⌜ recordWords * (at + 1) ≤ length (now nodes) ⌝ }
     ensures { λ _. ⌜ now (nodes .exit) ≡ set (now (nodes .entry)) (recordWords * at + 3) next ⌝ }
 {
-    nodes[at * 4 + 3] = next as u64;
+    nodes[at * RECORD + 3] = next as u64;
 }
 
 // A name's word, at the next place: a spelling's start and length; nothing is stored where there is no such place.
@@ -115,8 +118,8 @@ pub fn node_at(nodes: &[u64], at: usize) -> Node
     ensures { λ r. ⌜ (r .word ≡ wordAt (now (nodes .entry)) at) × (r .child ≡ childAt (now (nodes .entry)) at) × (r .child < 2 ^ 32) ⌝ }
 {
     Node {
-        word: stored(nodes, at * 4),
-        child: low(stored(nodes, at * 4 + 2)),
+        word: stored(nodes, at * RECORD),
+        child: low(stored(nodes, at * RECORD + 2)),
     }
 }
 
@@ -125,7 +128,7 @@ pub fn next_of(nodes: &[u64], at: usize) -> usize
     requires { ⌜ at < 2 ^ 32 ⌝ }
     ensures { λ r. ⌜ (r ≡ nextAt (now (nodes .entry)) at) × (r < 2 ^ 32) ⌝ }
 {
-    low(stored(nodes, at * 4 + 3))
+    low(stored(nodes, at * RECORD + 3))
 }
 
 // Where a spelling stands in the text.

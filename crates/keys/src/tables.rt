@@ -1,10 +1,10 @@
 // The constant table of the node table's words. It is proved, where it is handed out, to be what the definitions say.
 
 // The width of a list's count.
-const COUNT: u32 = 12;
+const COUNT: u16 = 12;
 
 // The forms, four words each: operation, width and two numbers; then the lists of the forms that choices lead to.
-pub const WORDS: [u32; 413] = [
+pub const WORDS: [u16; 413] = [
     0,
     10,
     6,
@@ -65,7 +65,7 @@ pub const WORDS: [u32; 413] = [
     4,
     362,
     13, // 14 2: which keyword
-    2,
+    4,
     16,
     0,
     7, // 15 a spelling
@@ -89,7 +89,7 @@ pub const WORDS: [u32; 413] = [
     0,
     0,
     19, // 20 9: four types
-    2,
+    4,
     16,
     0,
     9, // 21 10: a name, opt type
@@ -161,7 +161,7 @@ pub const WORDS: [u32; 413] = [
     0,
     0,
     37, // 38 the constraint
-    2,
+    4,
     16,
     0,
     38, // 39 the key
@@ -185,7 +185,7 @@ pub const WORDS: [u32; 413] = [
     1,
     403,
     2, // 44 a type that is needed
-    2,
+    4,
     16,
     0,
     44, // 45 a name, a type
@@ -205,7 +205,7 @@ pub const WORDS: [u32; 413] = [
     COUNT,
     0,
     12, // 49 how many names
-    2,
+    4,
     16,
     0,
     49, // 50 the source
@@ -233,7 +233,7 @@ pub const WORDS: [u32; 413] = [
     1,
     0,
     55, // 56 the `?` bit
-    2,
+    4,
     16,
     0,
     56, // 57 22: a name
@@ -245,7 +245,7 @@ pub const WORDS: [u32; 413] = [
     1,
     411,
     2, // 59 opt type, opt type
-    2,
+    4,
     16,
     0,
     59, // 60 a type parameter: its name
@@ -253,7 +253,7 @@ pub const WORDS: [u32; 413] = [
     1,
     0,
     9, // 61 the `?` bit, opt type
-    2,
+    4,
     16,
     0,
     61, // 62 the name

@@ -3,6 +3,7 @@ ghost use mathlib.Core.Path.{_≡_};
 ghost use mathlib.Core.List.{List};
 ghost use Prim.Native.Nat.{ℕ, _+_, _*_, _/_, _≤_, _<_, _^_};
 ghost use lib.ListN.{length, getD, set};
+ghost use Rattle.keys.specs.Limits.{widest};
 ghost use Rattle.keys.specs.Forms.{entryAt, grammarOf, IsRow, Narrow};
 ghost use Rattle.keys.specs.Put.{far};
 ghost use Rattle.keys.specs.Moves.{Spelled, Ready, Own, After, Begun, Noded};
@@ -66,14 +67,14 @@ fn visit_name(names: &[u64], visits: &mut [u64], depth: usize, o: Mark) -> Mark
 
 // A step that is a choice.
 fn visit_chosen(
-    forms: &[u32],
+    forms: &[u16],
     names: &[u64],
     visits: &mut [u64],
     depth: usize,
     r: Row,
     s: Walk,
 ) -> Walk
-    requires { ⌜ Ready (length (now names)) (now visits) s × IsRow (entryAt (now forms) (s .form)) r × (r .w ≤ 31) × (0 < s .steps) × (5 ≤ r .op) ⌝ }
+    requires { ⌜ Ready (length (now names)) (now visits) s × IsRow (entryAt (now forms) (s .form)) r × (r .w ≤ widest) × (0 < s .steps) × (5 ≤ r .op) ⌝ }
     ensures { λ q. ⌜ Own visitWords (now (forms .entry)) (Named (now (names .entry))) (length (now (names .entry))) depth s (now (visits .entry)) q (now (visits .exit)) ⌝ }
 {
     let c = moves::choice_of(s.word, r.w);
@@ -92,7 +93,7 @@ fn visit_chosen(
 
 // A step that is no choice and goes into no child: a name, or on to the next form.
 fn visit_said(
-    forms: &[u32],
+    forms: &[u16],
     names: &[u64],
     visits: &mut [u64],
     depth: usize,
@@ -124,14 +125,14 @@ fn visit_said(
 
 // A step of a node that goes into no child.
 fn visit_own(
-    forms: &[u32],
+    forms: &[u16],
     names: &[u64],
     visits: &mut [u64],
     depth: usize,
     r: Row,
     s: Walk,
 ) -> Walk
-    requires { ⌜ Ready (length (now names)) (now visits) s × IsRow (entryAt (now forms) (s .form)) r × (r .w ≤ 31) × (0 < s .steps) × (r .op ≡ 1 → ⊥) × (r .op ≡ 3 → s .n ≡ 0) ⌝ }
+    requires { ⌜ Ready (length (now names)) (now visits) s × IsRow (entryAt (now forms) (s .form)) r × (r .w ≤ widest) × (0 < s .steps) × (r .op ≡ 1 → ⊥) × (r .op ≡ 3 → s .n ≡ 0) ⌝ }
     ensures { λ q. ⌜ Own visitWords (now (forms .entry)) (Named (now (names .entry))) (length (now (names .entry))) depth s (now (visits .entry)) q (now (visits .exit)) ⌝ }
 {
     if forms::CHOICE <= r.op {
@@ -163,7 +164,7 @@ fn after_child(
 
 // A node and its tag, and the walk behind them.
 fn visit_tag(
-    forms: &[u32],
+    forms: &[u16],
     nodes: &[u64],
     visits: &mut [u64],
     class: usize,
@@ -193,7 +194,7 @@ fn visit_tag(
 
 // The node `at`, of a class, which stands under `depth` nodes; `left` is how many levels there may be.
 fn visit_node(
-    forms: &[u32],
+    forms: &[u16],
     nodes: &[u64],
     names: &[u64],
     visits: &mut [u64],

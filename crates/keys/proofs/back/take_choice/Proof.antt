@@ -28,12 +28,17 @@ enum-known-taken c = search needs
 enum-told : tie.Need-enum-told
 enum-told c = search needs
 
+no-pick-requires : tie.Need-no-pick-requires
+no-pick-requires c κs = search needs
+
 returns : tie.Need-returns
 returns c =
-    let args = c .before .before .before .before .before .args in
-    let take-field = c .before .before .take-field in
-    let enum-told = c .enum-told in
-    picked-short (bitsOfBytes (args .key .now)) (args .forms .now) (args .steps) (args .r .w) (leads (args .forms .now) (formOf (args .forms .now) (args .steps)) (entryOf (args .r)) (args .r .op - 5)) (args .bit) (omega (arith, length-bytes (args .key .now))) (sym (enum-told .given .1) ∙ take-field .ensures)
+    let pre = c .before .before .before .before .before .before .pre in
+    let args = c .before .before .before .before .before .before .args in
+    let take-field = c .before .before .before .take-field in
+    let enum-told = c .before .enum-told in
+    let no-pick = c .no-pick in
+    picked-short (bitsOfBytes (args .key .now)) (args .forms .now) (args .steps) (args .r .w) (leads (args .forms .now) (formOf (args .forms .now) (args .steps)) (entryOf (args .r)) (args .r .op - 5)) (args .bit) (omega (arith, length-bytes (args .key .now), pre .1)) (no-pick .ensures) (sym (enum-told .given .1) ∙ take-field .ensures)
 
 slim-requires : tie.Need-slim-requires
 slim-requires c κs = search needs
@@ -44,24 +49,12 @@ jump-at-requires c κs = search needs
 is-never-requires : tie.Need-is-never-requires
 is-never-requires c κs = search needs
 
+no-pick-requires-2 : tie.Need-no-pick-requires-2
+no-pick-requires-2 c κs = search needs
+
 returns-2 : tie.Need-returns-2
 returns-2 c =
-    let args = c .before .before .before .before .before .before .before .before .before .before .args in
-    let take-field = c .before .before .before .before .before .before .before .take-field in
-    let taken = c .before .before .before .before .before .taken in
-    let slim = c .before .before .before .slim in
-    let jump-at = c .before .before .jump-at in
-    let is-never = c .before .is-never in
-    let if1 = c .if1 in
-    picked-never (bitsOfBytes (args .key .now)) (args .forms .now) (args .steps) (args .r .w) (leads (args .forms .now) (formOf (args .forms .now) (args .steps)) (entryOf (args .r)) (args .r .op - 5)) (args .bit) (omega (arith, length-bytes (args .key .now))) (slim .result)
-    (number-told (bitsOfBytes (args .key .now)) (args .bit) (args .r .w) (slim .result) (ap Number (slim .ensures .0) ∙ sym (taken .given .1) ∙ take-field .ensures))
-    (ap isNever (jump-at .ensures .is (args .steps)) ∙ sym (is-never .ensures) ∙ if1 .taken)
-
-add-t11 : tie.Need-add-t11
-add-t11 c = search needs
-
-returns-3 : tie.Need-returns-3
-returns-3 c =
+    let pre = c .before .before .before .before .before .before .before .before .before .before .before .pre in
     let args = c .before .before .before .before .before .before .before .before .before .before .before .args in
     let take-field = c .before .before .before .before .before .before .before .before .take-field in
     let taken = c .before .before .before .before .before .before .taken in
@@ -69,7 +62,25 @@ returns-3 c =
     let jump-at = c .before .before .before .jump-at in
     let is-never = c .before .before .is-never in
     let if1 = c .before .if1 in
-    picked-to (bitsOfBytes (args .key .now)) (args .forms .now) (args .steps) (args .r .w) (leads (args .forms .now) (formOf (args .forms .now) (args .steps)) (entryOf (args .r)) (args .r .op - 5)) (args .bit) (omega (arith, length-bytes (args .key .now))) (slim .result)
+    let no-pick2 = c .no-pick2 in
+    picked-never (bitsOfBytes (args .key .now)) (args .forms .now) (args .steps) (args .r .w) (leads (args .forms .now) (formOf (args .forms .now) (args .steps)) (entryOf (args .r)) (args .r .op - 5)) (args .bit) (omega (arith, length-bytes (args .key .now), pre .1)) (slim .result)
+    (number-told (bitsOfBytes (args .key .now)) (args .bit) (args .r .w) (slim .result) (ap Number (slim .ensures .0) ∙ sym (taken .given .1) ∙ take-field .ensures))
+    (no-pick2 .ensures) (ap isNever (jump-at .ensures .is (args .steps)) ∙ sym (is-never .ensures) ∙ if1 .taken)
+
+add-t11 : tie.Need-add-t11
+add-t11 c = search needs
+
+returns-3 : tie.Need-returns-3
+returns-3 c =
+    let pre = c .before .before .before .before .before .before .before .before .before .before .before .pre in
+    let args = c .before .before .before .before .before .before .before .before .before .before .before .args in
+    let take-field = c .before .before .before .before .before .before .before .before .take-field in
+    let taken = c .before .before .before .before .before .before .taken in
+    let slim = c .before .before .before .before .slim in
+    let jump-at = c .before .before .before .jump-at in
+    let is-never = c .before .before .is-never in
+    let if1 = c .before .if1 in
+    picked-to (bitsOfBytes (args .key .now)) (args .forms .now) (args .steps) (args .r .w) (leads (args .forms .now) (formOf (args .forms .now) (args .steps)) (entryOf (args .r)) (args .r .op - 5)) (args .bit) (omega (arith, length-bytes (args .key .now), pre .1)) (slim .result)
     (number-told (bitsOfBytes (args .key .now)) (args .bit) (args .r .w) (slim .result) (ap Number (slim .ensures .0) ∙ sym (taken .given .1) ∙ take-field .ensures))
     _ _ (ap isNever (jump-at .ensures .is (args .steps)) ∙ sym (is-never .ensures) ∙ if1 .left) (jump-at .ensures .is (args .steps)) (jump-at .ensures .form) (jump-at .ensures .few)
 
@@ -80,10 +91,12 @@ take-choice-spec =
     take-field-requires
     enum-known-taken
     enum-told
+    no-pick-requires
     returns
     slim-requires
     jump-at-requires
     is-never-requires
+    no-pick-requires-2
     returns-2
     add-t11
     returns-3)

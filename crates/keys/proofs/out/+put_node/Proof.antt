@@ -3,12 +3,13 @@ use mathlib.Core.Path.{sym, subst, _∙_}
 use native.Mathlib.Omega.{arith}
 use lib.ListN.{length}
 use borrow.Author.Needs.{needs}
-use Rattle.keys.specs.Forms.{Entry, grammarOf}
+use Rattle.keys.specs.Limits.{widest}
+use Rattle.keys.specs.Forms.{Entry, entryAt, IsRow, grammarOf}
 use Rattle.keys.specs.Holds.{Spells}
 use Rattle.keys.specs.Moves.{toDo}
 use Rattle.keys.specs.Out.{keyBits}
 use Rattle.keys.specs.OutLaws.{bits-sound}
-use Rattle.keys.specs.MovesLaws.{noded-none, Along, along-none, along-own, along-child, walked, walked-out, one-less}
+use Rattle.keys.specs.MovesLaws.{noded-none, Along, along-none, along-own, along-child, along-past, past-less, walked, walked-out, one-less}
 use borrow.Fn.Kinds.{In}
 use borrow.Fn.PlainCycle.{Measures, is, falls, and}
 use Rattle.keys.proofs.out.put_node.Reads as put-node
@@ -17,6 +18,7 @@ use Rattle.keys.proofs.out.+put_node.Lts-put_node as put-node-lts
 use Rattle.keys.proofs.forms.row_at.Reads as row-at-reads
 use Rattle.keys.proofs.out.after_child.Reads as after-child-reads
 use Rattle.keys.proofs.moves.into_child.Reads as into-child-reads
+use Rattle.keys.proofs.moves.past_last.Reads as past-last-reads
 use Rattle.keys.proofs.out.put_own.Reads as put-own-reads
 use Rattle.keys.proofs.out.put_tag.Reads as put-tag-reads
 use Rattle.keys.proofs.out.+put_node.{statement}
@@ -34,7 +36,7 @@ put-node-below t =
 
 -- What the members that it calls are given and ask.
 abbrev R : ℕ → put-node-lts.Claims
-R t = (put-tag-reads.Asked, put-tag-reads.Learnt, row-at-reads.Asked, row-at-reads.Learnt, into-child-reads.Asked, into-child-reads.Learnt, put-node-below t, put-node.Post, after-child-reads.Asked, after-child-reads.Learnt, put-own-reads.Asked, put-own-reads.Learnt)
+R t = (put-tag-reads.Asked, put-tag-reads.Learnt, row-at-reads.Asked, row-at-reads.Learnt, into-child-reads.Asked, into-child-reads.Learnt, put-node-below t, put-node.Post, after-child-reads.Asked, after-child-reads.Learnt, past-last-reads.Asked, past-last-reads.Learnt, put-own-reads.Asked, put-own-reads.Learnt)
 
 abbrev put-node-Inv-loop : put-node-lts.InvT-loop
 put-node-Inv-loop forms nodes names text key₀ class left at s₀ key s = Along keyBits bits-sound forms nodes (Spells names text) (length names) (left - 1) 0 s₀ key₀ s key
@@ -103,27 +105,40 @@ module _ (t : ℕ) where
       let into-child = c .before .before .before .before .before .before .into-child in
       let if4 = c .before .before .before .before .before .if4 in
       let put-node = c .before .before .before .put-node in
-      (omega (arith, put-node .ensures .short, put-node .ensures .same), put-node .ensures .stays, put-node .ensures .inNames, subst (λ (x : Entry). x .w ≤ 31) (sym (row-at .ensures .is)) (pre .1 .5 .at (loop .s .form)), loop .inv .ready .inNodes, loop .inv .ready .inTable, into-child .ensures .0 (if4 .taken) .1, loop .inv .ready .few, loop .inv .ready .steps)
+      (omega (arith, put-node .ensures .short, put-node .ensures .same), put-node .ensures .stays, put-node .ensures .inNames, subst (λ (x : Entry). x .w ≤ widest) (sym (row-at .ensures .is)) (pre .1 .5 .at (loop .s .form)), loop .inv .ready .inNodes, loop .inv .ready .inTable, into-child .ensures .0 (if4 .taken) .1, loop .inv .ready .few, loop .inv .ready .steps)
+
+  past-last-requires : put-node-lts.Need-past-last-requires (R t) (put-node-at t) put-node.Post put-node-Inv-loop put-node-μ-loop
+  past-last-requires c κs =
+      let if2 = c .before .before .before .before .before .before .before .before .before .before .before .before .before .if2 in
+      let after-child = c .before .before .after-child in
+      omega (arith, after-child .ensures .steps, if2 .taken)
 
   loop-less : put-node-lts.Need-loop-less (R t) (put-node-at t) put-node.Post put-node-Inv-loop put-node-μ-loop
   loop-less c =
-      let into-child = c .before .before .before .before .before .before .before .before .before .into-child in
-      let if4 = c .before .before .before .before .before .before .before .before .if4 in
-      let after-child = c .before .before .after-child in
-      omega (arith, after-child .ensures .few, after-child .ensures .steps, into-child .ensures .0 (if4 .taken) .1)
+      let args = c .before .before .before .before .before .before .before .before .before .before .before .before .before .before .before .before .before .before .before .before .before .before .before .before .before .before .before .args in
+      let put-tag = c .before .before .before .before .before .before .before .before .before .before .before .before .before .before .before .before .before .before .before .put-tag in
+      let if2 = c .before .before .before .before .before .before .before .before .before .before .before .before .before .before .if2 in
+      let row-at = c .before .before .before .before .before .before .before .before .before .before .before .before .before .row-at in
+      let past-last = c .past-last in
+      let into-child = c .before .before .before .before .before .before .before .before .before .before .into-child in
+      let if4 = c .before .before .before .before .before .before .before .before .before .if4 in
+      let after-child = c .before .before .before .after-child in
+      omega (arith, after-child .ensures .few, after-child .ensures .steps, into-child .ensures .0 (if4 .taken) .1, past-less keyBits bits-sound (args .forms .now) (args .nodes .now) (Spells (args .names .now) (args .text .now)) (length (args .names .now)) (args .left - 1) 0 (put-tag .result) (put-tag .last .1 .1 .0) (after-child .result) (past-last .result) (row-at .result) (omega (arith, after-child .ensures .steps, if2 .taken)) (past-last .ensures .0) (past-last .ensures .1))
 
   loop-again : put-node-lts.Need-loop-again (R t) (put-node-at t) put-node.Post put-node-Inv-loop put-node-μ-loop
   loop-again c =
-      let args = c .before .before .before .before .before .before .before .before .before .before .before .before .before .before .before .before .before .before .before .before .before .before .before .before .before .before .args in
-      let put-tag = c .before .before .before .before .before .before .before .before .before .before .before .before .before .before .before .before .before .before .put-tag in
-      let loop = c .before .before .before .before .before .before .before .before .before .before .before .before .before .before .before .loop in
-      let if2 = c .before .before .before .before .before .before .before .before .before .before .before .before .before .if2 in
-      let row-at = c .before .before .before .before .before .before .before .before .before .before .before .before .row-at in
-      let into-child = c .before .before .before .before .before .before .before .before .before .into-child in
-      let if4 = c .before .before .before .before .before .before .before .before .if4 in
-      let put-node = c .before .before .before .before .before .before .put-node in
-      let after-child = c .before .before .after-child in
-      along-child keyBits bits-sound (args .forms .now) (args .nodes .now) (Spells (args .names .now) (args .text .now)) (length (args .names .now)) (args .left - 1) 0 (put-tag .result) (put-tag .last .1 .1 .0) (loop .inv) (row-at .result) (row-at .ensures) (if2 .taken) (into-child .ensures .0 (if4 .taken) .0) (into-child .ensures .0 (if4 .taken) .1) (put-node .ensures) (after-child .ensures)
+      let past-last = c .past-last in
+      let args = c .before .before .before .before .before .before .before .before .before .before .before .before .before .before .before .before .before .before .before .before .before .before .before .before .before .before .before .args in
+      let put-tag = c .before .before .before .before .before .before .before .before .before .before .before .before .before .before .before .before .before .before .before .put-tag in
+      let loop = c .before .before .before .before .before .before .before .before .before .before .before .before .before .before .before .before .loop in
+      let if2 = c .before .before .before .before .before .before .before .before .before .before .before .before .before .before .if2 in
+      let row-at = c .before .before .before .before .before .before .before .before .before .before .before .before .before .row-at in
+      let into-child = c .before .before .before .before .before .before .before .before .before .before .into-child in
+      let if4 = c .before .before .before .before .before .before .before .before .before .if4 in
+      let put-node = c .before .before .before .before .before .before .before .put-node in
+      let after-child = c .before .before .before .after-child in
+      along-past keyBits bits-sound (args .forms .now) (args .nodes .now) (Spells (args .names .now) (args .text .now)) (length (args .names .now)) (args .left - 1) 0 (put-tag .result) (put-tag .last .1 .1 .0) (after-child .result) (past-last .result) (row-at .result) (omega (arith, after-child .ensures .steps, if2 .taken)) (past-last .ensures .0) (past-last .ensures .1) (into-child .ensures .0 (if4 .taken) .0) (subst (λ (x : ℕ). IsRow (entryAt (args .forms .now) x) (row-at .result)) (sym (after-child .ensures .form)) (row-at .ensures))
+      (along-child keyBits bits-sound (args .forms .now) (args .nodes .now) (Spells (args .names .now) (args .text .now)) (length (args .names .now)) (args .left - 1) 0 (put-tag .result) (put-tag .last .1 .1 .0) (loop .inv) (row-at .result) (row-at .ensures) (if2 .taken) (into-child .ensures .0 (if4 .taken) .0) (into-child .ensures .0 (if4 .taken) .1) (put-node .ensures) (after-child .ensures))
 
   put-own-requires : put-node-lts.Need-put-own-requires (R t) (put-node-at t) put-node.Post put-node-Inv-loop put-node-μ-loop
   put-own-requires c κs =
@@ -134,7 +149,7 @@ module _ (t : ℕ) where
       let if3 = c .before .before .before .if3 in
       let into-child = c .before .before .into-child in
       let if4 = c .before .if4 in
-      (loop .inv .ready, row-at .ensures, subst (λ (x : Entry). x .w ≤ 31) (sym (row-at .ensures .is)) (pre .1 .5 .at (loop .s .form)), if2 .taken, if3 .left, into-child .ensures .1 (if4 .left))
+      (loop .inv .ready, row-at .ensures, subst (λ (x : Entry). x .w ≤ widest) (sym (row-at .ensures .is)) (pre .1 .5 .at (loop .s .form)), if2 .taken, if3 .left, into-child .ensures .1 (if4 .left))
 
   loop-less-2 : put-node-lts.Need-loop-less-2 (R t) (put-node-at t) put-node.Post put-node-Inv-loop put-node-μ-loop
   loop-less-2 c =
@@ -181,6 +196,7 @@ pub +put-node-spec : {M : Type 1} → statement M
     (sub-put-node t)
     (put-node-requires t)
     (after-child-requires t)
+    (past-last-requires t)
     (loop-less t)
     (loop-again t)
     (put-own-requires t)

@@ -1,5 +1,6 @@
 use Prim.Native.Nat.{_≤_}
 use mathlib.Core.Path.{sym, subst}
+use Rattle.keys.specs.Limits.{widest}
 use Rattle.keys.specs.Forms.{Entry}
 use Rattle.keys.specs.Holds.{Spells}
 use Rattle.keys.specs.PutLaws.{put-none}
@@ -21,7 +22,7 @@ choice-of-requires c κs =
     let pre = c .before .before .before .before .before .pre in
     let args = c .before .before .before .before .before .args in
     let class-at = c .class-at in
-    subst (λ (x : Entry). x .w ≤ 31) (sym (class-at .ensures .is)) (pre .4 .tag (args .class))
+    subst (λ (x : Entry). x .w ≤ widest) (sym (class-at .ensures .is)) (pre .4 .tag (args .class))
 
 cast-put-number : tie.Need-cast-put-number
 cast-put-number c = search needs
@@ -31,7 +32,7 @@ put-number-requires c κs =
     let pre = c .before .before .before .before .before .before .before .before .pre in
     let args = c .before .before .before .before .before .before .before .before .args in
     let class-at = c .before .before .before .class-at in
-    (search needs, search needs, subst (λ (x : Entry). x .w ≤ 31) (sym (class-at .ensures .is)) (pre .4 .tag (args .class)))
+    (search needs, search needs, subst (λ (x : Entry). x .w ≤ widest) (sym (class-at .ensures .is)) (pre .4 .tag (args .class)))
 
 listed-at-requires : tie.Need-listed-at-requires
 listed-at-requires c κs = search needs

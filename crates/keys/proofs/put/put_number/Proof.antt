@@ -1,92 +1,60 @@
+use Rattle.keys.specs.PutLaws.{number-put}
 use borrow.Author.Needs.{needs}
-use native.Mathlib.Nat.{mod-lt}
-use mathlib.Core.Path.{_≡_, sym, subst, refl, _∙_}
-use Prim.Native.Nat.{ℕ, _^_, _<_}
-use lib.Pow.{pow-pos}
-use lib.ListN.{length}
-use Rattle.keys.specs.Bits.{bitsOfBytes}
-use Rattle.keys.specs.PutLaws.{Putting, putting-none, putting-more, putting-all}
 use Rattle.keys.proofs.put.put_number.Statement.{statement}
 use Rattle.keys.proofs.put.put_number.Tie as tie
+use Rattle.keys.proofs.put.put_number.Reads as reads
+use Rattle.keys.proofs.put.put_number.Lts as lts
+use Rattle.keys.proofs.put.on_by.Reads as on-by-reads
+use Rattle.keys.proofs.put.put_parts.Reads as put-parts-reads
+use Rattle.keys.proofs.put.put_window.Reads as put-window-reads
 
-abbrev Inv-loop : tie.InvT-loop
-Inv-loop key₀ bit width number at₀ left₀ key at left = (length key ≡ length key₀) × Putting (bitsOfBytes key₀) bit width number at left key
+add-if1 : tie.Need-add-if1
+add-if1 c = search needs
 
-abbrev μ-loop : tie.MeasureT-loop
-μ-loop key₀ bit width number at₀ left₀ key at left = left
+put-window-requires : tie.Need-put-window-requires
+put-window-requires c κs = search needs
 
-loop-holds : tie.Need-loop-holds Inv-loop μ-loop
-loop-holds c =
-    let args = c .before .args in
-    (refl, putting-none (args .key .now) (args .bit) (args .width) (args .number))
-
-first-of-requires : tie.Need-first-of-requires Inv-loop μ-loop
-first-of-requires c κs = search needs
-
-sub-lowest : tie.Need-sub-lowest Inv-loop μ-loop
-sub-lowest c = search needs
-
-cast-lowest : tie.Need-cast-lowest Inv-loop μ-loop
-cast-lowest c = search needs
-
-shr-lowest : tie.Need-shr-lowest Inv-loop μ-loop
-shr-lowest c = search needs
-
-lowest-requires : tie.Need-lowest-requires Inv-loop μ-loop
-lowest-requires c κs = search needs
-
-put-part-requires : tie.Need-put-part-requires Inv-loop μ-loop
-put-part-requires c κs =
-    let first-of = c .before .before .first-of in
-    let lowest = c .lowest in
-    (search needs, subst (λ (x : ℕ). x < 2 ^ first-of .result) (sym (lowest .ensures)) (mod-lt _ (pow-pos (first-of .result))))
-
-add-at : tie.Need-add-at Inv-loop μ-loop
-add-at c = search needs
-
-sub-left : tie.Need-sub-left Inv-loop μ-loop
-sub-left c = search needs
-
-loop-less : tie.Need-loop-less Inv-loop μ-loop
-loop-less c = search needs
-
-loop-again : tie.Need-loop-again Inv-loop μ-loop
-loop-again c =
-    let loop = c .before .before .before .before .before .before .before .loop in
-    let first-of = c .before .before .before .before .before .first-of in
-    let lowest = c .before .before .before .lowest in
-    let put-part = c .before .before .put-part in
-    (put-part .kept .0 ∙ loop .inv .0, putting-more (first-of .result) (lowest .result) (put-part .last .0) (loop .inv .1) (search needs) (lowest .ensures) (put-part .ensures))
-
-on-by-requires : tie.Need-on-by-requires Inv-loop μ-loop
+on-by-requires : tie.Need-on-by-requires
 on-by-requires c κs = search needs
 
-same-length : tie.Need-same-length Inv-loop μ-loop
+same-length : tie.Need-same-length
 same-length c = search needs
 
-returns : tie.Need-returns Inv-loop μ-loop
+returns : tie.Need-returns
 returns c =
-    let loop = c .before .before .loop in
+    let pre = c .before .before .before .before .before .before .before .pre in
+    let args = c .before .before .before .before .before .before .before .args in
+    let put-window = c .before .before .before .put-window in
     let on-by = c .on-by in
-    putting-all (on-by .result) (loop .inv .1) (search needs) (search needs) (loop .inv .0) (on-by .ensures)
+    number-put (args .bit) (args .width) (args .number) (on-by .result) (args .key .now) (put-window .last .0) (pre .0) (put-window .kept .0) (on-by .ensures) (put-window .ensures)
+
+put-parts-requires : tie.Need-put-parts-requires
+put-parts-requires c κs = search needs
+
+on-by-requires-2 : tie.Need-on-by-requires-2
+on-by-requires-2 c κs = search needs
+
+same-length-2 : tie.Need-same-length-2
+same-length-2 c = search needs
+
+returns-2 : tie.Need-returns-2
+returns-2 c =
+    let pre = c .before .before .before .before .before .before .before .pre in
+    let args = c .before .before .before .before .before .before .before .args in
+    let put-parts = c .before .before .before .put-parts in
+    let on-by2 = c .on-by2 in
+    number-put (args .bit) (args .width) (args .number) (on-by2 .result) (args .key .now) (put-parts .last .0) (pre .0) (put-parts .kept .0) (on-by2 .ensures) (put-parts .ensures)
 
 pub put-number-spec : {M : Type 1} → statement M
 put-number-spec =
     tie.close
     (tie.spec
-    Inv-loop
-    μ-loop
-    loop-holds
-    first-of-requires
-    sub-lowest
-    cast-lowest
-    shr-lowest
-    lowest-requires
-    put-part-requires
-    add-at
-    sub-left
-    loop-less
-    loop-again
+    add-if1
+    put-window-requires
     on-by-requires
     same-length
-    returns)
+    returns
+    put-parts-requires
+    on-by-requires-2
+    same-length-2
+    returns-2)

@@ -1,71 +1,61 @@
-use borrow.Author.Needs.{needs}
 use native.Mathlib.Omega.{arith}
-use Prim.Native.Nat.{_-_, _≤_}
-use Rattle.keys.specs.Bits.{bitsOfBytes}
-use Rattle.keys.specs.Put.{Put, part}
-use Rattle.keys.specs.PutLaws.{put-none, text-more, text-all}
+use Rattle.keys.proofs.Windows.{part-length}
+use borrow.Author.Needs.{needs}
 use Rattle.keys.proofs.put.put_text.Statement.{statement}
 use Rattle.keys.proofs.put.put_text.Tie as tie
+use Rattle.keys.proofs.put.put_text.Reads as reads
+use Rattle.keys.proofs.put.put_text.Lts as lts
+use Rattle.keys.proofs.put.on_by.Reads as on-by-reads
+use Rattle.keys.proofs.put.put_bytes.Reads as put-bytes-reads
+use Rattle.keys.proofs.put.put_within.Reads as put-within-reads
 
-abbrev Inv-loop : tie.InvT-loop
-Inv-loop text from count key₀ bit at₀ i₀ key at i = (i ≤ count) × Put bit (bitsOfBytes (part text from i)) at key₀ key
+sub-if2 : tie.Need-sub-if2
+sub-if2 c = search needs
 
-abbrev μ-loop : tie.MeasureT-loop
-μ-loop text from count key₀ bit at₀ i₀ key at i = count - i
+mul-if2 : tie.Need-mul-if2
+mul-if2 c = search needs
 
-loop-holds : tie.Need-loop-holds Inv-loop μ-loop
-loop-holds c =
-    let args = c .before .before .args in
-    (search needs, put-none (args .bit) (args .key .now) (search needs) (search needs))
+put-within-requires : tie.Need-put-within-requires
+put-within-requires c κs = search needs
 
-add-wide : tie.Need-add-wide Inv-loop μ-loop
-add-wide c = search needs
+mul-on-by : tie.Need-mul-on-by
+mul-on-by c = search needs
 
-shared-slice-read-wide : tie.Need-shared-slice-read-wide Inv-loop μ-loop
-shared-slice-read-wide c = search needs
+on-by-requires : tie.Need-on-by-requires
+on-by-requires c κs = search needs
 
-wide-requires : tie.Need-wide-requires Inv-loop μ-loop
-wide-requires c κs = search needs
-
-put-number-requires : tie.Need-put-number-requires Inv-loop μ-loop
-put-number-requires c κs = search needs
-
-add-i : tie.Need-add-i Inv-loop μ-loop
-add-i c = search needs
-
-loop-less : tie.Need-loop-less Inv-loop μ-loop
-loop-less c = search needs
-
-loop-again : tie.Need-loop-again Inv-loop μ-loop
-loop-again c =
-    let args = c .before .before .before .before .before .before .before .before .before .before .args in
-    let loop = c .before .before .before .before .before .before .before .loop in
-    let wide = c .before .before .before .wide in
-    let put-number = c .before .before .put-number in
-    (search needs, text-more (args .text .now) (args .from) (loop .i) (loop .inv .1) (wide .result) (search needs) (wide .ensures .0) (put-number .ensures))
-
-same-length : tie.Need-same-length Inv-loop μ-loop
+same-length : tie.Need-same-length
 same-length c = search needs
 
-returns : tie.Need-returns Inv-loop μ-loop
+returns : tie.Need-returns
 returns c =
-    let args = c .before .before .before .before .args in
-    let loop = c .before .loop in
-    text-all (args .text .now) (args .from) (loop .i) (loop .inv .1) (args .count) (omega arith)
+    let pre = c .before .before .before .before .before .before .before .before .before .pre in
+    let args = c .before .before .before .before .before .before .before .before .before .args in
+    let put-within = c .before .before .before .put-within in
+    let on-by = c .on-by in
+    let long = part-length (args .text .now) (args .from) (args .count) (pre .2) in
+    record { short = pre .0; next = omega (arith, on-by .ensures, long); same = put-within .kept .1 .1 .1 .0; bits = put-within .ensures }
+
+put-bytes-requires : tie.Need-put-bytes-requires
+put-bytes-requires c κs = search needs
+
+same-length-2 : tie.Need-same-length-2
+same-length-2 c = search needs
+
+returns-2 : tie.Need-returns-2
+returns-2 c = search needs
 
 pub put-text-spec : {M : Type 1} → statement M
 put-text-spec =
     tie.close
     (tie.spec
-    Inv-loop
-    μ-loop
-    loop-holds
-    add-wide
-    shared-slice-read-wide
-    wide-requires
-    put-number-requires
-    add-i
-    loop-less
-    loop-again
+    sub-if2
+    mul-if2
+    put-within-requires
+    mul-on-by
+    on-by-requires
     same-length
-    returns)
+    returns
+    put-bytes-requires
+    same-length-2
+    returns-2)

@@ -1,80 +1,43 @@
--- The bytes of a spelling, one at a time.
-use Prim.Native.Nat.{_+_, _-_, _*_, _≤_}
 use native.Mathlib.Omega.{arith}
+use mathlib.Core.Path.{_≡_, subst}
+use Prim.Native.Nat.{ℕ, _+_, _*_, _/_, _%_}
 use Rattle.keys.specs.Bits.{bitsOfBytes}
-use Rattle.keys.proofs.Chunks.{Copying, copying-none, copying-more, copying-all, number-told}
+use Rattle.keys.specs.Take.{Copied}
+use borrow.Author.Needs.{needs}
 use Rattle.keys.proofs.take.copy_bytes.Statement.{statement}
 use Rattle.keys.proofs.take.copy_bytes.Tie as tie
 use Rattle.keys.proofs.take.copy_bytes.Reads as reads
 use Rattle.keys.proofs.take.copy_bytes.Lts as lts
-use Rattle.keys.proofs.take.take_byte.Reads as take-byte-reads
+use Rattle.keys.proofs.take.copy_across.Reads as copy-across-reads
+use Rattle.keys.proofs.take.copy_whole.Reads as copy-whole-reads
 
-abbrev Inv-loop : tie.InvT-loop
-Inv-loop key bit text₀ to count i₀ text i = Copying (bitsOfBytes key) bit text₀ to count i text
+copy-whole-requires : tie.Need-copy-whole-requires
+copy-whole-requires c κs = search needs
 
-abbrev μ-loop : tie.MeasureT-loop
-μ-loop key bit text₀ to count i₀ text i = count - i
+same-length : tie.Need-same-length
+same-length c = search needs
 
-loop-holds : tie.Need-loop-holds Inv-loop μ-loop
-loop-holds c = copying-none _ _ _ _ _
-
-mul-take-byte : tie.Need-mul-take-byte Inv-loop μ-loop
-mul-take-byte c = omega arith
-
-add-take-byte : tie.Need-add-take-byte Inv-loop μ-loop
-add-take-byte c = omega arith
-
-take-byte-requires : tie.Need-take-byte-requires Inv-loop μ-loop
-take-byte-requires c κs = omega arith
-
-add-text : tie.Need-add-text Inv-loop μ-loop
-add-text c =
-    let loop = c .before .before .loop in
-    omega (arith, loop .inv .same)
-
-slice-write-text : tie.Need-slice-write-text Inv-loop μ-loop
-slice-write-text c =
-    let loop = c .before .before .loop in
-    omega (arith, loop .inv .same)
-
-add-i : tie.Need-add-i Inv-loop μ-loop
-add-i c = omega arith
-
-loop-less : tie.Need-loop-less Inv-loop μ-loop
-loop-less c = omega arith
-
-loop-again : tie.Need-loop-again Inv-loop μ-loop
-loop-again c =
-    let args = c .before .before .before .before .before .args in
-    let loop = c .before .before .loop in
-    let loop-test = c .before .loop-test in
-    let take-byte = c .take-byte in
-    copying-more _ (loop .inv) (loop-test .taken) (omega (arith, loop .inv .same)) (number-told (bitsOfBytes (args .key .now)) _ 8 _ (take-byte .ensures))
-
-same-length : tie.Need-same-length Inv-loop μ-loop
-same-length c =
-    let loop = c .before .loop in
-    loop .inv .same
-
-returns : tie.Need-returns Inv-loop μ-loop
+returns : tie.Need-returns
 returns c =
-    let loop = c .before .loop in
-    copying-all (loop .inv) (omega arith)
+    let args = c .before .before .before .before .before .before .before .args in
+    let copy-whole = c .before .before .copy-whole in
+    let e : args .bit / 8 * 8 ≡ args .bit = omega arith in
+    subst (λ (x : ℕ). Copied (bitsOfBytes (args .key .now)) x (args .text .now) (args .to) (args .count) (copy-whole .last .1 .1 .0)) e (copy-whole .ensures)
+
+copy-across-requires : tie.Need-copy-across-requires
+copy-across-requires c κs = search needs
+
+same-length-2 : tie.Need-same-length-2
+same-length-2 c = search needs
+
+returns-2 : tie.Need-returns-2
+returns-2 c =
+    let args = c .before .before .before .before .before .before .before .args in
+    let copy-across = c .before .before .copy-across in
+    let e : args .bit / 8 * 8 + args .bit % 8 ≡ args .bit = omega arith in
+    subst (λ (x : ℕ). Copied (bitsOfBytes (args .key .now)) x (args .text .now) (args .to) (args .count) (copy-across .last .1 .1 .1 .0)) e (copy-across .ensures)
 
 pub copy-bytes-spec : {M : Type 1} → statement M
 copy-bytes-spec =
     tie.close
-    (tie.spec
-    Inv-loop
-    μ-loop
-    loop-holds
-    mul-take-byte
-    add-take-byte
-    take-byte-requires
-    add-text
-    slice-write-text
-    add-i
-    loop-less
-    loop-again
-    same-length
-    returns)
+    (tie.spec copy-whole-requires same-length returns copy-across-requires same-length-2 returns-2)

@@ -3,6 +3,7 @@ use mathlib.Core.Path.{sym, subst, _∙_}
 use native.Mathlib.Omega.{arith}
 use lib.ListN.{length}
 use borrow.Author.Needs.{needs}
+use Rattle.keys.specs.Limits.{widest}
 use Rattle.keys.specs.Forms.{Entry, grammarOf}
 use Rattle.keys.specs.Moves.{toDo}
 use Rattle.keys.specs.MovesLaws.{noded-none, Along, along-none, along-own, along-child, walked, walked-out, one-less}
@@ -157,7 +158,7 @@ module _ (t : ℕ) where
       let if3 = c .before .before .before .if3 in
       let into-child = c .before .before .into-child in
       let if4 = c .before .if4 in
-      (loop .inv .ready, row-at .ensures, subst (λ (x : Entry). x .w ≤ 31) (sym (row-at .ensures .is)) (pre .1 .6 .at (loop .s .form)), if2 .taken, if3 .left, into-child .ensures .1 (if4 .left))
+      (loop .inv .ready, row-at .ensures, subst (λ (x : Entry). x .w ≤ widest) (sym (row-at .ensures .is)) (pre .1 .6 .at (loop .s .form)), if2 .taken, if3 .left, into-child .ensures .1 (if4 .left))
 
   loop-less-2 : visit-node-lts.Need-loop-less-2 (R t) (visit-node-at t) visit-node.Post visit-node-Inv-loop visit-node-μ-loop
   loop-less-2 c =

@@ -1,5 +1,6 @@
 use Prim.Native.Nat.{_≤_}
 use mathlib.Core.Path.{sym, subst}
+use Rattle.keys.specs.Limits.{widest}
 use Rattle.keys.specs.Forms.{Entry}
 use Rattle.keys.specs.MovesLaws.{begun}
 use Rattle.keys.specs.Visits.{visitWords, Named}
@@ -19,7 +20,7 @@ choice-of-requires c κs =
     let pre = c .before .before .before .before .before .pre in
     let args = c .before .before .before .before .before .args in
     let class-at = c .class-at in
-    subst (λ (x : Entry). x .w ≤ 31) (sym (class-at .ensures .is)) (pre .5 .tag (args .class))
+    subst (λ (x : Entry). x .w ≤ widest) (sym (class-at .ensures .is)) (pre .5 .tag (args .class))
 
 put-visit-requires : tie.Need-put-visit-requires
 put-visit-requires c κs = search needs
