@@ -1,0 +1,106 @@
+-- What the functions answer: what the rules read, and that it stands in the slices; or the rules' refusal.
+use mathlib.Core.Path.{_≡_}
+use mathlib.Core.Bool.{Bool, true, false}
+use mathlib.Core.List.{List, [], _∷_, _++_}
+use Prim.Native.Nat.{ℕ, zero, suc, _+_, _*_, _≤_, _<_}
+use lib.ListN.{length}
+use Rattle.keys.specs.Form.{Form}
+use Rattle.keys.specs.Placed.{Placed, Spelling, Opt, absent, present}
+use Rattle.keys.specs.Store.{Run, done}
+use Rattle.keys.specs.StoreLaws.{_⊕_}
+use Rattle.rules.specs.State as rule
+use Rattle.rules.specs.State.{State, Result, read, refuse}
+use Rattle.rules.specs.List.{count}
+use Rattle.parts.specs.Marks.{view, givenOf, Spelt}
+use Rattle.parts.specs.Laid.{heights, runIn, runOpt, runs, runsOpt, IsNode, IsOpt, AllOpt, Was, was, Laid, Built, BuiltAt, Stands, Spoken}
+use Rattle.parts.specs.declared.state.Given.{Given}
+use Rattle.parts.specs.declared.state.Mark.{Mark}
+use Rattle.parts.specs.declared.state.Kids.{Kids}
+use Rattle.parts.specs.declared.state.Answer.{Answer}
+use Rattle.parts.specs.declared.state.Head.{Head}
+use Rattle.parts.specs.declared.state.Listed.{Listed}
+
+-- ---- A tree
+
+-- It was read, and stands since B.
+pub record Got (c : ℕ) (B : Was) (x : Result Placed) (high : ℕ) (m : Mark) (N M O : List ℕ) : Type 0 where
+  pub tree : Placed
+  pub is : x ≡ read tree (view m O)
+  pub stands : Stands c B tree high m N M O
+
+-- It was read, or refused.
+pub record Says (c : ℕ) (B : Was) (x : Result Placed) (a : Answer) (N M O : List ℕ) : Type 0 where
+  pub done : a .why ≡ 0 → Got c B x (a .high) (a .m) N M O
+  pub refused : (a .why ≡ 0 → ⊥) → x ≡ refuse (a .why) (a .m .at) (a .m .half)
+
+-- A rule that begins at a mark: what it reads, from any text that is spelled so.
+abbrev pub Starts : (c : ℕ) (rule : rule.Given → State → Result Placed) (W : List ℕ) (given : Given) (m : Mark) (N M O : List ℕ) (a : Answer) (N' M' O' : List ℕ) → Type 0
+Starts c rule W given m N M O a N' M' O' = (text : List ℕ) → Spelt text W → Says c (was m N M O) (rule (givenOf text W given) (view m O)) a N' M' O'
+
+-- ---- An optional tree, absent where the height is 0
+
+pub record GotOpt (B : Was) (x : Result (Opt Placed)) (high : ℕ) (m : Mark) (N M O : List ℕ) : Type 0 where
+  pub tree : Opt Placed
+  pub is : x ≡ read tree (view m O)
+  pub is-opt : IsOpt 0 tree
+  pub high-is : high ≡ heights (runOpt 0 tree)
+  pub laid : Laid B (runOpt 0 tree) (m .used) (m .named) (m .noted) N M O
+
+pub record SaysOpt (B : Was) (x : Result (Opt Placed)) (a : Answer) (N M O : List ℕ) : Type 0 where
+  pub done : a .why ≡ 0 → GotOpt B x (a .high) (a .m) N M O
+  pub refused : (a .why ≡ 0 → ⊥) → x ≡ refuse (a .why) (a .m .at) (a .m .half)
+
+-- ---- Names
+
+-- From m to q names were read, and nothing else was written; what was read is such.
+pub record GotNames {A : Type 0} (R : A → List Spelling) (P : A → Type 0) (x : Result A) (m q : Mark) (M M' O : List ℕ) : Type 0 where
+  pub what : A
+  pub is : x ≡ read what (view q O)
+  pub such : P what
+  pub spoken : Spoken (R what) m q M M'
+
+pub record SaysNames {A : Type 0} (R : A → List Spelling) (P : A → Type 0) (x : Result A) (why : ℕ) (m q : Mark) (M M' O : List ℕ) : Type 0 where
+  pub done : why ≡ 0 → GotNames R P x m q M M' O
+  pub refused : (why ≡ 0 → ⊥) → x ≡ refuse why (q .at) (q .half)
+
+-- Nothing is asked of what was read.
+abbrev pub Any : {A : Type 0} → A → Type 0
+Any a = Unit {0}
+
+-- One name.
+abbrev pub one : Spelling → List Spelling
+one s = s ∷ []
+
+-- No names.
+abbrev pub noNames : {A : Type 0} → A → List Spelling
+noNames a = []
+
+-- The name of a part that may be absent.
+abbrev pub optNames : Opt Spelling → List Spelling
+optNames absent = []
+optNames (present s) = s ∷ []
+
+-- Only the cursor moved: a number was read, or refused.
+pub record SaysNumber (x : Result ℕ) (h : Head) (O : List ℕ) : Type 0 where
+  pub done : h .why ≡ 0 → x ≡ read (h .choices) (view (h .m) O)
+  pub refused : (h .why ≡ 0 → ⊥) → x ≡ refuse (h .why) (h .m .at) (h .m .half)
+
+-- ---- Lists
+
+-- Whether an optional list is there.
+abbrev pub isThere : Opt (List Placed) → Bool
+isThere absent = false
+isThere (present l) = true
+
+-- An optional list of trees of a class was read, and its entries stand behind the run t.
+pub record GotList (c : ℕ) (B : Was) (t : Run) (x : Result (Opt (List Placed))) (there : Bool) (k : Kids) (m : Mark) (N M O : List ℕ) : Type 0 where
+  pub list : Opt (List Placed)
+  pub is : x ≡ read list (view m O)
+  pub there-is : there ≡ isThere list
+  pub count-is : k .count ≡ count list
+  pub each : AllOpt c list
+  pub built : BuiltAt B (t ⊕ runsOpt c list) k m N M O
+
+pub record SaysList (c : ℕ) (B : Was) (t : Run) (x : Result (Opt (List Placed))) (l : Listed) (N M O : List ℕ) : Type 0 where
+  pub done : l .why ≡ 0 → GotList c B t x (l .there) (l .kids) (l .m) N M O
+  pub refused : (l .why ≡ 0 → ⊥) → x ≡ refuse (l .why) (l .m .at) (l .m .half)

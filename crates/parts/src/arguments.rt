@@ -1,0 +1,220 @@
+// Type arguments, and the references that have them, without the types in them.
+ghost use mathlib.Core.Path.{_≡_};
+ghost use mathlib.Core.Bool.{Bool, true};
+ghost use mathlib.Core.List.{List};
+ghost use Prim.Native.Nat.{ℕ, _+_, _*_, _≤_, _<_, _^_};
+ghost use lib.ListN.{length};
+ghost use Rattle.words.specs.Limits.{mostTokens};
+ghost use Rattle.words.specs.Class.{classWords};
+ghost use Rattle.keys.specs.Bits.{unit};
+ghost use Rattle.keys.specs.Placed.{Spelling};
+ghost use Rattle.rules.specs.Arguments as rule;
+ghost use Rattle.parts.specs.Marks.{AnyGiven, view, givenOf, Sound, Spelt, Inside, Fine, Along, Under};
+ghost use Rattle.parts.specs.Says.{SaysNames, Any, one};
+ghost use Rattle.parts.specs.Nodes.{Put};
+ghost use Rattle.parts.specs.Naming.{Naming, namesOf, importSource, importHead, dottedHead, queryHead, namingHead, NamingIs, Dotted, NamedSmall, MakesNamed, OpenedAt};
+use crate::names::dots;
+use crate::names::dotted_name;
+use crate::names::spell;
+use crate::node::Count;
+use crate::node::Tag;
+use crate::node::opt_list;
+use crate::node::put;
+use crate::refusal::Refusal;
+use crate::state::Answer;
+use crate::state::Begin;
+use crate::state::Given;
+use crate::state::Listed;
+use crate::state::Mark;
+use crate::state::kind_at;
+use crate::state::next;
+use crate::state::on_line;
+use words::kind::Kind;
+use words::limits;
+
+// Whether a list opens here: a token that begins with `<` stands whole on the name's line.
+pub fn opens(words: &[u64], m: Mark) -> bool
+    ensures { λ r. ⌜ ((text O : List ℕ) (given : AnyGiven) → r ≡ rule.opens (givenOf text (now (words .entry)) given) (view m O)) ⌝ }
+    ensures { λ r. ⌜ (r ≡ true → (m .half ≡ 0) × (m .at < length (now (words .entry)))) ⌝ }
+{
+    if !on_line(words, m) {
+        return false;
+    }
+    if m.half != 0 {
+        return false;
+    }
+    match kind_at(words, m) {
+        Kind::L_ANGLE => true,
+        Kind::SHIFT_LEFT => true,
+        Kind::LT_EQ => true,
+        Kind::SHIFT_LEFT_EQ => true,
+        _ => false,
+    }
+}
+
+// Past that `<`, be it the whole token or the half of one.
+pub fn opened(words: &[u64], m: Mark) -> Mark
+    requires { ⌜ Sound (now words) × (m .half ≡ 0) × (m .at < length (now words)) ⌝ }
+    ensures { λ r. ⌜ OpenedAt (length (now (words .entry))) m r ⌝ }
+    ensures { λ r. ⌜ ((text O : List ℕ) (given : AnyGiven) → view r O ≡ rule.opened (givenOf text (now (words .entry)) given) (view m O)) ⌝ }
+{
+    if kind_at(words, m) == Kind::L_ANGLE {
+        return next(m);
+    }
+    Mark {
+        at: m.at,
+        half: 1,
+        used: m.used,
+        named: m.named,
+        noted: m.noted,
+    }
+}
+
+// A reference, typeof or import up to its arguments: its first choices, and how many names stand in its list.
+pub struct Named {
+    pub why: usize,
+    pub choices: usize,
+    pub scale: usize,
+    pub count: usize,
+    pub m: Mark,
+}
+
+impl Named {
+    fn refused(why: usize, m: Mark) -> Named
+        ensures { λ r. ⌜ r ≡ record { why = why; choices = 0; scale = 0; count = 0; m = m } ⌝ }
+    {
+        Named {
+            why,
+            choices: 0,
+            scale: 0,
+            count: 0,
+            m,
+        }
+    }
+}
+
+// By the word that begins it.
+pub fn named_head(words: &[u64], classes: &[u16; 256], names: &mut [u64], m: Mark) -> Named
+    requires { ⌜ (now classes ≡ classWords) × Sound (now words) × Inside (length (now words)) m × (m .named ≤ m .at) ⌝ }
+    ensures { λ r. ⌜ ((text O : List ℕ) (given : AnyGiven) → Spelt text (now (words .entry)) → SaysNames namesOf (NamingIs r) (namingHead (givenOf text (now (words .entry)) given) (view m O)) (r .why) m (r .m) (now (names .entry)) (now (names .exit)) O) ⌝ }
+    ensures { λ r. ⌜ Along (length (now (words .entry))) m (r .m) × NamedSmall (length (now (words .entry))) r ⌝ }
+{
+    let kind = kind_at(words, m);
+    if kind == Kind::TYPEOF {
+        return query(words, classes, names, next(m));
+    }
+    if kind == Kind::IMPORT {
+        return import(words, classes, names, Tag::IMPORT, next(m));
+    }
+    reference(words, classes, names, Tag::REFERENCE, m)
+}
+
+// Behind typeof: a name or an import.
+fn query(words: &[u64], classes: &[u16; 256], names: &mut [u64], m: Mark) -> Named
+    requires { ⌜ (now classes ≡ classWords) × Sound (now words) × Inside (length (now words)) m × (m .named ≤ m .at) ⌝ }
+    ensures { λ r. ⌜ ((text O : List ℕ) (given : AnyGiven) → Spelt text (now (words .entry)) → SaysNames namesOf (NamingIs r) (queryHead (givenOf text (now (words .entry)) given) (view m O)) (r .why) m (r .m) (now (names .entry)) (now (names .exit)) O) ⌝ }
+    ensures { λ r. ⌜ Along (length (now (words .entry))) m (r .m) × NamedSmall (length (now (words .entry))) r ⌝ }
+{
+    if kind_at(words, m) == Kind::IMPORT {
+        return import(words, classes, names, Tag::IMPORT + Tag::ALL, next(m));
+    }
+    reference(words, classes, names, Tag::TYPEOF, m)
+}
+
+// A name with its dots.
+fn reference(
+    words: &[u64],
+    classes: &[u16; 256],
+    names: &mut [u64],
+    choices: usize,
+    m: Mark,
+) -> Named
+    requires { ⌜ (now classes ≡ classWords) × Sound (now words) × Inside (length (now words)) m × (m .named ≤ m .at) × (choices ≤ 128) ⌝ }
+    ensures { λ r. ⌜ ((text O : List ℕ) (given : AnyGiven) (make : List Spelling → Naming) → Dotted choices make → Spelt text (now (words .entry)) → SaysNames namesOf (NamingIs r) (dottedHead (givenOf text (now (words .entry)) given) make (view m O)) (r .why) m (r .m) (now (names .entry)) (now (names .exit)) O) ⌝ }
+    ensures { λ r. ⌜ Along (length (now (words .entry))) m (r .m) × NamedSmall (length (now (words .entry))) r ⌝ }
+{
+    let a = dotted_name(words, classes, names, m);
+    if a.why != 0 {
+        return Named::refused(a.why, a.m);
+    }
+    let q = a.m;
+    Named {
+        why: 0,
+        choices,
+        scale: Tag::ALL,
+        count: q.named - m.named,
+        m: q,
+    }
+}
+
+// An import after its word, whose source has to be a string; options would begin with a comma.
+fn import_source(words: &[u64], names: &mut [u64], m: Mark) -> Answer
+    requires { ⌜ Sound (now words) × Inside (length (now words)) m × (m .named ≤ m .at) ⌝ }
+    ensures { λ r. ⌜ ((text O : List ℕ) (given : AnyGiven) → Spelt text (now (words .entry)) → SaysNames one Any (importSource (givenOf text (now (words .entry)) given) (view m O)) (r .why) m (r .m) (now (names .entry)) (now (names .exit)) O) ⌝ }
+    ensures { λ r. ⌜ Along (length (now (words .entry))) m (r .m) ⌝ }
+{
+    if kind_at(words, m) != Kind::L_PAREN {
+        return Answer::refused(Refusal::UNEXPECTED, m);
+    }
+    let p = next(m);
+    if kind_at(words, p) != Kind::STR {
+        return Answer::refused(Refusal::UNSUPPORTED, p);
+    }
+    let q = spell(words, names, p);
+    if kind_at(words, q) == Kind::COMMA {
+        return Answer::refused(Refusal::UNSUPPORTED, q);
+    }
+    if kind_at(words, q) != Kind::R_PAREN {
+        return Answer::refused(Refusal::UNEXPECTED, q);
+    }
+    Answer::taken(next(q))
+}
+
+// An import after its word: its source and its names.
+fn import(words: &[u64], classes: &[u16; 256], names: &mut [u64], choices: usize, m: Mark) -> Named
+    requires { ⌜ (now classes ≡ classWords) × Sound (now words) × Inside (length (now words)) m × (m .named ≤ m .at) × (choices ≤ 128) ⌝ }
+    ensures { λ r. ⌜ ((text O : List ℕ) (given : AnyGiven) (isTypeof : Bool) → choices ≡ 18 + 64 * unit isTypeof → Spelt text (now (words .entry)) → SaysNames namesOf (NamingIs r) (importHead (givenOf text (now (words .entry)) given) isTypeof (view m O)) (r .why) m (r .m) (now (names .entry)) (now (names .exit)) O) ⌝ }
+    ensures { λ r. ⌜ Along (length (now (words .entry))) m (r .m) × NamedSmall (length (now (words .entry))) r ⌝ }
+{
+    let s = import_source(words, names, m);
+    if s.why != 0 {
+        return Named::refused(s.why, s.m);
+    }
+    let p = s.m;
+    let a = dots(words, classes, names, p);
+    if a.why != 0 {
+        return Named::refused(a.why, a.m);
+    }
+    let q = a.m;
+    Named {
+        why: 0,
+        choices,
+        scale: 2 * Tag::ALL,
+        count: q.named - p.named,
+        m: q,
+    }
+}
+
+// The node, whose two lists are looked at first.
+pub fn named_node(
+    words: &[u64],
+    nodes: &mut [u64],
+    given: Given,
+    b: Begin,
+    n: Named,
+    l: Listed,
+) -> Answer
+    requires { ⌜ Sound (now words) × (given .room * 4 ≤ length (now nodes)) × Fine (length (now words)) given (l .m) × Under (l .m .used) (l .kids) × (b .first < 2 ^ 32) × (b .name ≤ mostTokens) × NamedSmall (length (now words)) n ⌝ }
+    ensures { λ r. ⌜ MakesNamed (now (words .entry)) given b n l (now (nodes .entry)) r (now (nodes .exit)) ⌝ }
+    ensures { λ r. ⌜ Put given (l .m) r ⌝ }
+{
+    let k = l.kids;
+    if limits::List::LONGEST < n.count {
+        return Answer::refused(Refusal::TOO_LONG, l.m);
+    }
+    if limits::List::LONGEST < k.count {
+        return Answer::refused(Refusal::TOO_LONG, l.m);
+    }
+    let lists = n.count + Count::ALL * opt_list(l.there, k.count);
+    put(words, nodes, given, b, n.choices + n.scale * lists, k, l.m)
+}

@@ -1,0 +1,478 @@
+// Function types, without the types in them.
+ghost use mathlib.Core.Path.{_≡_};
+ghost use mathlib.Core.List.{List};
+ghost use mathlib.Core.Bool.{true};
+ghost use Prim.Native.Nat.{ℕ, _+_, _-_, _*_, _≤_, _<_, _^_};
+ghost use lib.Dec.{ltb};
+ghost use lib.ListN.{length};
+ghost use Rattle.words.specs.Class.{classWords};
+ghost use Rattle.words.specs.Test.{_and_, _or_};
+ghost use Rattle.words.specs.Limits.{mostTokens, longest, tallest};
+ghost use Rattle.words.specs.Kind as kind;
+ghost use Rattle.words.specs.Ahead.{functionStart};
+ghost use Rattle.words.specs.Cursor.{firstByte, endByte};
+ghost use Rattle.keys.specs.Bits.{unit};
+ghost use Rattle.rules.specs.Refusal.{unsupported};
+ghost use Rattle.rules.specs.TypeRule as type;
+ghost use Rattle.rules.specs.TypeParameters as types;
+ghost use Rattle.rules.specs.Function as rule;
+ghost use Rattle.parts.specs.Marks.{AnyGiven, view, givenOf, nextMark, Sound, Spelt, Inside, Fine, Moved, Along, Under, Reached, placeOf};
+ghost use Rattle.parts.specs.Says.{SaysNames, Any, one};
+ghost use Rattle.parts.specs.Lists.{here, Separates};
+ghost use Rattle.parts.specs.Nodes.{optBit, Links};
+ghost use Rattle.parts.specs.Functions.{whyIf, HeadIs, typeParameterHead, parameterHead, Opens, freedMark, ThisKids, freedUsed, listScale, thisScale, functionChoices, constructorChoices, MakesFunction};
+use crate::names::name;
+use crate::node::Count;
+use crate::node::Tag;
+use crate::node::link;
+use crate::node::link_opt;
+use crate::node::opt_bit;
+use crate::node::opt_list;
+use crate::node::put;
+use crate::notes::Note;
+use crate::notes::report_if;
+use crate::refusal::Refusal;
+use crate::state::Answer;
+use crate::state::Begin;
+use crate::state::Given;
+use crate::state::Head;
+use crate::state::Kids;
+use crate::state::Mark;
+use crate::state::end_byte;
+use crate::state::first_byte;
+use crate::state::kind_after;
+use crate::state::kind_at;
+use crate::state::next;
+use crate::state::next_on_line;
+use crate::state::past;
+use words::ahead::FunctionStart;
+use words::ahead::function_start;
+use words::ahead::modifies;
+use words::cursor::Cursor;
+use words::kind::Class;
+use words::kind::Kind;
+use words::kind::in_class;
+use words::limits;
+
+// Function start: one of its cases holds.
+pub fn begins(words: &[u64], classes: &[u16; 256], m: Mark) -> bool
+    requires { ⌜ (now classes ≡ classWords) × (m .at < 2 ^ 61) ⌝ }
+    ensures { λ r. ⌜ r ≡ type.begins (functionStart (now (words .entry)) (m .at) (m .half)) ⌝ }
+{
+    let c = Cursor {
+        at: m.at,
+        half: m.half,
+    };
+    let s = function_start(words, classes, c);
+    match s {
+        FunctionStart::TypeParameters => true,
+        FunctionStart::New => true,
+        FunctionStart::AbstractNew => true,
+        FunctionStart::Empty => true,
+        FunctionStart::Rest => true,
+        FunctionStart::Parameter(_) => true,
+        FunctionStart::LoneParameter(_) => true,
+        FunctionStart::Nothing => false,
+    }
+}
+
+// A function type up to its type parameters: where it begins, whether abstract and new stood there, where they ended.
+pub struct FunctionHead {
+    pub b: Begin,
+    pub is_abstract: bool,
+    pub is_new: bool,
+    pub m: Mark,
+}
+
+pub fn function_head(words: &[u64], m: Mark) -> FunctionHead
+    requires { ⌜ Sound (now words) × Inside (length (now words)) m ⌝ }
+    ensures { λ r. ⌜ HeadIs (now (words .entry)) m r ⌝ }
+    ensures { λ r. ⌜ Moved (length (now (words .entry))) m (r .m) × (r .b .first < 2 ^ 32) ⌝ }
+{
+    let p = past(words, Kind::ABSTRACT, m);
+    let q = past(words, Kind::NEW, p);
+    let b = Begin::at(words, m);
+    FunctionHead {
+        b,
+        is_abstract: kind_at(words, m) == Kind::ABSTRACT,
+        is_new: kind_at(words, p) == Kind::NEW,
+        m: q,
+    }
+}
+
+// The `this` of a parameter list, which is no node: 0 for none, else its two bits as the node table has them (1, and 2 for
+// its type); its first and end byte.
+pub struct This {
+    pub bits: usize,
+    pub first: usize,
+    pub end: usize,
+}
+
+impl This {
+    pub fn none() -> This
+        ensures { λ r. ⌜ r ≡ record { bits = 0; first = 0; end = 0 } ⌝ }
+    {
+        This {
+            bits: 0,
+            first: 0,
+            end: 0,
+        }
+    }
+}
+
+// Parameters: the children of the function type so far, how many of them are parameters, and the `this`; or a refusal.
+pub struct Params {
+    pub why: usize,
+    pub count: usize,
+    pub this: This,
+    pub kids: Kids,
+    pub m: Mark,
+}
+
+impl Params {
+    pub fn refused(why: usize, m: Mark) -> Params
+        ensures { λ r. ⌜ r ≡ record { why = why; count = 0; this = record { bits = 0; first = 0; end = 0 }; kids = record { first = 0; count = 0; high = 0 }; m = m } ⌝ }
+    {
+        Params {
+            why,
+            count: 0,
+            this: This::none(),
+            kids: Kids::none(),
+            m,
+        }
+    }
+
+    // All were read, up to the `)` at m.
+    pub fn all(count: usize, this: This, kids: Kids, m: Mark) -> Params
+        requires { ⌜ (m .at < 2 ^ 63) ⌝ }
+        ensures { λ r. ⌜ r ≡ record { why = 0; count = count; this = this; kids = kids; m = nextMark m } ⌝ }
+    {
+        Params {
+            why: 0,
+            count,
+            this,
+            kids,
+            m: next(m),
+        }
+    }
+
+    // With one child more, which was read from q on.
+    pub fn with(self, nodes: &mut [u64], q: Mark, a: Answer) -> Params
+        requires { ⌜ (q .used < a .m .used) × (a .m .used * 4 ≤ length (now nodes)) × Under (q .used) (self .kids) × (a .high ≤ tallest) ⌝ }
+        ensures { λ r. ⌜ (r .why ≡ 0) × (r .count ≡ self .count) × (r .this ≡ self .this) × (r .m ≡ a .m) × Links (self .kids) (q .used) (a .m .used) (a .high) (now (nodes .entry)) (r .kids) (now (nodes .exit)) ⌝ }
+        ensures { λ r. ⌜ Under (a .m .used) (r .kids) ⌝ }
+    {
+        let m = a.m;
+        let this = self.this;
+        let kids = link(nodes, self.kids, q.used, m.used, a.high);
+        Params {
+            why: 0,
+            count: self.count,
+            this,
+            kids,
+            m,
+        }
+    }
+}
+
+// Why no type parameter can begin here, 0 if nothing is against it: const, in, or out before a binding word.
+pub fn varies(words: &[u64], classes: &[u16; 256], m: Mark) -> usize
+    requires { ⌜ (now classes ≡ classWords) × (m .at < 2 ^ 63) ⌝ }
+    ensures { λ r. ⌜ ((text O : List ℕ) (given : AnyGiven) → r ≡ whyIf (types.varies (givenOf text (now (words .entry)) given) (view m O)) unsupported) ⌝ }
+{
+    let kind = kind_at(words, m);
+    if kind == Kind::CONST {
+        return Refusal::UNSUPPORTED;
+    }
+    if kind == Kind::IN {
+        return Refusal::UNSUPPORTED;
+    }
+    if kind != Kind::OUT {
+        return 0;
+    }
+    if in_class(classes, kind_after(words, m, 1), Class::BINDING_WORD) {
+        return Refusal::UNSUPPORTED;
+    }
+    0
+}
+
+// A type parameter up to its constraint.
+pub fn type_param_head(words: &[u64], classes: &[u16; 256], names: &mut [u64], m: Mark) -> Answer
+    requires { ⌜ (now classes ≡ classWords) × Sound (now words) × Inside (length (now words)) m × (m .named ≤ m .at) ⌝ }
+    ensures { λ r. ⌜ ((text O : List ℕ) (given : AnyGiven) → Spelt text (now (words .entry)) → SaysNames one Any (typeParameterHead (givenOf text (now (words .entry)) given) (view m O)) (r .why) m (r .m) (now (names .entry)) (now (names .exit)) O) ⌝ }
+    ensures { λ r. ⌜ Along (length (now (words .entry))) m (r .m) ⌝ }
+{
+    let why = varies(words, classes, m);
+    if why != 0 {
+        return Answer::refused(why, m);
+    }
+    name(words, classes, names, Class::BINDING_WORD, m)
+}
+
+fn bit(holds: bool) -> usize
+    ensures { λ r. ⌜ (r ≡ unit holds) × (r ≤ 1) ⌝ }
+{
+    if holds {
+        return 1;
+    }
+    0
+}
+
+// A parameter up to its type: optional `...`, its name, optional `?`.
+pub fn param_head(words: &[u64], classes: &[u16; 256], names: &mut [u64], m: Mark) -> Head
+    requires { ⌜ (now classes ≡ classWords) × Sound (now words) × Inside (length (now words)) m × (m .named ≤ m .at) ⌝ }
+    ensures { λ r. ⌜ ((text O : List ℕ) (given : AnyGiven) → Spelt text (now (words .entry)) → SaysNames (λ x. one (x .0)) (λ x. r .choices ≡ unit (here (now (words .entry)) kind.Dot3 m) + 2 * unit (x .1)) (parameterHead (givenOf text (now (words .entry)) given) (view m O)) (r .why) m (r .m) (now (names .entry)) (now (names .exit)) O) ⌝ }
+    ensures { λ r. ⌜ Along (length (now (words .entry))) m (r .m) × (r .choices ≤ 3) ⌝ }
+{
+    let rest = kind_at(words, m) == Kind::DOT3;
+    let p = past(words, Kind::DOT3, m);
+    if this_after(words, rest, p) {
+        return Head::refused(Refusal::UNSUPPORTED, p);
+    }
+    let a = name(words, classes, names, Class::BINDING_WORD, p);
+    if a.why != 0 {
+        return Head::refused(a.why, a.m);
+    }
+    let q = a.m;
+    let asked = kind_at(words, q) == Kind::QUESTION;
+    Head {
+        why: 0,
+        choices: bit(rest) + 2 * bit(asked),
+        m: past(words, Kind::QUESTION, q),
+    }
+}
+
+// Whether a `this` stands after the dots.
+fn this_after(words: &[u64], rest: bool, m: Mark) -> bool
+    ensures { λ r. ⌜ r ≡ (rest and here (now (words .entry)) kind.This m) ⌝ }
+{
+    if rest {
+        return kind_at(words, m) == Kind::THIS;
+    }
+    false
+}
+
+// Why no parameter can begin here, 0 if nothing is against it: a modifier word, or a `this` that is not first.
+pub fn no_param(words: &[u64], classes: &[u16; 256], m: Mark) -> usize
+    requires { ⌜ (now classes ≡ classWords) × (m .at < 2 ^ 62) ⌝ }
+    ensures { λ r. ⌜ ((text O : List ℕ) (given : AnyGiven) → r ≡ whyIf (rule.modified (givenOf text (now (words .entry)) given) (view m O) or here (now (words .entry)) kind.This m) unsupported) ⌝ }
+{
+    if modifies(words, classes, m.at) {
+        return Refusal::UNSUPPORTED;
+    }
+    if kind_at(words, m) == Kind::THIS {
+        return Refusal::UNSUPPORTED;
+    }
+    0
+}
+
+// After a parameter: at the `)`, or past a comma. A default, and a comma that follows a rest, are refused.
+pub fn separated(words: &[u64], rest: bool, m: Mark) -> Answer
+    requires { ⌜ Sound (now words) × Inside (length (now words)) m ⌝ }
+    ensures { λ r. ⌜ Separates (now (words .entry)) rest m r ⌝ }
+    ensures { λ r. ⌜ Moved (length (now (words .entry))) m (r .m) ⌝ }
+{
+    let kind = kind_at(words, m);
+    if kind == Kind::EQ {
+        return Answer::refused(Refusal::UNSUPPORTED, m);
+    }
+    if kind == Kind::R_PAREN {
+        return Answer::taken(m);
+    }
+    if kind != Kind::COMMA {
+        return Answer::refused(Refusal::UNEXPECTED, m);
+    }
+    if rest {
+        return Answer::refused(Refusal::UNSUPPORTED, m);
+    }
+    Answer::taken(next(m))
+}
+
+// The opening bracket of parameters, and the `this` behind it, if there is one: choice 1 then.
+pub fn params_head(words: &[u64], m: Mark) -> Head
+    requires { ⌜ Sound (now words) × Inside (length (now words)) m ⌝ }
+    ensures { λ r. ⌜ Opens (now (words .entry)) m r ⌝ }
+    ensures { λ r. ⌜ Moved (length (now (words .entry))) m (r .m) × (placeOf m < placeOf (r .m) + r .why) ⌝ }
+{
+    if kind_at(words, m) != Kind::L_PAREN {
+        return Head::refused(Refusal::UNEXPECTED, m);
+    }
+    let p = next(m);
+    if kind_at(words, p) != Kind::THIS {
+        return Head {
+            why: 0,
+            choices: 0,
+            m: p,
+        };
+    }
+    Head {
+        why: 0,
+        choices: 1,
+        m: next(p),
+    }
+}
+
+// The `this` behind the bracket at m, and its type's answer.
+pub fn this_of(words: &[u64], m: Mark, a: Answer) -> This
+    requires { ⌜ Sound (now words) × (m .at < 2 ^ 63) × (a .m .half ≤ 1) ⌝ }
+    ensures { λ r. ⌜ (r .bits ≡ 1 + 2 * optBit (a .high)) × (r .first ≡ firstByte (now (words .entry)) (m .at + 1) 0) × (r .end ≡ endByte (now (words .entry)) (a .m .at) (a .m .half)) ⌝ }
+{
+    This {
+        bits: 1 + 2 * opt_bit(a.high),
+        first: first_byte(words, next(m)),
+        end: end_byte(words, a.m),
+    }
+}
+
+// After a `this` before which reading stood at s: what a constructor's took is free again, its diagnostics stay.
+pub fn freed(is_new: bool, s: Mark, q: Mark) -> Mark
+    ensures { λ r. ⌜ (r ≡ freedMark «is_new» s q) ⌝ }
+    ensures { λ r. ⌜ (r .at ≡ q .at) × (r .half ≡ q .half) × (r .used ≡ freedUsed «is_new» (s .used) (q .used)) × (r .named ≡ freedUsed «is_new» (s .named) (q .named)) × (r .noted ≡ q .noted) ⌝ }
+{
+    if is_new {
+        return Mark {
+            at: q.at,
+            half: q.half,
+            used: s.used,
+            named: s.named,
+            noted: q.noted,
+        };
+    }
+    q
+}
+
+// The children after a `this`, before which `used` nodes stood: its type is one of them, but for a constructor's.
+pub fn this_kids(nodes: &mut [u64], is_new: bool, k: Kids, used: usize, a: Answer) -> Kids
+    requires { ⌜ (used ≤ a .m .used) × (a .high ≤ tallest * (a .m .used - used)) × (a .m .used * 4 ≤ length (now nodes)) × Under used k × (a .high ≤ tallest) ⌝ }
+    ensures { λ r. ⌜ ThisKids «is_new» k used a (now (nodes .entry)) r (now (nodes .exit)) ⌝ }
+    ensures { λ r. ⌜ Under (freedUsed «is_new» used (a .m .used)) r ⌝ }
+{
+    if is_new {
+        return k;
+    }
+    let q = a.m;
+    link_opt(nodes, k, used, q.used, a.high)
+}
+
+// Whether the return type begins as a predicate: some name, and `is` on its line.
+pub fn predicates(words: &[u64], classes: &[u16; 256], m: Mark) -> bool
+    requires { ⌜ (now classes ≡ classWords) × (m .at < 2 ^ 63) ⌝ }
+    ensures { λ r. ⌜ ((text O : List ℕ) (given : AnyGiven) → r ≡ rule.predicates (givenOf text (now (words .entry)) given) (view m O)) ⌝ }
+{
+    if !in_class(classes, kind_at(words, m), Class::NAME) {
+        return false;
+    }
+    if kind_after(words, m, 1) != Kind::IS {
+        return false;
+    }
+    next_on_line(words, m)
+}
+
+// How many numbers an optional list's choices can be.
+fn list_scale(there: bool) -> usize
+    ensures { λ r. ⌜ (r ≡ listScale there) × (r ≤ 8192) ⌝ }
+{
+    if there {
+        return 2 * Count::ALL;
+    }
+    2
+}
+
+// How many numbers the bits of a `this` can be.
+fn this_scale(bits: usize) -> usize
+    ensures { λ r. ⌜ (r ≡ thisScale bits) × (r ≤ 4) ⌝ }
+{
+    if bits == 0 {
+        return 2;
+    }
+    4
+}
+
+// The choices of a function type.
+fn function_choices(there: bool, count: usize, this: usize, params: usize) -> usize
+    requires { ⌜ (count ≤ longest) × (this ≤ 3) × (params ≤ longest) ⌝ }
+    ensures { λ r. ⌜ r ≡ functionChoices there count this params ⌝ }
+{
+    let after = this + this_scale(this) * params;
+    Tag::FUNCTION + Tag::ALL * (opt_list(there, count) + list_scale(there) * after)
+}
+
+// The choices of a constructor type.
+fn constructor_choices(is_abstract: bool, there: bool, count: usize, params: usize) -> usize
+    requires { ⌜ (count ≤ longest) × (params ≤ longest) ⌝ }
+    ensures { λ r. ⌜ r ≡ constructorChoices «is_abstract» there count params ⌝ }
+{
+    let after = opt_list(there, count) + list_scale(there) * params;
+    Tag::CONSTRUCTOR + Tag::ALL * (bit(is_abstract) + 2 * after)
+}
+
+// Some list of a function type is too long.
+fn too_long(count: usize, params: usize) -> bool
+    ensures { λ r. ⌜ r ≡ (ltb longest count or ltb longest params) ⌝ }
+{
+    if limits::List::LONGEST < count {
+        return true;
+    }
+    limits::List::LONGEST < params
+}
+
+// The node: h before its parts, `count` type parameters if they are there, and p, whose children are now all.
+pub fn function_node(
+    words: &[u64],
+    nodes: &mut [u64],
+    notes: &mut [u64],
+    given: Given,
+    h: FunctionHead,
+    there: bool,
+    count: usize,
+    p: Params,
+) -> Answer
+    requires { ⌜ Sound (now words) × (given .room * 4 ≤ length (now nodes)) × (given .records * 3 ≤ length (now notes)) × Fine (length (now words)) given (p .m) × Under (p .m .used) (p .kids) × (p .this .bits ≤ 3) × (h .b .first < 2 ^ 32) × (h .b .name ≤ mostTokens) ⌝ }
+    ensures { λ r. ⌜ MakesFunction (now (words .entry)) given h there count p (now (nodes .entry)) (now (notes .entry)) r (now (nodes .exit)) (now (notes .exit)) ⌝ }
+    ensures { λ r. ⌜ Reached (length (now (words .entry))) given (placeOf (p .m)) (p .m .used + 1) (r .high) (r .why) (r .m) ⌝ }
+{
+    if h.is_new {
+        return constructor_node(words, nodes, notes, given, h, there, count, p);
+    }
+    if too_long(count, p.count) {
+        return Answer::refused(Refusal::TOO_LONG, p.m);
+    }
+    let this = p.this;
+    let choices = function_choices(there, count, this.bits, p.count);
+    put(words, nodes, given, h.b, choices, p.kids, p.m)
+}
+
+// A constructor's node, which has no `this`; diagnostic 3 if there was one.
+fn constructor_node(
+    words: &[u64],
+    nodes: &mut [u64],
+    notes: &mut [u64],
+    given: Given,
+    h: FunctionHead,
+    there: bool,
+    count: usize,
+    p: Params,
+) -> Answer
+    requires { ⌜ Sound (now words) × (given .room * 4 ≤ length (now nodes)) × (given .records * 3 ≤ length (now notes)) × Fine (length (now words)) given (p .m) × Under (p .m .used) (p .kids) × (h .b .first < 2 ^ 32) × (h .b .name ≤ mostTokens) ⌝ }
+    ensures { λ r. ⌜ (h .«is_new» ≡ true → MakesFunction (now (words .entry)) given h there count p (now (nodes .entry)) (now (notes .entry)) r (now (nodes .exit)) (now (notes .exit))) ⌝ }
+    ensures { λ r. ⌜ Reached (length (now (words .entry))) given (placeOf (p .m)) (p .m .used + 1) (r .high) (r .why) (r .m) ⌝ }
+{
+    let this = p.this;
+    let a = report_if(
+        this.bits != 0,
+        notes,
+        given,
+        Note::THIS_ON_CONSTRUCTOR,
+        this.first,
+        this.end,
+        p.m,
+    );
+    if a.why != 0 {
+        return a;
+    }
+    if too_long(count, p.count) {
+        return Answer::refused(Refusal::TOO_LONG, a.m);
+    }
+    let choices = constructor_choices(h.is_abstract, there, count, p.count);
+    put(words, nodes, given, h.b, choices, p.kids, a.m)
+}
