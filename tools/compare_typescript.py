@@ -4,9 +4,10 @@
     compare_typescript.py [FOLDER ..]     without a folder: those of the Debian packages below, as far as they are installed
 
 Packages: node-typescript (needed: it has the parser); more types are in node-type-fest, node-csstype, node-rxjs,
-node-immutable, node-yargs, node-chalk, node-undici, node-acorn and node-postcss. A type that holds what document 01 does
-not read is left out, and the types in it stand for themselves. Brackets are kept. What is compared: the whole tree, with tags, choices and spellings, and
-that the type ends where its text does. Each difference is counted under what the model answered, with its first texts.
+node-immutable, node-yargs, node-chalk, node-undici, node-acorn, node-postcss and what these bring along. A type that holds
+what document 01 does not read is left out, and the types in it stand for themselves. Brackets are kept. What is compared:
+the whole tree, with tags, choices and spellings, and that the type ends where its text does. Each difference is counted
+under what the model answered, with its first texts.
 """
 import collections
 import glob
