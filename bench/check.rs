@@ -6,8 +6,9 @@
 //! and the median of the rounds' ratios. ROUNDS=n sets how many rounds, ONLY=rattle or ONLY=rust runs one alone, for perf.
 //! Neither writes a buffer, so none is cleared. Before the timing both must give the same answer on every list as it is,
 //! and on each with one bit of a word, a byte of its text, its start or its end changed.
-use std::hint::black_box;
-use std::time::Instant;
+mod common;
+
+use common::{Chance, Slice, median, slice, time};
 
 // ---- the plain version ----
 
@@ -103,17 +104,6 @@ fn plain(l: &List) -> u64 {
 
 // ---- the proved version ----
 
-/// A slice as compiled Rattle code takes it inside a program: behind a pointer to these two.
-#[repr(C)]
-struct Slice<T> {
-    data: *const T,
-    count: usize,
-}
-
-fn slice<T>(s: &[T]) -> Slice<T> {
-    Slice { data: s.as_ptr(), count: s.len() }
-}
-
 unsafe extern "C" {
     fn words_check(text: *const Slice<u8>, words: *const Slice<u64>, start: usize) -> u64;
 }
@@ -148,17 +138,6 @@ fn lists(data: &[u8]) -> Vec<List> {
     all
 }
 
-struct Chance(u64);
-
-impl Chance {
-    fn below(&mut self, n: usize) -> usize {
-        self.0 ^= self.0 << 13;
-        self.0 ^= self.0 >> 7;
-        self.0 ^= self.0 << 17;
-        (self.0 % n.max(1) as u64) as usize
-    }
-}
-
 /// How many changed lists were compared, and how many of them are sound.
 fn agree(all: &[List]) -> (usize, usize) {
     let mut chance = Chance(88172645463325252);
@@ -187,50 +166,33 @@ fn agree(all: &[List]) -> (usize, usize) {
     (compared, sound)
 }
 
-fn time(all: &[List], turns: usize, f: fn(&List) -> u64) -> f64 {
-    let began = Instant::now();
-    let mut sum = 0;
-    for _ in 0..turns {
-        for l in all {
-            sum += f(black_box(l));
-        }
-    }
-    black_box(sum);
-    began.elapsed().as_secs_f64()
-}
-
-fn median(mut all: Vec<f64>) -> f64 {
-    all.sort_by(f64::total_cmp);
-    all[all.len() / 2]
-}
-
 fn main() {
     let rounds: usize = std::env::var("ROUNDS").ok().and_then(|s| s.parse().ok()).unwrap_or(101);
     let only = std::env::var("ONLY").unwrap_or_default();
     for name in std::env::args().skip(1) {
-        let all = lists(&std::fs::read(&name).unwrap());
+        let mut all = lists(&std::fs::read(&name).unwrap());
         let words: usize = all.iter().map(|l| l.words.len()).sum();
         let plain_words = all.iter().flat_map(|l| &l.words).filter(|&w| w >> 56 == 1).count();
         let (compared, sound) = agree(&all);
         let turns = (1_000_000 / words).max(1);
         let per = 1e9 / (turns * words) as f64;
         if !only.is_empty() {
-            let f = if only == "rattle" { proved } else { plain };
+            let f: fn(&mut List) -> usize = if only == "rattle" { |l| proved(l) as usize } else { |l| plain(l) as usize };
             for _ in 0..rounds {
-                time(&all, turns, f);
+                time(&mut all, turns, f);
             }
             continue;
         }
         let (mut a, mut b, mut ratios) = (Vec::new(), Vec::new(), Vec::new());
-        time(&all, turns, proved);
-        time(&all, turns, plain);
+        time(&mut all, turns, |l| proved(l) as usize);
+        time(&mut all, turns, |l| plain(l) as usize);
         for round in 0..rounds {
             let (x, y) = if round % 2 == 0 {
-                let x = time(&all, turns, proved);
-                (x, time(&all, turns, plain))
+                let x = time(&mut all, turns, |l| proved(l) as usize);
+                (x, time(&mut all, turns, |l| plain(l) as usize))
             } else {
-                let y = time(&all, turns, plain);
-                (time(&all, turns, proved), y)
+                let y = time(&mut all, turns, |l| plain(l) as usize);
+                (time(&mut all, turns, |l| proved(l) as usize), y)
             };
             a.push(x * per);
             b.push(y * per);

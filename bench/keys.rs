@@ -9,8 +9,9 @@
 //! stores; writing clears the key's buffer first, in both. SPARE=n lends n more words or bytes of each, which taking back
 //! clears, in both. Before the timing both must answer and store the same on every key as it is, and on each with one bit
 //! or byte changed, cut, or with one room too small.
-use std::hint::black_box;
-use std::time::Instant;
+mod common;
+
+use common::{Chance, Slice, median, slice, time};
 
 // ---- the plain version: taking back ----
 
@@ -550,17 +551,6 @@ pub fn put_key(nodes: &[u64], names: &[u64], text: &[u8], root: usize, key: &mut
 
 // ---- the proved version ----
 
-/// A slice as compiled Rattle code takes it inside a program: behind a pointer to these two.
-#[repr(C)]
-struct Slice<T> {
-    data: *const T,
-    count: usize,
-}
-
-fn slice<T>(s: &[T]) -> Slice<T> {
-    Slice { data: s.as_ptr(), count: s.len() }
-}
-
 fn lent<T>(s: &mut [T]) -> Slice<T> {
     Slice { data: s.as_mut_ptr(), count: s.len() }
 }
@@ -626,17 +616,6 @@ fn keys(data: &[u8], spare: usize) -> Vec<Key> {
     all
 }
 
-struct Chance(u64);
-
-impl Chance {
-    fn below(&mut self, n: usize) -> usize {
-        self.0 ^= self.0 << 13;
-        self.0 ^= self.0 >> 7;
-        self.0 ^= self.0 << 17;
-        (self.0 % n.max(1) as u64) as usize
-    }
-}
-
 /// Whether both answer and store the same, in dirty buffers; and whether the key was taken.
 fn alike(key: &[u8], rooms: [usize; 4]) -> bool {
     let run = |take: Take, put: Put| {
@@ -682,35 +661,12 @@ fn agree(all: &[Key]) -> (usize, usize) {
     (compared, taken)
 }
 
-fn time_in(all: &mut [Key], turns: usize, take: Take) -> f64 {
-    let began = Instant::now();
-    let mut sum = 0;
-    for _ in 0..turns {
-        for k in all.iter_mut() {
-            let k = black_box(k);
-            sum += take(&k.key, &mut k.nodes, &mut k.names, &mut k.text).map_or(0, |a| a[0]);
-        }
-    }
-    black_box(sum);
-    began.elapsed().as_secs_f64()
+fn taken(k: &mut Key, take: Take) -> usize {
+    take(&k.key, &mut k.nodes, &mut k.names, &mut k.text).map_or(0, |a| a[0])
 }
 
-fn time_out(all: &mut [Key], turns: usize, put: Put) -> f64 {
-    let began = Instant::now();
-    let mut sum = 0;
-    for _ in 0..turns {
-        for k in all.iter_mut() {
-            let k = black_box(k);
-            sum += put(&k.nodes, &k.names, &k.text, k.root, &mut k.again);
-        }
-    }
-    black_box(sum);
-    began.elapsed().as_secs_f64()
-}
-
-fn median(mut all: Vec<f64>) -> f64 {
-    all.sort_by(f64::total_cmp);
-    all[all.len() / 2]
+fn put(k: &mut Key, put: Put) -> usize {
+    put(&k.nodes, &k.names, &k.text, k.root, &mut k.again)
 }
 
 fn main() {
@@ -738,10 +694,10 @@ fn main() {
                 continue;
             }
             let mut run = |rattle: bool| match (job, rattle) {
-                ("in", true) => time_in(&mut all, turns, proved_take),
-                ("in", false) => time_in(&mut all, turns, take_back),
-                (_, true) => time_out(&mut all, turns, proved_put),
-                (_, false) => time_out(&mut all, turns, put_key),
+                ("in", true) => time(&mut all, turns, |k| taken(k, proved_take)),
+                ("in", false) => time(&mut all, turns, |k| taken(k, take_back)),
+                (_, true) => time(&mut all, turns, |k| put(k, proved_put)),
+                (_, false) => time(&mut all, turns, |k| put(k, put_key)),
             };
             if !only.is_empty() {
                 for _ in 0..rounds {
