@@ -1,19 +1,15 @@
 -- What an answer says, step by step: refused below, refused here, read, handed on.
 use mathlib.Core.Path.{_≡_, refl, sym, ap, _∙_, subst}
-use mathlib.Core.Bool.{Bool, true, false}
-use mathlib.Core.List.{List, []}
-use Prim.Native.Nat.{ℕ, zero, suc}
+use mathlib.Core.List.{List}
+use Prim.Native.Nat.{ℕ, suc}
 use native.Mathlib.Omega.{arith}
-use Rattle.keys.specs.Placed.{Placed, Spelling, Opt}
-use Rattle.keys.specs.Store.{Run}
+use Rattle.keys.specs.Placed.{Placed}
 use Rattle.rules.specs.State.{State, Result, read, refuse, then}
 use Rattle.parts.specs.Marks.{view}
-use Rattle.parts.specs.Laid.{Was, Stands}
-use Rattle.parts.specs.Says.{Got, Says, GotOpt, SaysOpt, GotNames, SaysNames, GotList, SaysList}
+use Rattle.parts.specs.Laid.{Was}
+use Rattle.parts.specs.Says.{Got, Says}
 use Rattle.parts.specs.declared.state.Mark.{Mark}
-use Rattle.parts.specs.declared.state.Kids.{Kids}
 use Rattle.parts.specs.declared.state.Answer.{Answer}
-use Rattle.parts.specs.declared.state.Listed.{Listed}
 
 -- ---- Results
 

@@ -9,7 +9,7 @@ use borrow.Author.Tests.{eq-eqb, ne-eqb, lt-ltb, le-ltb}
 use lib.Dec.{eqb}
 use lib.ListN.{length}
 use Rattle.words.specs.Limits.{longest}
-use Rattle.words.specs.Test.{_and_, _or_, test, among}
+use Rattle.words.specs.Test.{_and_, test, among}
 use Rattle.words.specs.Kind.{LParen, RParen, Str, Comma, LAngle, ShiftLeft, LtEq, ShiftLeftEq, Import, Typeof}
 use Rattle.words.specs.Cursor.{sameLine, kindAt}
 use Rattle.keys.specs.Bits.{unit}

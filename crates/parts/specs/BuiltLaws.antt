@@ -1,22 +1,21 @@
 -- How a node that is being read grows: a child is linked, a name is spelled, the node is put.
 use mathlib.Core.Path.{_≡_, refl, sym, ap, ap₂, _∙_, subst}
 use mathlib.Core.List.{List, [], _∷_, _++_, append-assoc, append-nil}
-use Prim.Native.Nat.{ℕ, zero, suc, _+_, _-_, _*_, _^_, _≤_, _<_, max}
+use Prim.Native.Nat.{ℕ, suc, _+_, _-_, _*_, _^_, _≤_, _<_, max}
 use native.Mathlib.Omega.{arith}
 use lib.ListN.{length, take, set, replicate, length-append, length-replicate}
 use lib.Seq.{take-all}
-use Rattle.keys.specs.Form.{child}
 use Rattle.keys.specs.Key.{nodeTable}
-use Rattle.keys.specs.Placed.{Placed, tree, Spelling, Opt, absent, present}
-use Rattle.keys.specs.Store.{Run, done, chose, name, kid, plant, under, called, packed, firstKid, records, nameOf, namesIn}
-use Rattle.keys.specs.StoreLaws.{_⊕_, join-done, join-join, under-join, called-join, span, firstKid-join, records-join, namesIn-join, length-namesIn}
+use Rattle.keys.specs.Placed.{Placed, tree, Spelling}
+use Rattle.keys.specs.Store.{Run, done, chose, name, kid, plant, under, firstKid, records, nameOf, namesIn}
+use Rattle.keys.specs.StoreLaws.{_⊕_, join-done, join-join, under-join, called-join, firstKid-join, namesIn-join, length-namesIn}
 use Rattle.keys.specs.Words.{firstNodes, firstNames}
-use Rattle.keys.specs.Stored.{lettersIn, Base, base, Stored, Own}
+use Rattle.keys.specs.Stored.{lettersIn, Base, base, Stored}
 use Rattle.keys.specs.StoredLaws.{kid-first, kid-next, own-first, own-next, stored-node}
-use Rattle.parts.specs.Marks.{notesOf, usedMark}
-use Rattle.parts.specs.Laid.{heights, skeleton, runIn, runOpt, nameRun, namesRun, IsNode, node, IsOpt, Was, wasAt, Laid, Built, Stands, Spoken, Shape}
-use Rattle.parts.specs.RunLaws.{skeleton-join, heights-skeleton, firstKid-skeleton, heights-join, names-join, under-names, heights-names, first-names, no-nodes, some-nodes, node-high}
-use Rattle.parts.specs.LaidLaws.{laid-none, laid-as, laid-name, laid-on, cut-twice, notes-same}
+use Rattle.parts.specs.Marks.{usedMark}
+use Rattle.parts.specs.Laid.{heights, runIn, namesRun, IsNode, node, Was, wasAt, Laid, Built, Stands, Spoken, Shape}
+use Rattle.parts.specs.RunLaws.{heights-skeleton, firstKid-skeleton, heights-join, names-join, heights-names, first-names, no-nodes, some-nodes}
+use Rattle.parts.specs.LaidLaws.{laid-none, laid-as, laid-name, cut-twice, notes-same}
 use Rattle.parts.specs.declared.state.Mark.{Mark}
 use Rattle.parts.specs.declared.state.Kids.{Kids}
 
@@ -99,8 +98,8 @@ module _ {B : Was} {t a : Run} {f l used named noted used' named' noted' : ℕ} 
   pub first-next : B .used < used → firstKid t (B .used) 0 ≡ firstKid (t ⊕ kid f l a done) (B .used) 0
   first-next z = own-next (stored d) (stored-since d e) (record { word-is = refl; shift-is = refl; child-is = refl }) z .child-is
 
-max-zero : (n : ℕ) → n ≡ max 0 n
-max-zero n = omega arith
+zero-max : (n : ℕ) → n ≡ max 0 n
+zero-max n = omega arith
 
 -- The tree u, read since the children of k stood, is the first child; or it follows the last.
 module _ {c : ℕ} {B : Was} {t : Run} {k : Kids} {used named noted used' named' noted' : ℕ} {N M O N' M' O' : List ℕ} (b : Built B t k used named noted N M O) where
@@ -112,7 +111,7 @@ module _ {c : ℕ} {B : Was} {t : Run} {k : Kids} {used named noted used' named'
       record {
         laid = laid-first (b .laid) e same;
         first-is = first-first (b .laid) e same;
-        high-is = h ∙ max-zero (heights (runIn c (tree tag f l p))) ∙ ap (λ (n : ℕ). max n (heights (runIn c (tree tag f l p)))) (sym none) ∙ sym (heights-join t (runIn c (tree tag f l p)));
+        high-is = h ∙ zero-max (heights (runIn c (tree tag f l p))) ∙ ap (λ (n : ℕ). max n (heights (runIn c (tree tag f l p)))) (sym none) ∙ sym (heights-join t (runIn c (tree tag f l p)));
       }
 
   pub built-next : {u : Placed} (high many : ℕ) → IsNode c u → high ≡ heights (runIn c u) → Laid (wasAt used named noted N M O) (runIn c u) used' named' noted' N' M' O'
@@ -146,7 +145,7 @@ built-one {c = c} {B = B} {used = used} ss (node {tag = tag} {first = f} {end = 
       first-is =
           (let z : used - 1 ≡ B .used + under (namesRun ss) + under (chose (nodeTable .tagWidth c) tag (plant nodeTable (nodeTable .row c tag) p done)) = omega (arith, d .used-is, under-join (namesRun ss) r) in z)
           ∙ sym (first-names ss (B .used) (firstKid r (B .used + under (namesRun ss)) 0)) ∙ sym (firstKid-join (namesRun ss) r (B .used) 0);
-      high-is = h ∙ max-zero (heights r) ∙ ap (λ (n : ℕ). max n (heights r)) (sym (heights-names ss)) ∙ sym (heights-join (namesRun ss) r);
+      high-is = h ∙ zero-max (heights r) ∙ ap (λ (n : ℕ). max n (heights r)) (sym (heights-names ss)) ∙ sym (heights-join (namesRun ss) r);
     }
 
 -- ---- A node

@@ -17,7 +17,7 @@ use Rattle.keys.specs.Key.{nodeTable}
 use Rattle.keys.specs.Table.{rows, type, underRest, namedRow}
 use Rattle.keys.specs.Placed as node
 use Rattle.keys.specs.Placed.{Placed, tree, join, spell, bit, Spelling, second, isSet, optionalIf, asElement, isAsked}
-use Rattle.keys.specs.Store.{Run, done, chose, name, kid, plant, under, packed, firstKid, records, recordOf}
+use Rattle.keys.specs.Store.{Run, done, chose, name, kid, plant, packed, firstKid, records, recordOf}
 use Rattle.keys.specs.StoreLaws.{_⊕_, under-join, called-join, namesIn-join}
 use Rattle.keys.specs.Words.{firstNodes}
 use Rattle.rules.specs.Tuple as tuple
@@ -28,9 +28,9 @@ use Rattle.parts.specs.declared.state.Mark.{Mark}
 
 -- ---- Rows: classes 0 to 3 differ at 20, 21 and 22 alone
 
-and-true : (a b : Bool) → T (a and b) → T a × T b
-and-true true b h = (tt, h)
-and-true false b h = absurd h
+both-hold : (a b : Bool) → T (a and b) → T a × T b
+both-hold true b h = (tt, h)
+both-hold false b h = absurd h
 
 is-true : (b : Bool) → T b → b ≡ true
 is-true true h = refl
@@ -65,7 +65,7 @@ module _ (tag first end : ℕ) (p : Placed) (h : T (allowed 0 tag p)) where
   as-run f = kid first end (chose 6 tag (plant nodeTable f p done)) done
 
   outside : T (not (between 20 22 tag))
-  outside = and-true (ltb tag 64) (not (between 20 22 tag)) h .1
+  outside = both-hold (ltb tag 64) (not (between 20 22 tag)) h .1
 
   same-one : runIn 1 (tree tag first end p) ≡ runIn 0 (tree tag first end p)
   same-one = ap as-run (rows-same type underRest namedRow never never never tag outside)
@@ -97,8 +97,8 @@ element-named (is-node {tag = tag} {first = f} {end = e} {p = p} a) = by (eqb ta
 -- ---- What a type is as an element
 
 tag-below : (c tag : ℕ) (p : Placed) → T (allowed c tag p) → tag < 64
-tag-below zero tag p h = ltb-true tag 64 (is-true (ltb tag 64) (and-true (ltb tag 64) (not (between 20 22 tag)) h .0))
-tag-below (suc c) tag p h = ltb-true tag 64 (is-true (ltb tag 64) (and-true (ltb tag 64) (not (eqb tag 22) or showsAsked p) h .0))
+tag-below zero tag p h = ltb-true tag 64 (is-true (ltb tag 64) (both-hold (ltb tag 64) (not (between 20 22 tag)) h .0))
+tag-below (suc c) tag p h = ltb-true tag 64 (is-true (ltb tag 64) (both-hold (ltb tag 64) (not (eqb tag 22) or showsAsked p) h .0))
 
 allowed-more : (tag : ℕ) (p : Placed) → T (allowed 0 tag p) → T (allowed 1 tag p)
 allowed-more tag p h = by (ltb tag 64) (eqb tag 22) (λ e. eqb-true tag 22 e) h
@@ -277,7 +277,7 @@ module _ {B : Was} {e : Placed} {high : ℕ} {m : Mark} {N M O : List ℕ} (h : 
           low = tag-below 1 tag p a
 
           shows : (b : Bool) → T (ltb tag 64 and (not b or showsAsked p)) → b ≡ true → T (showsAsked p)
-          shows true u z = and-true (ltb tag 64) (showsAsked p) u .1
+          shows true u z = both-hold (ltb tag 64) (showsAsked p) u .1
           shows false u z = absurd (let q : _≡_ {A = ℕ} 0 1 = cc in omega arith)
 
           go : (b : Bool) → eqb tag 22 ≡ b → (b and eqb (w / 64 % 2) 1) ≡ (b && isSet (second p))
@@ -331,8 +331,8 @@ module _ (w : ℕ) where
   pub optional-tag : w % 64 ≡ 20 → true ≡ optionalWord w
   optional-tag e = ap (λ (b : Bool). b or (eqb (w % 64) 22 and eqb (w / 64 % 2) 1)) (sym (eq-eqb (w % 64) 20 e))
 
-  pub optional-none : (w % 64 ≡ 20 → ⊥) → (w % 64 ≡ 22 → ⊥) → false ≡ optionalWord w
-  optional-none n k = ap₂ (λ (b c : Bool). b or (c and eqb (w / 64 % 2) 1)) (sym (ne-eqb (w % 64) 20 n)) (sym (ne-eqb (w % 64) 22 k))
+  pub optional-not : (w % 64 ≡ 20 → ⊥) → (w % 64 ≡ 22 → ⊥) → false ≡ optionalWord w
+  optional-not n k = ap₂ (λ (b c : Bool). b or (c and eqb (w / 64 % 2) 1)) (sym (ne-eqb (w % 64) 20 n)) (sym (ne-eqb (w % 64) 22 k))
 
   pub optional-bit : (w % 64 ≡ 20 → ⊥) → w % 64 ≡ 22 → eqb (w / 64 % 2) 1 ≡ optionalWord w
   optional-bit n e = ap₂ (λ (b c : Bool). b or (c and eqb (w / 64 % 2) 1)) (sym (ne-eqb (w % 64) 20 n)) (sym (eq-eqb (w % 64) 22 e))

@@ -15,7 +15,7 @@ use Rattle.keys.specs.Placed.{Placed, tree, Spelling}
 use Rattle.keys.specs.StoreLaws.{_⊕_}
 use Rattle.rules.specs.Notes.{note, requiredAfterOptional, restAfterLabel, askedAfterLabel, optionalAndRest}
 use Rattle.rules.specs.State as rule
-use Rattle.rules.specs.State.{State, Result, Reader, read, refused, then, next, stands, first, end, spelling, past, make, reportIf}
+use Rattle.rules.specs.State.{State, Result, Reader, read, then, next, stands, first, end, spelling, past, make, reportIf}
 use Rattle.rules.specs.Tuple as tuple
 use Rattle.parts.specs.Marks.{view, givenOf, nextMark, pastMark, namedMark}
 use Rattle.parts.specs.Laid.{heights, runIn, namesRun, IsNode, Was, Laid, Stands}

@@ -2,7 +2,7 @@
 use mathlib.Core.Path.{_≡_, refl, sym, ap, _∙_}
 use mathlib.Core.Bool.{Bool, true, false, not}
 use mathlib.Core.List.{List, [], _∷_}
-use Prim.Native.Nat.{ℕ, suc, _+_, _*_, _≤_}
+use Prim.Native.Nat.{ℕ, _+_, _*_, _≤_}
 use native.Mathlib.Omega.{arith}
 use borrow.Author.Tests.{ltb-false}
 use lib.Dec.{ltb, eqb, leb·zero}
@@ -27,14 +27,15 @@ use Rattle.rules.specs.Function.{ThisParameter, Parameters, thisType, reportThi
 use Rattle.parts.specs.Marks.{view, givenOf, placeOf, Fine, Reached}
 use Rattle.parts.specs.Laid.{skeleton, runIn, runs, runsOpt, IsNode, IsOpt, AllNodes, AllOpt, Shape}
 use Rattle.parts.specs.Says.{isThere}
-use Rattle.parts.specs.Reported.{refusedAt, Reports, silent, noted, full, Noted}
-use Rattle.parts.specs.Nodes.{Makes, Put, optList}
+use Rattle.parts.specs.Reported.{refusedAt, Reports, Noted}
+use Rattle.parts.specs.Nodes.{Makes, optList}
 use Rattle.parts.specs.Functions.{typeBits, thisBits, thisFirst, thisEnd, ThisIs, IsThis, thisRun, listScale, thisScale, functionChoices, constructorChoices, MakesFunction}
 use Rattle.parts.specs.RunLaws.{skeleton-join}
 use Rattle.parts.specs.Answers.{says-same, says-refused, says-stop}
-use Rattle.parts.specs.ReportLaws.{reports-done, reports-refused, built-reported}
+use Rattle.parts.specs.ReportLaws.{reports-done, reports-refused, built-reported, reports-high}
 use Rattle.parts.specs.ShapeLaws.{packed-node, skeleton-maybe, packed-maybe, skeleton-list, packed-list, skeleton-maybeList, packed-maybeList}
 use Rattle.parts.specs.ParameterLaws.{type-bits}
+use Rattle.parts.specs.MarkLaws.{fine-noted, or-false}
 use Rattle.parts.specs.declared.state.Given.{Given}
 use Rattle.parts.specs.declared.state.Mark.{Mark}
 use Rattle.parts.specs.declared.state.Answer.{Answer}
@@ -116,19 +117,15 @@ module _ (ts : Opt (List Placed)) (l : List Placed) (u : Placed) (each-type : Al
 
 -- ---- What the rules make
 
-or-false : (b : Bool) → b or false ≡ b
-or-false true = refl
-or-false false = refl
-
 -- Two lists, one of which is too long, or none.
 module _ (g : rule.Given) (a b : ℕ) (t : Placed) (s : State) where
-  make-long : ltb longest a or ltb longest b ≡ true → make g (a ∷ b ∷ []) t s ≡ refuse tooLong (s .at) (s .half)
+  some-long : ltb longest a or ltb longest b ≡ true → make g (a ∷ b ∷ []) t s ≡ refuse tooLong (s .at) (s .half)
   unfolding make
-  make-long e = rw (ap (λ (x : Bool). ltb longest a or x) (or-false (ltb longest b)) ∙ e)
+  some-long e = rw (ap (λ (x : Bool). ltb longest a or x) (sym (or-false (ltb longest b))) ∙ e)
 
-  make-fits : ltb longest a or ltb longest b ≡ false → make g (a ∷ b ∷ []) t s ≡ make g [] t s
+  none-long : ltb longest a or ltb longest b ≡ false → make g (a ∷ b ∷ []) t s ≡ make g [] t s
   unfolding make
-  make-fits e = rw (ap (λ (x : Bool). ltb longest a or x) (or-false (ltb longest b)) ∙ e)
+  none-long e = rw (ap (λ (x : Bool). ltb longest a or x) (sym (or-false (ltb longest b))) ∙ e)
 
 type-there : (u : Opt Placed) → not (eqb (typeBits u) 0) ≡ true
 type-there absent = refl
@@ -145,15 +142,15 @@ abbrev construct : rule.Given → (first : ℕ) → Bool → Opt (List Placed) �
 construct g first isAbstract ts l u s = make g (count ts ∷ length l ∷ []) (node.constructor first (end g s) isAbstract ts l u) s
 
 module _ (g : rule.Given) (T : Reader) (b : ℕ) (isAbstract : Bool) (ts : Opt (List Placed)) (ps : Parameters) (u : Placed) (s : State) where
-  function-is : functionNode g T b false isAbstract ts ps u s ≡ make g (count ts ∷ length (ps .list) ∷ []) (node.function b (end g s) ts (thisType (ps .this)) (ps .list) u) s
+  function-node-is : functionNode g T b false isAbstract ts ps u s ≡ make g (count ts ∷ length (ps .list) ∷ []) (node.function b (end g s) ts (thisType (ps .this)) (ps .list) u) s
   unfolding functionNode
-  function-is = refl
+  function-node-is = refl
 
   -- A constructor's node, and the diagnostic before it, by the code's `this`.
-  constructor-is : (r : ThisCode) → ThisIs r (ps .this)
+  constructor-node-is : (r : ThisCode) → ThisIs r (ps .this)
       → functionNode g T b true isAbstract ts ps u s ≡ reportIf (not (eqb (r .bits) 0)) g (note thisOnConstructor (r .first) (r .end)) s (construct g b isAbstract ts (ps .list) u)
   unfolding functionNode
-  constructor-is r i = rw (report-this, ← i .bits, ← i .first, ← i .end)
+  constructor-node-is r i = rw (report-this, ← i .bits, ← i .first, ← i .end)
 
 -- ---- What the code's node says
 
@@ -164,8 +161,8 @@ module _ (W : List ℕ) (given : Given) (h : FunctionHead) (there : Bool) (many 
       let g = givenOf text W given in
       rw new
       (says-refused 6
-      (function-is g R (h .b .first) (h .«is_abstract») ts ps u (view (p .m) O)
-      ∙ make-long g (count ts) (length (ps .list)) _ (view (p .m) O) (rw (← many-is, ← count-is) long)))
+      (function-node-is g R (h .b .first) (h .«is_abstract») ts ps u (view (p .m) O)
+      ∙ some-long g (count ts) (length (ps .list)) _ (view (p .m) O) (rw (← many-is, ← count-is) long)))
 
   pub function-put : {choices : ℕ} {a : Answer} {N' : List ℕ} → h .«is_new» ≡ false → ltb longest many or ltb longest (p .count) ≡ false
       → choices ≡ functionChoices there many (p .this .bits) (p .count) → Makes W given (h .b) choices (p .kids) (p .m) N a N' → MakesFunction W given h there many p N O a N' O
@@ -173,8 +170,8 @@ module _ (W : List ℕ) (given : Given) (h : FunctionHead) (there : Bool) (many 
       let g = givenOf text W given in
       rw new
       (says-same
-      (function-is g R (h .b .first) (h .«is_abstract») ts ps u (view (p .m) O)
-      ∙ make-fits g (count ts) (length (ps .list)) _ (view (p .m) O) (rw (← many-is, ← count-is) long))
+      (function-node-is g R (h .b .first) (h .«is_abstract») ts ps u (view (p .m) O)
+      ∙ none-long g (count ts) (length (ps .list)) _ (view (p .m) O) (rw (← many-is, ← count-is) long))
       (makes text 0 B (((runsOpt 4 ts ⊕ thisRun false (ps .this)) ⊕ runs 5 (ps .list)) ⊕ runIn 0 u) 12 _ M O (rw new at b) first-is
       (rw (choices-are, there-is, many-is, this-is .bits, count-is) (shape-function ts (ps .list) u each-type each is-node (ps .this) is-this))))
 
@@ -186,7 +183,7 @@ module _ (W : List ℕ) (given : Given) (h : FunctionHead) (there : Bool) (many 
         let g = givenOf text W given in
         rw new
         (says-stop stop
-        (constructor-is g R (h .b .first) (h .«is_abstract») ts ps u (view (p .m) O) (p .this) this-is
+        (constructor-node-is g R (h .b .first) (h .«is_abstract») ts ps u (view (p .m) O) (p .this) this-is
         ∙ reports-refused text W (construct g (h .b .first) (h .«is_abstract») ts (ps .list) u) reports stop))
 
     pub constructor-long : a .why ≡ 0 → ltb longest many or ltb longest (p .count) ≡ true → MakesFunction W given h there many p N O (refusedAt tooLong (a .m)) N O'
@@ -194,9 +191,9 @@ module _ (W : List ℕ) (given : Given) (h : FunctionHead) (there : Bool) (many 
         let g = givenOf text W given in
         rw new
         (says-refused 6
-        (constructor-is g R (h .b .first) (h .«is_abstract») ts ps u (view (p .m) O) (p .this) this-is
+        (constructor-node-is g R (h .b .first) (h .«is_abstract») ts ps u (view (p .m) O) (p .this) this-is
         ∙ reports-done text W (construct g (h .b .first) (h .«is_abstract») ts (ps .list) u) reports go
-        ∙ make-long g (count ts) (length (ps .list)) _ (view (a .m) O') (rw (← many-is, ← count-is) long)))
+        ∙ some-long g (count ts) (length (ps .list)) _ (view (a .m) O') (rw (← many-is, ← count-is) long)))
 
     pub constructor-put : {choices : ℕ} {d : Answer} {N' : List ℕ} → a .why ≡ 0 → Noted given (p .m) a → ltb longest many or ltb longest (p .count) ≡ false
         → choices ≡ constructorChoices (h .«is_abstract») there many (p .count) → Makes W given (h .b) choices (p .kids) (a .m) N d N' → MakesFunction W given h there many p N O d N' O'
@@ -204,9 +201,9 @@ module _ (W : List ℕ) (given : Given) (h : FunctionHead) (there : Bool) (many 
         let g = givenOf text W given in
         rw new
         (says-same
-        (constructor-is g R (h .b .first) (h .«is_abstract») ts ps u (view (p .m) O) (p .this) this-is
+        (constructor-node-is g R (h .b .first) (h .«is_abstract») ts ps u (view (p .m) O) (p .this) this-is
         ∙ reports-done text W (construct g (h .b .first) (h .«is_abstract») ts (ps .list) u) reports go
-        ∙ make-fits g (count ts) (length (ps .list)) _ (view (a .m) O') (rw (← many-is, ← count-is) long))
+        ∙ none-long g (count ts) (length (ps .list)) _ (view (a .m) O') (rw (← many-is, ← count-is) long))
         (makes text 0 B (((runsOpt 4 ts ⊕ done) ⊕ runs 5 (ps .list)) ⊕ runIn 0 u) 13 _ M O' (built-reported reports more (rw new at b)) first-is
         (rw (choices-are, there-is, many-is, count-is) (shape-constructor ts (ps .list) u each-type each is-node (h .«is_abstract»)))))
 
@@ -220,51 +217,13 @@ both-fit a b e = by (ltb longest a) (ltb longest b) refl refl e
     by true y p q h = let z : _≡_ {A = ℕ} 0 1 = cc in absurd (omega arith)
     by false y p q h = (ltb-false longest a p, ltb-false longest b (q ∙ h))
 
--- A mark that is fine stays so with a diagnostic more.
-pub fine-noted : {len : ℕ} {given : Given} {m : Mark} {a : Answer} → Fine len given m → Noted given m a → Fine len given (a .m)
-fine-noted f n =
-    record {
-      inside = omega (arith, f .inside, n .at-is, n .half-is);
-      half = omega (arith, f .half, n .half-is);
-      roomy = omega (arith, f .roomy, n .used-is);
-      few = omega (arith, f .few, n .named-is, n .at-is);
-      recorded = n .recorded;
-    }
-
--- A refusal reaches any place of its mark.
-pub reached-refused : {len : ℕ} {given : Given} {m : Mark} (place used k : ℕ) → place ≤ placeOf m → used ≤ m .used + 1 → Fine len given m → Reached len given place used 0 (suc k) m
-reached-refused place used k p u f = record { past = omega arith; more = omega arith; low = omega arith; fine = f }
-
--- A node that was put reaches its mark.
-pub reached-put : {len : ℕ} {given : Given} {m : Mark} {a : Answer} (place used : ℕ) → place ≤ placeOf m → used ≤ m .used + 1 → Fine len given m → Put given m a
-    → Reached len given place used (a .high) (a .why) (a .m)
-reached-put place used h u f p =
-    record {
-      past = omega (arith, p .at-is, p .half-is);
-      more = omega (arith, p .more);
-      low = p .low;
-      fine =
-          record {
-            inside = omega (arith, f .inside, p .at-is, p .half-is);
-            half = omega (arith, f .half, p .half-is);
-            roomy = p .roomy;
-            few = omega (arith, f .few, p .named-is, p .at-is);
-            recorded = omega (arith, f .recorded, p .noted-is);
-          };
-    }
-
--- What a report answers has no height.
-reports-low : {holds : Bool} {given : Given} {n : Note} {m : Mark} {O : List ℕ} {a : Answer} {O' : List ℕ} → Reports holds given n m O a O' → a .high ≡ 0
-reports-low (silent h e o) = ap (λ (x : Answer). x .high) e
-reports-low (noted h f e o) = ap (λ (x : Answer). x .high) e
-reports-low (full h f e o) = ap (λ (x : Answer). x .high) e
-
+-- A report that is refused reaches its mark.
 pub reached-reported : {holds : Bool} {len : ℕ} {given : Given} {n : Note} {m : Mark} {O : List ℕ} {a : Answer} {O' : List ℕ} → Reports holds given n m O a O'
     → (a .why ≡ 0 → ⊥) → Fine len given m → Noted given m a → Reached len given (placeOf m) (m .used + 1) (a .high) (a .why) (a .m)
 reached-reported r stop f n =
     record {
       past = omega (arith, n .at-is, n .half-is);
       more = omega (arith, n .used-is, stop);
-      low = omega (arith, reports-low r);
+      low = omega (arith, reports-high r);
       fine = fine-noted f n;
     }

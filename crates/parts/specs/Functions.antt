@@ -1,8 +1,8 @@
 -- Function types: parameters and their `this`, the head, the choices, the node.
 use mathlib.Core.Path.{_≡_}
-use mathlib.Core.Bool.{Bool, true, false, not}
+use mathlib.Core.Bool.{Bool, true, false}
 use mathlib.Core.List.{List}
-use Prim.Native.Nat.{ℕ, zero, suc, _+_, _-_, _*_}
+use Prim.Native.Nat.{ℕ, zero, suc, _+_, _*_}
 use lib.ListN.{length}
 use Rattle.words.specs.Kind.{LParen, Question, Dot3, Abstract, New, This}
 use Rattle.words.specs.Test.{_and_, test}
@@ -13,7 +13,7 @@ use Rattle.keys.specs.Store.{Run, done}
 use Rattle.keys.specs.StoreLaws.{_⊕_}
 use Rattle.rules.specs.Refusal.{unexpected, unsupported}
 use Rattle.rules.specs.State as rule
-use Rattle.rules.specs.State.{State, Result, Reader, read, refuse, refused, then, stands, first, end, past, make}
+use Rattle.rules.specs.State.{State, Result, Reader, read, refuse, refused, then, stands, past}
 use Rattle.rules.specs.List.{count}
 use Rattle.rules.specs.TypeParameters as types
 use Rattle.rules.specs.Function as function

@@ -1,5 +1,5 @@
 -- Function types before their types: what the rules' tests come to, by what stands at the cursor.
-use mathlib.Core.Path.{_≡_, refl, sym, ap, _∙_, subst}
+use mathlib.Core.Path.{_≡_, refl, sym, ap, _∙_}
 use mathlib.Core.Bool.{Bool, true, false}
 use mathlib.Core.List.{List}
 use Prim.Native.Nat.{ℕ, _+_, _*_}
@@ -16,13 +16,14 @@ use Rattle.rules.specs.State as rule
 use Rattle.rules.specs.State.{State, Result, read, refuse, then, past}
 use Rattle.rules.specs.TypeParameters as types
 use Rattle.rules.specs.Function as function
-use Rattle.parts.specs.Marks.{view, givenOf, nextMark, pastMark, Moved}
+use Rattle.parts.specs.Marks.{view, givenOf, pastMark, Moved}
 use Rattle.parts.specs.Says.{SaysNames, Any, one}
 use Rattle.parts.specs.Named.{oneName}
 use Rattle.parts.specs.Lists.{here}
 use Rattle.parts.specs.Functions.{whyIf, typeParameterHead, parameterHead}
 use Rattle.parts.specs.Answers.{then-read, then-refused}
 use Rattle.parts.specs.BuiltLaws.{spoken-from, spoken-to}
+use Rattle.parts.specs.StepLaws.{view-past, names-refused, names-same}
 use Rattle.parts.specs.declared.state.Given.{Given}
 use Rattle.parts.specs.declared.state.Mark.{Mark}
 
@@ -36,16 +37,6 @@ module _ (text W O : List ℕ) (given : Given) (m : Mark) where
   pub predicates-is : {a b c : Bool} → class.name (kindAt W (m .at) (m .half)) ≡ a → eqb (wholeKind W (m .at + 1)) Is ≡ b → sameLine W (m .at + 1) 0 ≡ c
       → function.predicates (givenOf text W given) (view m O) ≡ (a and b and c)
   predicates-is p q r = rw (p, q, r)
-
--- ---- Marks
-
--- The rules' step past a mark is the code's.
-pub view-past : (text W O : List ℕ) (given : Given) (k : ℕ) (m : Mark) → view (pastMark W k m) O ≡ past (givenOf text W given) k (view m O)
-view-past text W O given k m = by (here W k m)
-  where
-    by : (b : Bool) → view (test b (λ _. nextMark m) (λ _. m)) O ≡ test b (λ _. rule.next (view m O)) (λ _. view m O)
-    by true = refl
-    by false = refl
 
 -- ---- A type parameter up to its constraint
 
@@ -64,19 +55,9 @@ module _ (g : rule.Given) (s : State) (why : ℕ) (e : why ≡ whyIf (types.vari
   type-head-named : why ≡ 0 → typeParameterHead g s ≡ oneName 0 g s
   type-head-named n = rw (why-none (types.varies g s) why e n)
 
--- A refusal here, whatever would be asked of what was read.
-pub names-stop : {A : Type 0} {R : A → List Spelling} {P : A → Type 0} {x : Result A} {why : ℕ} {m q : Mark} {M M' O : List ℕ}
-    → (why ≡ 0 → ⊥) → x ≡ refuse why (q .at) (q .half) → SaysNames R P x why m q M M' O
-names-stop n e = record { done = λ z. absurd (n z); refused = λ _. e }
-
--- The same names, of an equal reading.
-pub names-same : {A : Type 0} {R : A → List Spelling} {P : A → Type 0} {x y : Result A} {why : ℕ} {m q : Mark} {M M' O : List ℕ}
-    → y ≡ x → SaysNames R P x why m q M M' O → SaysNames R P y why m q M M' O
-names-same {A} {R} {P} {x} {y} {why} {m} {q} {M} {M'} {O} e w = subst (λ (z : Result A). SaysNames R P z why m q M M' O) (sym e) w
-
 module _ (text W O : List ℕ) (given : Given) (m : Mark) (why : ℕ) (e : why ≡ whyIf (types.varies (givenOf text W given) (view m O)) unsupported) {M M' : List ℕ} where
   pub type-head-stops : (why ≡ 0 → ⊥) → SaysNames one Any (typeParameterHead (givenOf text W given) (view m O)) why m m M M' O
-  type-head-stops n = names-stop n (type-head-refused (givenOf text W given) (view m O) why e n)
+  type-head-stops n = names-refused n (type-head-refused (givenOf text W given) (view m O) why e n)
 
   pub type-head-says : {w : ℕ} {q : Mark} → why ≡ 0 → SaysNames one Any (oneName 0 (givenOf text W given) (view m O)) w m q M M' O
       → SaysNames one Any (typeParameterHead (givenOf text W given) (view m O)) w m q M M' O
@@ -93,7 +74,7 @@ headFrom g isRest s =
 
 module _ (text W O : List ℕ) (given : Given) (m p : Mark) (e : p ≡ pastMark W Dot3 m) where
   head-from : parameterHead (givenOf text W given) (view m O) ≡ headFrom (givenOf text W given) (here W Dot3 m) (view p O)
-  head-from = ap (headFrom (givenOf text W given) (here W Dot3 m)) (sym (ap (λ (x : Mark). view x O) e ∙ view-past text W O given Dot3 m))
+  head-from = ap (headFrom (givenOf text W given) (here W Dot3 m)) (sym (ap (λ (x : Mark). view x O) e ∙ view-past text W given Dot3 m O))
 
   -- A `this` stands behind the dots.
   pub head-this : (here W Dot3 m and here W This p) ≡ true → parameterHead (givenOf text W given) (view m O) ≡ refuse unsupported (p .at) (p .half)
@@ -106,20 +87,20 @@ module _ (text W O : List ℕ) (given : Given) (m p : Mark) (e : p ≡ pastMark 
 
   module _ (h : (here W Dot3 m and here W This p) ≡ false) {why : ℕ} {q : Mark} {M M' : List ℕ} (w : SaysNames one Any (oneName 0 (givenOf text W given) (view p O)) why p q M M' O) where
     -- No name stands there.
-    pub head-refused : (why ≡ 0 → ⊥) → parameterHead (givenOf text W given) (view m O) ≡ refuse why (q .at) (q .half)
-    head-refused n = head-named h ∙ then-refused _ (w .refused n)
+    pub parameter-head-refused : (why ≡ 0 → ⊥) → parameterHead (givenOf text W given) (view m O) ≡ refuse why (q .at) (q .half)
+    parameter-head-refused n = head-named h ∙ then-refused _ (w .refused n)
 
     -- The name was read, and a `?` passed if it stands there.
-    pub head-read : {len len' : ℕ} (r : Mark) (choices : ℕ) → why ≡ 0 → r ≡ pastMark W Question q → Moved len m p → Moved len' q r
+    pub parameter-head-read : {len len' : ℕ} (r : Mark) (choices : ℕ) → why ≡ 0 → r ≡ pastMark W Question q → Moved len m p → Moved len' q r
         → choices ≡ unit (here W Dot3 m) + 2 * unit (here W Question q)
         → SaysNames (λ x. one (x .0)) (λ x. choices ≡ unit (here W Dot3 m) + 2 * unit (x .1)) (parameterHead (givenOf text W given) (view m O)) 0 m r M M' O
-    head-read r choices z f a b c =
+    parameter-head-read r choices z f a b c =
         let got = w .done z in
         record {
           done = λ _.
               record {
                 what = (got .what, here W Question q);
-                is = head-named h ∙ then-read _ (got .is) ∙ ap (read (got .what, here W Question q)) (sym (ap (λ (x : Mark). view x O) f ∙ view-past text W O given Question q));
+                is = head-named h ∙ then-read _ (got .is) ∙ ap (read (got .what, here W Question q)) (sym (ap (λ (x : Mark). view x O) f ∙ view-past text W given Question q O));
                 such = c;
                 spoken = spoken-from m (sym (a .used-is)) (sym (a .named-is)) (sym (a .noted-is)) (spoken-to r (b .used-is) (b .named-is) (b .noted-is) (got .spoken));
               };

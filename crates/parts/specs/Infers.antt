@@ -1,9 +1,8 @@
 -- What became of a trial, and the node of an infer.
 use mathlib.Core.Path.{_≡_}
-use mathlib.Core.Bool.{Bool, true, false, not}
+use mathlib.Core.Bool.{Bool, true, false}
 use mathlib.Core.List.{List, []}
-use Prim.Native.Nat.{ℕ, _-_}
-use Rattle.words.specs.Test.{_and_}
+use Prim.Native.Nat.{ℕ}
 use Rattle.keys.specs.Placed as node
 use Rattle.keys.specs.Placed.{Placed, Spelling, absent, present}
 use Rattle.keys.specs.StoreLaws.{_⊕_}

@@ -1,24 +1,23 @@
 -- Labels of elements: the code's marks are the rules' states, and what a label says is what the rules see.
 use mathlib.Core.Path.{_≡_, refl, sym, ap, ap₂, _∙_, subst}
-use mathlib.Core.Bool.{Bool, true, false, not}
+use mathlib.Core.Bool.{Bool, true, false}
 use mathlib.Core.List.{List, [], _∷_}
-use Prim.Native.Nat.{ℕ, zero, suc, _+_, _≤_, _<_}
+use Prim.Native.Nat.{ℕ, _+_, _≤_, _<_}
 use native.Mathlib.Omega.{arith}
-use native.Mathlib.Decide.{decLt}
 use borrow.Author.Tests.{eq-eqb, ne-eqb}
 use lib.Dec.{eqb}
-use lib.ListN.{length, getD, List·getD-eq-default}
+use lib.ListN.{length}
 use Rattle.words.specs.Kind.{Question, Colon, Dot3}
 use Rattle.words.specs.Class as class
 use Rattle.words.specs.Test.{_and_, _or_, test}
-use Rattle.words.specs.Word.{kind}
-use Rattle.words.specs.Cursor.{left, kindAt, wholeKind, firstByte}
+use Rattle.words.specs.Cursor.{kindAt, wholeKind, firstByte}
 use Rattle.keys.specs.Placed as node
 use Rattle.keys.specs.Placed.{Placed}
 use Rattle.rules.specs.Notes.{note, restAfterLabel, askedAfterLabel, optionalAndRest}
 use Rattle.rules.specs.State as rule
 use Rattle.rules.specs.State.{State, Result, Reader, read, refuse, then, next, stands, first, end, spelling, past, make, reportIf}
 use Rattle.rules.specs.Tuple as tuple
+use Rattle.rules.specs.TokenLaws.{both-true}
 use Rattle.parts.specs.Marks.{view, givenOf, nextMark, pastMark, namedMark, Spelt, Moved, Along}
 use Rattle.parts.specs.Laid.{Spoken}
 use Rattle.parts.specs.Lists.{here}
@@ -26,6 +25,8 @@ use Rattle.parts.specs.Named.{Speaks}
 use Rattle.parts.specs.BuiltLaws.{spoken-none, spoken-from, spoken-to}
 use Rattle.parts.specs.Elements.{LabelIs, labelledAt, colonMark, labelAt, elementStart, labelNames, elementAfter, memberAfter, restAfter}
 use Rattle.parts.specs.TupleLaws.{label-colon}
+use Rattle.parts.specs.StepLaws.{view-past}
+use Rattle.parts.specs.MarkLaws.{kind-inside}
 use Rattle.parts.specs.declared.state.Given.{Given}
 use Rattle.parts.specs.declared.state.Mark.{Mark}
 use Rattle.parts.specs.declared.state.Begin.{Begin}
@@ -61,17 +62,9 @@ module _ (text W : List ℕ) (given : Given) where
       by true false e = absurd (let q : _≡_ {A = ℕ} 0 1 = cc in omega arith)
       by false true e = absurd (let q : _≡_ {A = ℕ} 0 1 = cc in omega arith)
 
-  -- Past a mark, in the rules' words.
-  pub view-past : (k : ℕ) (m : Mark) (O : List ℕ) → view (pastMark W k m) O ≡ past g k (view m O)
-  view-past k m O = by (here W k m)
-    where
-      by : (b : Bool) → view (test b (λ _. nextMark m) (λ _. m)) O ≡ test b (λ _. next (view m O)) (λ _. view m O)
-      by true = refl
-      by false = refl
-
   -- Where a label's type begins.
   view-type : (p : Mark) (O : List ℕ) → view (pastMark W Dot3 (colonMark W p)) O ≡ past g Dot3 (next (past g Question (next (view p O))))
-  view-type p O = view-past Dot3 (colonMark W p) O ∙ ap (λ (s : State). past g Dot3 (next s)) (view-past Question (namedMark p) O)
+  view-type p O = view-past text W given Dot3 (colonMark W p) O ∙ ap (λ (s : State). past g Dot3 (next s)) (view-past text W given Question (namedMark p) O)
 
 -- Past a mark nothing is used, named or noted.
 past-still : (W : List ℕ) (k : ℕ) (m : Mark) → (pastMark W k m .used ≡ m .used) × (pastMark W k m .named ≡ m .named) × (pastMark W k m .noted ≡ m .noted)
@@ -163,29 +156,9 @@ label-none W m q b rest e n r =
 
 -- ---- Within the list
 
--- Past the list no test holds that the end does not pass.
-pub kind-inside : (f : ℕ → Bool) → f 0 ≡ false → (W : List ℕ) (i h : ℕ) → f (kindAt W i h) ≡ true → i < length W
-kind-inside f z W i h e = by (decLt i (length W))
-  where
-    nothing : (h : ℕ) → left h 0 ≡ 0
-    nothing zero = refl
-    nothing (suc k) = refl
-
-    by : Dec (i < length W) → i < length W
-    by (yes p) = p
-    by (no p) =
-        let w : getD W i 0 ≡ 0 = List·getD-eq-default W 0 (omega arith) in
-        let k : kindAt W i h ≡ 0 = ap (λ (x : ℕ). left h (kind x)) w ∙ nothing h in
-        let no : false ≡ true = sym z ∙ ap f (sym k) ∙ e in
-        absurd (let q : _≡_ {A = ℕ} 0 1 = cc in omega arith)
-
 -- A label and its colon are tokens of the list.
 pub label-inside : (W : List ℕ) (m : Mark) → labelledAt W m ≡ true → m .at < length W
-label-inside W m e = kind-inside class.name refl W (m .at) (m .half) (front (class.name (kindAt W (m .at) (m .half))) _ e)
-  where
-    front : (a b : Bool) → (a and b) ≡ true → a ≡ true
-    front true b h = refl
-    front false b h = h
+label-inside W m e = kind-inside class.name W (m .at) (m .half) refl (both-true (class.name (kindAt W (m .at) (m .half))) _ e .0)
 
 pub colon-inside : (W : List ℕ) (m : Mark) → labelledAt W m ≡ true → pastMark W Question (namedMark m) .at < length W
 colon-inside W m e =
@@ -193,7 +166,7 @@ colon-inside W m e =
     let s : State = past g Question (next (view m [])) in
     let c : stands g Colon s ≡ true = label-colon g (view m []) e in
     let same : pastMark W Question (namedMark m) .at ≡ s .at = by (here W Question (namedMark m)) in
-    let inside : s .at < length W = kind-inside (λ k. eqb k Colon) refl W (s .at) (s .half) c in
+    let inside : s .at < length W = kind-inside (λ k. eqb k Colon) W (s .at) (s .half) refl c in
     omega arith
   where
     by : (b : Bool) → test b (λ _. nextMark (namedMark m)) (λ _. namedMark m) .at ≡ test b (λ _. next (next (view m []))) (λ _. next (view m [])) .at

@@ -1,6 +1,6 @@
 -- What the lent slices hold of what was read: nodes, names and diagnostics beyond what stood there.
 use mathlib.Core.Path.{_≡_}
-use mathlib.Core.Bool.{Bool, true, false, not}
+use mathlib.Core.Bool.{Bool, not}
 use mathlib.Core.List.{List, [], _∷_, _++_}
 use Prim.Native.Nat.{ℕ, zero, suc, _+_, _%_, _^_, _≤_, _<_, max}
 use lib.Dec.{T, eqb, ltb}

@@ -1,25 +1,20 @@
 -- How the lent slices grow: by a name, a child, a finished node, a diagnostic; and what stands when a part is given back.
-use mathlib.Core.Path.{_≡_, refl, sym, ap, ap₂, _∙_, subst}
-use mathlib.Core.Bool.{Bool, true, false}
+use mathlib.Core.Path.{_≡_, refl, sym, ap, ap₂, _∙_}
 use mathlib.Core.List.{List, [], _∷_, _++_, append-assoc, append-nil}
-use Prim.Native.Nat.{ℕ, zero, suc, _+_, _-_, _*_, _^_, _≤_, _<_, max}
+use Prim.Native.Nat.{ℕ, zero, suc, _+_, _*_, _≤_, _<_}
 use native.Mathlib.Nat.{add-zero}
 use native.Mathlib.Omega.{arith}
 use native.Mathlib.Decide.{decLt}
-use lib.ListN.{length, take, set, getD, replicate, length-append, length-replicate}
-use lib.Seq.{take-set-lt, set-at, length-take-le, take-take, take-at, take-all, take-append-le, take-append-seam, getD-set-same, getD-set-other}
-use Rattle.keys.specs.Form.{child}
-use Rattle.keys.specs.Key.{nodeTable}
-use Rattle.keys.specs.Placed.{Placed, tree, Spelling, Opt, absent, present}
-use Rattle.keys.specs.Store.{Run, done, chose, name, kid, plant, under, called, packed, firstKid, records, nameOf, namesIn}
-use Rattle.keys.specs.StoreLaws.{_⊕_, join-done, join-join, under-join, called-join, firstKid-join, records-join, namesIn-join, length-records, length-namesIn}
+use lib.ListN.{length, take, set, getD, length-append}
+use lib.Seq.{length-take-le, take-take, take-at, take-all, take-append-le, take-append-seam, getD-set-same, getD-set-other}
+use Rattle.keys.specs.Placed.{Spelling}
+use Rattle.keys.specs.Store.{Run, done, name, under, called, firstKid, records, nameOf, namesIn}
+use Rattle.keys.specs.StoreLaws.{_⊕_, under-join, called-join, records-join, namesIn-join}
 use Rattle.keys.specs.Words.{firstNodes, firstNames}
 use Rattle.rules.specs.Notes.{Note, note}
 use Rattle.parts.specs.Marks.{notesOf}
-use Rattle.parts.specs.Laid.{heights, skeleton, runIn, runOpt, runs, nameRun, namesRun, IsNode, node, IsOpt, Was, wasAt, was, Laid, Built, Stands, Spoken, Shape}
-use Rattle.parts.specs.RunLaws.{skeleton-join, under-skeleton, called-skeleton, heights-skeleton, firstKid-skeleton, records-skeleton, namesIn-skeleton, heights-join, names-join, under-names, called-names, heights-names, first-names, records-names, no-nodes, some-nodes, node-high}
-use Rattle.parts.specs.declared.state.Mark.{Mark}
-use Rattle.parts.specs.declared.state.Kids.{Kids}
+use Rattle.parts.specs.Laid.{skeleton, namesRun, Was, wasAt, Laid}
+use Rattle.parts.specs.RunLaws.{under-skeleton, called-skeleton, records-skeleton, namesIn-skeleton, under-names, records-names}
 
 -- ---- The first words of each slice
 

@@ -1,17 +1,17 @@
--- Nodes with no child or one, once they are put: what the answer says, and how far it reaches.
+-- Nodes with no child or one, once they are put: their numbers, and what the answer says.
 use mathlib.Core.Path.{_≡_, refl, sym, ap, subst}
 use mathlib.Core.List.{List, [], _∷_}
-use Prim.Native.Nat.{ℕ, _+_, _-_, _*_, _≤_, _<_}
+use Prim.Native.Nat.{ℕ, _-_, _≤_, _<_}
 use native.Mathlib.Omega.{arith}
 use Rattle.words.specs.Limits.{tallest}
 use Rattle.words.specs.Cursor.{firstByte}
 use Rattle.keys.specs.Placed.{Placed, tree, Spelling}
 use Rattle.keys.specs.Store.{done}
 use Rattle.rules.specs.State.{Result, make, first, end, next, spelling}
-use Rattle.parts.specs.Marks.{view, givenOf, nextMark, namedMark, Spelt, Fine, Reached, Under}
+use Rattle.parts.specs.Marks.{view, givenOf, nextMark, namedMark, Spelt, Fine, Under}
 use Rattle.parts.specs.Laid.{runIn, nameRun, Was, was, Stands, Shape}
 use Rattle.parts.specs.Says.{Says, SaysNames}
-use Rattle.parts.specs.Nodes.{Put, Makes}
+use Rattle.parts.specs.Nodes.{Makes}
 use Rattle.parts.specs.Named.{Speaks}
 use Rattle.parts.specs.BuiltLaws.{built-none, built-names, built-one, laid-spoken, spoken-from}
 use Rattle.parts.specs.Answers.{says-same}
@@ -40,37 +40,6 @@ under-none used = record { first = omega arith; count = omega arith; some = omeg
 
 pub under-one : (used high : ℕ) → 1 ≤ used → high ≤ tallest → Under used (oneKid used high)
 under-one used high h l = record { first = omega arith; count = omega arith; some = omega arith; low = l }
-
--- A node that was put at q, or a refusal.
-pub reached-put : {len place : ℕ} {g : Given} {q : Mark} {a : Answer} (p : Mark) → q ≡ p → Fine len g p → place ≤ p .at * 2 + p .half → Put g q a
-    → Reached len g place (p .used + 1) (a .high) (a .why) (a .m)
-reached-put {len} {place} {g} {q} {a} p e f h w = go (subst (λ (x : Mark). Put g x a) e w)
-  where
-    go : Put g p a → Reached len g place (p .used + 1) (a .high) (a .why) (a .m)
-    go w =
-        record {
-          past = omega (arith, w .at-is, w .half-is);
-          more = omega (arith, w .more);
-          low = w .low;
-          fine =
-              record {
-                inside = omega (arith, w .at-is, w .half-is, f .inside);
-                half = omega (arith, w .half-is, f .half);
-                roomy = w .roomy;
-                few = omega (arith, w .named-is, w .at-is, f .few);
-                recorded = omega (arith, w .noted-is, f .recorded);
-              };
-        }
-
--- A refusal at a mark.
-pub reached-stop : {len place used : ℕ} {g : Given} {m : Mark} {a : Answer} (why : ℕ) → a ≡ record { why = why; high = 0; m = m } → Fine len g m
-    → place ≤ m .at * 2 + m .half + why → used ≤ m .used + why → Reached len g place used (a .high) (a .why) (a .m)
-reached-stop {len} {place} {used} {g} {m} {a} why e f h u =
-    subst (λ (x : Answer). Reached len g place used (x .high) (x .why) (x .m)) (sym e) (record { past = h; more = u; low = omega arith; fine = f })
-
--- A place before, and fewer nodes, may be asked for.
-pub reached-less : {len place on used more high why : ℕ} {g : Given} {q : Mark} → place ≤ on → used ≤ more → Reached len g on more high why q → Reached len g place used high why q
-reached-less a b r = record { past = omega (arith, r .past); more = omega (arith, r .more); low = r .low; fine = r .fine }
 
 -- ---- Nodes
 

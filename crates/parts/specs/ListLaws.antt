@@ -14,7 +14,7 @@ use Rattle.keys.specs.Placed.{Placed, present}
 use Rattle.rules.specs.Refusal.{unexpected}
 use Rattle.rules.specs.State as rule
 use Rattle.rules.specs.Notes.{note}
-use Rattle.rules.specs.State.{State, Result, read, refuse, next, stands, then, expect, end, reportIf}
+use Rattle.rules.specs.State.{State, Result, read, refuse, next, stands, expect, reportIf}
 use Rattle.rules.specs.List.{listFrom, noEntry}
 use Rattle.parts.specs.Marks.{view, givenOf, nextMark, Under}
 use Rattle.parts.specs.Reported.{Reports, Noted}

@@ -16,7 +16,7 @@ use Rattle.rules.specs.Names.{bindingWord}
 use Rattle.rules.specs.Mapped.{modifier, mapped}
 use Rattle.parts.specs.Marks.{view, givenOf, nextMark, pastMark}
 use Rattle.parts.specs.Lists.{here}
-use Rattle.parts.specs.StepLaws.{view-past, expect-taken, expect-refused}
+use Rattle.parts.specs.StepLaws.{view-past}
 use Rattle.parts.specs.Laid.{heights, runIn, runOpt, nameRun, IsNode, node as isNode, IsOpt, Shape}
 use Rattle.parts.specs.Nodes.{optBit}
 use Rattle.parts.specs.RunLaws.{node-high}
@@ -24,6 +24,7 @@ use Rattle.parts.specs.ShapeLaws.{some-bit}
 use Rattle.parts.specs.Named.{oneName}
 use Rattle.parts.specs.Mapping.{mappedHead, mappedMiddle, mappedChoices, closeCurly}
 use Rattle.parts.specs.Onward.{behindConstraint}
+use Rattle.parts.specs.RingLaws.{expect-yes, expect-no}
 use Rattle.parts.specs.declared.state.Given.{Given as Code}
 use Rattle.parts.specs.declared.state.Mark.{Mark}
 
@@ -134,10 +135,10 @@ module _ (text W : List ℕ) (given : Code) (m p : Mark) (O : List ℕ) (on : St
   at-end = ap (λ (s : State). expect (givenOf text W given) RCurly s on) (sym (ap (λ (q : Mark). view q O) e ∙ view-past text W given Semicolon m O))
 
   pub curly-refused : here W RCurly p ≡ false → closeCurly (givenOf text W given) (view m O) on ≡ refuse unexpected (p .at) (p .half)
-  curly-refused h = at-end ∙ expect-refused (givenOf text W given) RCurly (view p O) on h
+  curly-refused h = at-end ∙ expect-no (givenOf text W given) RCurly (view p O) on h
 
   pub curly-taken : (q : Mark) → q ≡ nextMark p → here W RCurly p ≡ true → closeCurly (givenOf text W given) (view m O) on ≡ on (view q O)
-  curly-taken q i h = at-end ∙ expect-taken (givenOf text W given) RCurly (view p O) on h ∙ ap (λ (x : Mark). on (view x O)) (sym i)
+  curly-taken q i h = at-end ∙ expect-yes (givenOf text W given) RCurly (view p O) on h ∙ ap (λ (x : Mark). on (view x O)) (sym i)
 
 -- ---- The node
 

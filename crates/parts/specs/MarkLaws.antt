@@ -1,19 +1,25 @@
--- How large what stands at a cursor is: its kind, its class, its bytes.
-use mathlib.Core.Path.{_≡_, refl, sym, _∙_}
+-- Marks and numbers: how large what stands at a cursor is, the steps of a mark, how far an answer reaches; and tests of kinds.
+use mathlib.Core.Path.{_≡_, refl, sym, ap, _∙_, subst}
 use mathlib.Core.Bool.{Bool, true, false}
 use mathlib.Core.List.{List}
 use Prim.Native.Nat.{ℕ, zero, suc, _+_, _≤_, _<_}
 use native.Mathlib.Omega.{arith}
+use native.Mathlib.Decide.{decLt}
 use lib.Dec.{eqb}
+use lib.ListN.{length, getD, List·getD-eq-default}
 use borrow.Author.Tests.{eq-eqb, ne-eqb}
 use Rattle.words.specs.Limits.{mostText}
-use Rattle.words.specs.Test.{test}
+use Rattle.words.specs.Test.{_or_, test}
 use Rattle.words.specs.Kind.{Eof, LAngle, ShiftLeft, LtEq, ShiftLeftEq, Eq}
 use Rattle.words.specs.Class.{inClass}
 use Rattle.words.specs.Word.{kind, start}
-use Rattle.words.specs.Cursor.{wordAt, wholeKind, secondHalf, kindAt, takenEnd, endByte}
-use Rattle.parts.specs.Marks.{Sound, Inside, Moved, Along, nextMark, namedMark, pastMark}
+use Rattle.words.specs.Cursor.{wordAt, wholeKind, secondHalf, left, kindAt, takenEnd, endByte}
+use Rattle.parts.specs.Marks.{Sound, Inside, Fine, Reached, placeOf, Moved, Along, nextMark, namedMark, pastMark}
+use Rattle.parts.specs.Reported.{refusedAt, Noted}
+use Rattle.parts.specs.Nodes.{Put}
+use Rattle.parts.specs.declared.state.Given.{Given}
 use Rattle.parts.specs.declared.state.Mark.{Mark}
+use Rattle.parts.specs.declared.state.Answer.{Answer}
 
 half-small : (k : ℕ) → secondHalf k < 256
 half-small k = first (eqb k ShiftLeft)
@@ -145,6 +151,55 @@ past-here W k m e = rw e
 
 pub past-none : (W : List ℕ) (k : ℕ) (m : Mark) → eqb (kindAt W (m .at) (m .half)) k ≡ false → pastMark W k m ≡ m
 past-none W k m e = rw e
+
+-- ---- Marks that are fine, and how far an answer reaches
+
+-- A mark that is fine stays so with a diagnostic more, and with a node more.
+pub fine-noted : {len : ℕ} {given : Given} {m : Mark} {a : Answer} → Fine len given m → Noted given m a → Fine len given (a .m)
+fine-noted f n = record { inside = omega arith; half = omega arith; roomy = omega arith; few = omega arith; recorded = n .recorded }
+
+pub fine-put : {len : ℕ} {given : Given} {m : Mark} {a : Answer} → Fine len given m → Put given m a → Fine len given (a .m)
+fine-put f p = record { inside = omega arith; half = omega arith; roomy = p .roomy; few = omega arith; recorded = omega arith }
+
+-- A node that was put at q, or a refusal.
+pub reached-put : {len place used : ℕ} {given : Given} {q : Mark} {a : Answer} (p : Mark) → q ≡ p → Fine len given p → place ≤ placeOf p → used ≤ p .used + 1 → Put given q a
+    → Reached len given place used (a .high) (a .why) (a .m)
+reached-put {len} {place} {used} {given} {q} {a} p e f h u w = at-p (subst (λ (x : Mark). Put given x a) e w)
+  where
+    at-p : Put given p a → Reached len given place used (a .high) (a .why) (a .m)
+    at-p w = record { past = omega (arith, w .at-is, w .half-is); more = omega (arith, w .more); low = w .low; fine = fine-put f w }
+
+-- A refusal at a mark.
+pub reached-refused : {len place used : ℕ} {given : Given} {m : Mark} {a : Answer} (why : ℕ) → a ≡ refusedAt why m → Fine len given m
+    → place ≤ placeOf m + why → used ≤ m .used + why → Reached len given place used (a .high) (a .why) (a .m)
+reached-refused {len} {place} {used} {given} {m} {a} why e f h u =
+    subst (λ (x : Answer). Reached len given place used (x .high) (x .why) (x .m)) (sym e) (record { past = h; more = u; low = omega arith; fine = f })
+
+-- A place before, and fewer nodes, may be asked for.
+pub reached-less : {len place on used more high why : ℕ} {given : Given} {q : Mark} → place ≤ on → used ≤ more → Reached len given on more high why q → Reached len given place used high why q
+reached-less a b r = record { past = omega (arith, r .past); more = omega (arith, r .more); low = r .low; fine = r .fine }
+
+-- ---- Tests
+
+pub or-false : (b : Bool) → b ≡ (b or false)
+or-false true = refl
+or-false false = refl
+
+-- A test that the end of the list does not pass holds inside the list only.
+pub kind-inside : (f : ℕ → Bool) (W : List ℕ) (at half : ℕ) → f 0 ≡ false → f (kindAt W at half) ≡ true → at < length W
+kind-inside f W at half z e = by (decLt at (length W))
+  where
+    nothing : (h : ℕ) → left h 0 ≡ 0
+    nothing zero = refl
+    nothing (suc k) = refl
+
+    by : Dec (at < length W) → at < length W
+    by (yes p) = p
+    by (no p) =
+        let w : getD W at 0 ≡ 0 = List·getD-eq-default W 0 (omega arith) in
+        let k : kindAt W at half ≡ 0 = ap (λ (x : ℕ). left half (kind x)) w ∙ nothing half in
+        let no : false ≡ true = sym z ∙ ap f (sym k) ∙ e in
+        absurd (let q : _≡_ {A = ℕ} 0 1 = cc in omega arith)
 
 -- What the code found of a kind, as the rules test it.
 pub is-here : (W : List ℕ) (m : Mark) {r k : ℕ} → r ≡ kindAt W (m .at) (m .half) → r ≡ k → eqb (kindAt W (m .at) (m .half)) k ≡ true

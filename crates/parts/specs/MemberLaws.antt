@@ -24,7 +24,7 @@ use Rattle.parts.specs.Marks.{view, givenOf, Spelt, Fine, Reached, place
 use Rattle.parts.specs.Laid.{heights, runIn, namesRun, IsNode, Was, was, Laid, Stands}
 use Rattle.parts.specs.Says.{Says}
 use Rattle.parts.specs.Reported.{Reports, silent, noted, full, Noted}
-use Rattle.parts.specs.Nodes.{Put, Makes}
+use Rattle.parts.specs.Nodes.{Makes}
 use Rattle.parts.specs.LaidLaws.{laid-noted, laid-on, notes-before}
 use Rattle.parts.specs.BuiltLaws.{built-one, laid-spoken}
 use Rattle.parts.specs.Answers.{then-read, then-refused, says-read, says-same, says-stop, says-stops}
@@ -33,6 +33,7 @@ use Rattle.parts.specs.Elements.{LabelIs, labelNames, elementAfter, memb
 use Rattle.parts.specs.TupleLaws.{element-is}
 use Rattle.parts.specs.LabelLaws.{HeadSays}
 use Rattle.parts.specs.ElementLaws.{element-node, element-high, element-tag, element-place, element-optional, rest-shape, rest-member, member-shape}
+use Rattle.parts.specs.MarkLaws.{fine-noted, or-false}
 use Rattle.parts.specs.declared.state.Given.{Given}
 use Rattle.parts.specs.declared.state.Mark.{Mark}
 use Rattle.parts.specs.declared.state.Begin.{Begin}
@@ -207,10 +208,6 @@ or-true : (a : Bool) → (a or true) ≡ true
 or-true true = refl
 or-true false = refl
 
-or-false : (a : Bool) → (a or false) ≡ a
-or-false true = refl
-or-false false = refl
-
 and-true : (a : Bool) → (a and true and true) ≡ a
 and-true true = refl
 and-true false = refl
@@ -241,7 +238,7 @@ module _ (given : Given) (seen : Bool) (m : Mark) (N O : List ℕ) (h : m .used 
             let o : tuple.isOptionalElement e ≡ false = sym (element-optional h some s) ∙ n in
             let r : node.isRest e ≡ true = eq-eqb (node.tagOf e) 21 (sym (element-tag h some s) ∙ y) in (
               ap (λ (b : Bool). reports text W b e) (quiet seen (tuple.isOptionalElement e) (node.isRest e) (ap (λ (b : Bool). tuple.isOptionalElement e or b) r ∙ or-true (tuple.isOptionalElement e))),
-              sym (ap (λ (b : Bool). seen or b) o ∙ or-false seen),
+              sym (ap (λ (b : Bool). seen or b) o ∙ sym (or-false seen)),
               s,
             );
         refused = λ n. absurd (n refl);
@@ -254,7 +251,7 @@ module _ (given : Given) (seen : Bool) (m : Mark) (N O : List ℕ) (h : m .used 
   checks-other first end a O' n k f l w =
       record {
         done = λ z text W B e high M s.
-            (opened text W s ∙ reports-done text W (read e) w z, sym (ap (λ (b : Bool). seen or b) (sym (element-optional h some s) ∙ n) ∙ or-false seen), stands-reported w s);
+            (opened text W s ∙ reports-done text W (read e) w z, sym (ap (λ (b : Bool). seen or b) (sym (element-optional h some s) ∙ n) ∙ sym (or-false seen)), stands-reported w s);
         refused = λ z text W B e high M s. opened text W s ∙ reports-refused text W (read e) w z;
       }
     where
@@ -269,28 +266,9 @@ module _ (given : Given) (seen : Bool) (m : Mark) (N O : List ℕ) (h : m .used 
 
 -- ---- Numbers
 
--- A diagnostic's answer has no height.
-pub reports-high : {holds : Bool} {given : Given} {n : Note} {m : Mark} {O : List ℕ} {a : Answer} {O' : List ℕ} → Reports holds given n m O a O' → a .high ≡ 0
-reports-high (silent h e o) = ap (λ (x : Answer). x .high) e
-reports-high (noted h f e o) = ap (λ (x : Answer). x .high) e
-reports-high (full h f e o) = ap (λ (x : Answer). x .high) e
-
-pub fine-noted : {len : ℕ} {given : Given} {m : Mark} {a : Answer} → Fine len given m → Noted given m a → Fine len given (a .m)
-fine-noted f n = record { inside = omega arith; half = omega arith; roomy = omega arith; few = omega arith; recorded = n .recorded }
-
-pub fine-put : {len : ℕ} {given : Given} {m : Mark} {a : Answer} → Fine len given m → Put given m a → Fine len given (a .m)
-fine-put f p = record { inside = omega arith; half = omega arith; roomy = p .roomy; few = omega arith; recorded = omega arith }
-
-pub reached-put : {len : ℕ} {given : Given} {m : Mark} {a : Answer} → Fine len given m → Put given m a → Reached len given (placeOf m) (m .used) (a .high) (a .why) (a .m)
-reached-put f p = record { past = omega arith; more = omega arith; low = p .low; fine = fine-put f p }
-
+-- The answer of a report reaches the mark.
 pub reached-noted : {len : ℕ} {given : Given} {m : Mark} {a : Answer} → Fine len given m → Noted given m a → a .high ≡ 0 → Reached len given (placeOf m) (m .used) (a .high) (a .why) (a .m)
 reached-noted f n h = record { past = omega arith; more = omega arith; low = omega arith; fine = fine-noted f n }
-
--- The same from a mark at the same place with fewer nodes.
-pub reached-from : (m q : Mark) {len : ℕ} {given : Given} {r : Mark} {high why : ℕ} → q .at ≡ m .at → q .half ≡ m .half → m .used ≤ q .used
-    → Reached len given (placeOf q) (q .used) high why r → Reached len given (placeOf m) (m .used) high why r
-reached-from m q a b c w = record { past = omega arith; more = omega arith; low = w .low; fine = w .fine }
 
 -- ---- An element from its start on
 

@@ -10,7 +10,7 @@ use Rattle.words.specs.Cursor.{wordAt}
 use Rattle.keys.specs.Placed.{Spelling}
 use Rattle.rules.specs.Refusal.{unexpected}
 use Rattle.rules.specs.State.{Given, State, Result, read, refuse, refused, next, kind, spelling}
-use Rattle.parts.specs.Marks.{view, givenOf, Spelt, namedMark}
+use Rattle.parts.specs.Marks.{view, Spelt, namedMark}
 use Rattle.parts.specs.Laid.{Spoken}
 use Rattle.parts.specs.declared.state.Mark.{Mark}
 

@@ -2,17 +2,17 @@
 use mathlib.Core.Path.{_≡_}
 use mathlib.Core.Bool.{Bool, true, false}
 use mathlib.Core.List.{List, [], _∷_}
-use Prim.Native.Nat.{ℕ, _+_, _-_, _*_, _≤_, _<_}
+use Prim.Native.Nat.{ℕ, _+_, _*_, _≤_, _<_}
 use lib.ListN.{length}
 use Rattle.words.specs.Kind.{LParen, RParen, Str, Comma, Import, Typeof}
-use Rattle.words.specs.Test.{_and_, _or_, test}
+use Rattle.words.specs.Test.{test}
 use Rattle.keys.specs.Bits.{unit}
 use Rattle.keys.specs.Placed as node
 use Rattle.keys.specs.Placed.{Placed, Spelling, Opt}
 use Rattle.keys.specs.StoreLaws.{_⊕_}
 use Rattle.rules.specs.Refusal.{unsupported}
 use Rattle.rules.specs.State as rule
-use Rattle.rules.specs.State.{State, Result, read, refused, then, next, stands, first, end, spelling, expect, make, turns}
+use Rattle.rules.specs.State.{State, Result, read, refused, then, next, stands, end, spelling, expect, make, turns}
 use Rattle.rules.specs.List.{count}
 use Rattle.rules.specs.Names as names
 use Rattle.parts.specs.Marks.{view, givenOf}

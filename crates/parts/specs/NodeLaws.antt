@@ -1,7 +1,7 @@
 -- What the rules' making of a node comes to, by its lists, its height and the room.
 use mathlib.Core.Path.{_≡_, refl, sym, ap, ap₂, _∙_, subst}
 use mathlib.Core.List.{List, [], _∷_, _++_}
-use Prim.Native.Nat.{ℕ, zero, suc, _+_, _-_, _*_, _^_, _≤_, _<_, max}
+use Prim.Native.Nat.{ℕ, suc, _+_, _-_, _*_, _^_, _≤_, _<_, max}
 use native.Mathlib.Omega.{arith}
 use lib.ListN.{length, set}
 use borrow.Author.Tests.{lt-ltb, le-ltb, le-leb, lt-leb}
@@ -15,7 +15,7 @@ use Rattle.rules.specs.Refusal.{tooLong}
 use Rattle.rules.specs.State.{Given, State, read, refuse, make, end}
 use Rattle.keys.specs.StoreLaws.{join-done}
 use Rattle.parts.specs.Laid.{heights, Was, Laid, Built, Shape}
-use Rattle.parts.specs.Nodes.{Put, Makes, MakesList, Links, LinksOpt, optBit}
+use Rattle.parts.specs.Nodes.{Put, Makes, MakesList, Links, LinksOpt}
 use Rattle.parts.specs.Reported.{refusedAt}
 use Rattle.keys.specs.Words.{firstNodes}
 use Rattle.words.specs.Cursor.{endByte}
@@ -121,10 +121,6 @@ module _ (k : Kids) (before used high : ℕ) (N : List ℕ) where
       rw (w, a) (built-next b high (k .count + 1) i h e (let p : 0 < k .high = omega arith in p) (omega arith) s)
 
 -- ---- An optional child
-
-pub opt-some : (high : ℕ) → (high ≡ 0 → ⊥) → 1 ≡ optBit high
-opt-some zero h = absurd (h refl)
-opt-some (suc high) h = refl
 
 -- None was read: the children are as they were.
 pub links-none : {k : Kids} {before used high : ℕ} {N : List ℕ} → high ≡ 0 → used * 4 ≤ length N → LinksOpt k before used high N k N

@@ -8,14 +8,14 @@ use native.Mathlib.Omega.{arith}
 use borrow.Author.Tests.{eq-eqb, ne-eqb}
 use lib.Dec.{eqb}
 use lib.ListN.{length}
-use Rattle.words.specs.Test.{_or_, test, among}
+use Rattle.words.specs.Test.{test, among}
 use Rattle.words.specs.Kind.{KeyOf, Unique, Readonly, Eof, LAngle, Eq, LtEq, ShiftLeft, ShiftLeftEq}
 use Rattle.words.specs.Word.{start}
-use Rattle.words.specs.Cursor.{wordAt, wholeKind, secondHalf, left, kindAt, firstByte}
+use Rattle.words.specs.Cursor.{wordAt, wholeKind, secondHalf, kindAt, firstByte}
 use Rattle.keys.specs.BitsLaws.{clash}
 use Rattle.keys.specs.Placed as node
-use Rattle.keys.specs.Placed.{Placed, tree, join, number}
-use Rattle.rules.specs.State.{Given, State, Result, Reader, read, refuse, then, next, kind, first, end, make}
+use Rattle.keys.specs.Placed.{Placed, join, number}
+use Rattle.rules.specs.State.{Given, State, Result, Reader, read, refuse, then, next, kind, end, make}
 use Rattle.rules.specs.List.{position}
 use Rattle.rules.specs.Operator.{operators, operand, operatorFrom, operator}
 use Rattle.parts.specs.Marks.{view, givenOf}
@@ -25,6 +25,7 @@ use Rattle.parts.specs.Nodes.{Makes}
 use Rattle.parts.specs.Answers.{says-read, says-same, says-stop}
 use Rattle.parts.specs.BuiltLaws.{built-one}
 use Rattle.parts.specs.Operators.{operatorAbout, operatorsAbout}
+use Rattle.parts.specs.MarkLaws.{or-false}
 use Rattle.parts.specs.declared.state.Given.{Given as Code}
 use Rattle.parts.specs.declared.state.Mark.{Mark}
 use Rattle.parts.specs.declared.state.Begin.{Begin}
@@ -43,7 +44,7 @@ unfolding operatorsAbout
 operators-none g i x = refl
 
 -- A refusal stands under any prefixes.
-operators-refused : (g : Given) (i n a b c : ℕ) → operatorsAbout g i n (refuse a b c) ≡ refuse a b c
+pub operators-refused : (g : Given) (i n a b c : ℕ) → operatorsAbout g i n (refuse a b c) ≡ refuse a b c
 unfolding operatorsAbout
 operators-refused g i zero a b c = refl
 operators-refused g i (suc n) a b c = ap (operatorAbout g i) (operators-refused g (i + 1) n a b c)
@@ -79,10 +80,6 @@ module _ (k : ℕ) (a : k ≡ KeyOf → ⊥) where
   module _ (b : k ≡ Unique → ⊥) where
     pub is-readonly : eqb k Readonly ≡ among operators k
     is-readonly = rw (ne-eqb k KeyOf a, ne-eqb k Unique b) (or-false (eqb k Readonly))
-      where
-        or-false : (x : Bool) → x ≡ (x or false)
-        or-false true = refl
-        or-false false = refl
 
     pub number-readonly : k ≡ Readonly → 2 ≡ position k operators
     number-readonly e = rw (ne-eqb KeyOf k (λ z. a (sym z)), ne-eqb Unique k (λ z. b (sym z)), eq-eqb Readonly k (sym e))

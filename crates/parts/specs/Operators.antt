@@ -1,9 +1,8 @@
 -- Chains of prefixes about what was read.
 use mathlib.Core.Path.{_≡_}
 use mathlib.Core.List.{[]}
-use Prim.Native.Nat.{ℕ, zero, suc, _+_, _-_, _≤_}
+use Prim.Native.Nat.{ℕ, zero, suc, _+_, _≤_}
 use Rattle.words.specs.Limits.{tallest}
-use Rattle.words.specs.Test.{_or_}
 use Rattle.words.specs.Cursor.{wholeKind, firstByte}
 use Rattle.keys.specs.Placed as node
 use Rattle.keys.specs.Placed.{Placed}

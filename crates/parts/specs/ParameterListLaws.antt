@@ -13,11 +13,10 @@ use Rattle.rules.specs.State as rule
 use Rattle.rules.specs.State.{State, Result, Reader, read, refuse, next, stands, optional, turns}
 use Rattle.rules.specs.Function.{ThisParameter, parametersOf, modified, freed, separated, parameter, parametersFrom, thisFirst, parameters}
 use Rattle.parts.specs.Marks.{view, nextMark}
-use Rattle.parts.specs.Lists.{here, Separates, default, closes, behindRest, goes, stops}
+use Rattle.parts.specs.Lists.{Separates, default, closes, behindRest, goes, stops}
 use Rattle.parts.specs.Functions.{Opens, plain, freedMark}
 use Rattle.parts.specs.Functions as opens
 use Rattle.parts.specs.Answers.{then-read, then-refused}
-use Rattle.parts.specs.declared.state.Given.{Given}
 use Rattle.parts.specs.declared.state.Mark.{Mark}
 use Rattle.parts.specs.declared.state.Head.{Head}
 use Rattle.parts.specs.declared.state.Answer.{Answer}

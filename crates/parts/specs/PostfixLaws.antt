@@ -4,9 +4,9 @@ use mathlib.Core.Bool.{Bool, true, false}
 use mathlib.Core.List.{[]}
 use Prim.Native.Nat.{ℕ, suc, _+_}
 use native.Mathlib.Omega.{arith}
-use Rattle.words.specs.Test.{_and_, _or_, test}
+use Rattle.words.specs.Test.{_and_, test}
 use Rattle.words.specs.Ahead.{starter}
-use Rattle.words.specs.Kind.{RBrack, Bang, Question, Extends}
+use Rattle.words.specs.Kind.{Bang, Question, Extends}
 use Rattle.keys.specs.Placed as node
 use Rattle.keys.specs.Placed.{Placed, Spelling, spell, join, maybe, absent, present}
 use Rattle.keys.specs.Store.{done}
@@ -49,10 +49,6 @@ module _ (g : Given) (T : Reader) (b : ℕ) (t : Placed) (s : State) where
   pub postfix-end : (n : ℕ) → rule.suffixed g s ≡ false → rule.postfixFrom g T b (suc n) t s ≡ read t s
   unfolding rule.postfixFrom
   postfix-end n e = rw e
-
--- Past the `]` that is due.
-pub square-close : (g : Given) (s : State) (on : State → Result Placed) → stands g RBrack s ≡ true → closeSquare g s on ≡ on (next s)
-square-close g s on e = rw e
 
 -- ---- Infer
 

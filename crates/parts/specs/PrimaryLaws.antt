@@ -2,21 +2,19 @@
 use mathlib.Core.Path.{_≡_, refl, sym, ap, _∙_, subst}
 use mathlib.Core.Bool.{Bool, true, false, not}
 use mathlib.Core.List.{List, [], _∷_}
-use Prim.Native.Nat.{ℕ, zero, suc, _+_, _*_, _≤_, _<_}
+use Prim.Native.Nat.{ℕ, _+_, _*_, _≤_, _<_}
 use native.Mathlib.Omega.{arith}
-use native.Mathlib.Decide.{decLt}
 use lib.ListN.{length}
 use lib.Dec.{eqb}
 use borrow.Author.Tests.{eq-eqb, ne-eqb, eqb-true, lt-leb, le-leb}
-use Rattle.words.specs.Test.{_and_, _or_, test, between, among}
-use Rattle.words.specs.Word as word
-use Rattle.words.specs.Cursor.{wordAt, secondHalf, kindAt}
+use Rattle.words.specs.Test.{_and_, _or_, between, among}
+use Rattle.words.specs.Cursor.{kindAt}
 use Rattle.words.specs.Class as class
 use Rattle.words.specs.Ahead.{mappedStart}
 use Rattle.words.specs.Kind.{Str, NumberLiteral, BigIntLiteral, LCurly, LBrack, LParen, RParen, Dot, Question, Bang, Star, Minus, Any, Unknown, Null, Void, True, False, Asserts, NoSubstitutionTemplate, TemplateHead, Typeof, Import, Is, This}
 use Rattle.keys.specs.Placed as node
 use Rattle.keys.specs.Placed.{Placed, tree, Spelling, spell, number, pick, join, void, literalSpelling, absent, present}
-use Rattle.keys.specs.Store.{done, name}
+use Rattle.keys.specs.Store.{done}
 use Rattle.rules.specs.Refusal.{unexpected, unsupported}
 use Rattle.rules.specs.State.{Given, State, Result, read, Reader, refused, then, next, kind, kindAfter, stands, nextOnLine, first, end, spelling, make}
 use Rattle.rules.specs.List.{position}
@@ -25,6 +23,7 @@ use Rattle.rules.specs.Mapped.{mapped}
 use Rattle.rules.specs.Tuple.{tuple}
 use Rattle.rules.specs.Template.{pieces, template}
 use Rattle.rules.specs.Primary as rule
+use Rattle.rules.specs.TokenLaws.{both-true}
 use Rattle.parts.specs.Laid.{nameRun, runIn, IsNode, node, Shape}
 use Rattle.parts.specs.Primaries.{isLiteral, closeParens, literalChoices}
 use Rattle.parts.specs.Onward.{predicate, nameAt, literalAt, StartAs}
@@ -32,17 +31,19 @@ use Rattle.parts.specs.Marks.{AnyGiven}
 use Rattle.parts.specs.Lists.{here}
 use Rattle.parts.specs.Answers.{then-then}
 use Rattle.parts.specs.ShapeLaws.{packed-node}
+use Rattle.parts.specs.MarkLaws.{or-false, kind-inside}
+use Rattle.parts.specs.RingShapes.{shape-template}
 use Rattle.parts.specs.declared.state.Mark.{Mark}
 use Rattle.parts.specs.declared.primary.Start.{Start}
 
 -- ---- Tests
 
+never : true ≡ false → ⊥
+never z = let i : _≡_ {A = ℕ} 0 1 = cc in omega arith
+
 -- A test that does not hold of a number does not hold of those that it is.
 other-kind : (f : ℕ → Bool) (k n : ℕ) → f n ≡ false → f k ≡ true → eqb k n ≡ false
 other-kind f k n x h = ne-eqb k n (λ e. never (sym h ∙ ap f e ∙ x))
-  where
-    never : true ≡ false → ⊥
-    never z = let i : _≡_ {A = ℕ} 0 1 = cc in omega arith
 
 -- Three tests of which the first holds, the other two turned round.
 turned : (a b c x : Bool) → a ≡ true → (a and b and c) ≡ x → (c and b) ≡ x
@@ -54,36 +55,7 @@ turned a b c x e h = go b c (ap (λ (y : Bool). y and b and c) (sym e) ∙ h)
     go false true h = h
     go false false h = h
 
-and-first : (a b : Bool) → (a and b) ≡ true → a ≡ true
-and-first true b h = refl
-and-first false b h = h
-
-and-second : (a b : Bool) → (a and b) ≡ true → b ≡ true
-and-second true b h = h
-and-second false b h = let z : _≡_ {A = ℕ} 0 1 = cc in absurd (omega arith)
-
 -- ---- Kinds
-
--- Past the list nothing stands.
-no-word : (W : List ℕ) (i : ℕ) → length W ≤ i → wordAt W i ≡ 0
-no-word [] i h = refl
-no-word (w ∷ W) zero h = absurd (omega arith)
-no-word (w ∷ W) (suc i) h = no-word W i (omega arith)
-
-no-kind : (W : List ℕ) (at half : ℕ) → length W ≤ at → kindAt W at half ≡ 0
-no-kind W at zero h = ap word.kind (no-word W at h)
-no-kind W at (suc k) h = ap (λ (w : ℕ). secondHalf (word.kind w)) (no-word W at h)
-
--- A test that an end does not pass holds inside the list only.
-pub kind-inside : (f : ℕ → Bool) (W : List ℕ) (at half : ℕ) → f 0 ≡ false → f (kindAt W at half) ≡ true → at < length W
-kind-inside f W at half z h = go (decLt at (length W))
-  where
-    never : true ≡ false → ⊥
-    never e = let i : _≡_ {A = ℕ} 0 1 = cc in omega arith
-
-    go : Dec (at < length W) → at < length W
-    go (yes p) = p
-    go (no p) = absurd (never (sym h ∙ ap f (no-kind W at half (omega arith)) ∙ z))
 
 -- A kind that was read is a kind of the text, or not.
 pub eq-at : {k h : ℕ} (n : ℕ) → k ≡ h → k ≡ n → eqb h n ≡ true
@@ -91,10 +63,6 @@ eq-at {k} {h} n e z = eq-eqb h n (sym e ∙ z)
 
 pub ne-at : {k h : ℕ} (n : ℕ) → k ≡ h → (k ≡ n → ⊥) → eqb h n ≡ false
 ne-at {k} {h} n e z = ne-eqb h n (λ y. z (e ∙ y))
-
-pub or-false : (b : Bool) → b ≡ (b or false)
-or-false true = refl
-or-false false = refl
 
 -- Of a number and a bigint, the one that is no number.
 pub other-number : {k h : ℕ} → k ≡ h → (k ≡ NumberLiteral → ⊥) → among (NumberLiteral ∷ BigIntLiteral ∷ []) h ≡ true → h ≡ BigIntLiteral
@@ -127,17 +95,14 @@ module _ (g : Given) (s : State) where
   keyword-inside h = kind-inside (λ k. keywordBy k (kindAfter g 1 s)) (g .words) (s .at) (s .half) refl h
 
   pub negative-inside : rule.isNegative g s ≡ true → s .at + 1 < length (g .words)
-  negative-inside h = kind-inside (among (NumberLiteral ∷ BigIntLiteral ∷ [])) (g .words) (s .at + 1) 0 refl (and-second (stands g Minus s) _ h)
+  negative-inside h = kind-inside (among (NumberLiteral ∷ BigIntLiteral ∷ [])) (g .words) (s .at + 1) 0 refl (both-true (stands g Minus s) _ h .1)
 
   pub assertion-inside : rule.isAssertion g s ≡ true → s .at + 1 < length (g .words)
-  assertion-inside h = kind-inside class.name (g .words) (s .at + 1) 0 refl (and-first (class.name (kindAfter g 1 s)) _ (and-second (stands g Asserts s) _ h))
+  assertion-inside h = kind-inside class.name (g .words) (s .at + 1) 0 refl (both-true (class.name (kindAfter g 1 s)) _ (both-true (stands g Asserts s) _ h .1) .0)
 
 -- No sign stands where a test holds that it does not pass.
 pub minus-off : (f : ℕ → Bool) (W : List ℕ) (m : Mark) → f Minus ≡ false → f (kindAt W (m .at) (m .half)) ≡ true → here W Minus m ≡ true → ⊥
 minus-off f W m z h e = never (sym h ∙ ap f (eqb-true (kindAt W (m .at) (m .half)) Minus e) ∙ z)
-  where
-    never : true ≡ false → ⊥
-    never y = let i : _≡_ {A = ℕ} 0 1 = cc in omega arith
 
 -- Tests speak of tokens and a mark alone, so any room will do.
 abbrev pub noGiven : AnyGiven
@@ -213,15 +178,16 @@ module _ (g : Given) (T : Reader) (s : State) where
       this-name : stands g This s ≡ true → class.name (kind g s) ≡ true
       this-name t = ap class.name (eqb-true (kind g s) This t)
 
+  -- A predicate's second word.
+  asked : predicates g s ≡ true → stands g Is (next s) ≡ true
+  asked p = both-true (eqb (kindAfter g 1 s) Is) (nextOnLine g s) (both-true (class.name (kind g s)) (eqb (kindAfter g 1 s) Is and nextOnLine g s) p .1) .0
+
   -- A `this` that is said to be something on its line is a predicate about it.
   pub this-predicate : stands g This s ≡ true → predicates g s ≡ true → rule.this g T s ≡ predicate g T false s
   unfolding rule.this predicate
   this-predicate t p =
       rw (turned (class.name (kind g s)) (eqb (kindAfter g 1 s) Is) (nextOnLine g s) true (ap class.name (eqb-true (kind g s) This t)) p)
-      (sym (rw (asked, t) (then-then (T true (next (next s))) (λ t q. read (present t) q) (λ t q. make g [] (node.predicate (first g s) (end g q) false absent t) q))))
-    where
-      asked : stands g Is (next s) ≡ true
-      asked = and-first (eqb (kindAfter g 1 s) Is) (nextOnLine g s) (and-second (class.name (kind g s)) (eqb (kindAfter g 1 s) Is and nextOnLine g s) p)
+      (sym (rw (asked p, t) (then-then (T true (next (next s))) (λ t q. read (present t) q) (λ t q. make g [] (node.predicate (first g s) (end g q) false absent t) q))))
 
   -- ---- Function: its return type
 
@@ -233,10 +199,7 @@ module _ (g : Given) (T : Reader) (s : State) where
   unfolding returnType predicate
   return-predicate p =
       rw p
-      (sym (rw asked (then-then (T true (next (next s))) (λ t q. read (present t) q) (λ t q. make g [] (node.predicate (first g s) (end g q) false (subject g s) t) q))))
-    where
-      asked : stands g Is (next s) ≡ true
-      asked = and-first (eqb (kindAfter g 1 s) Is) (nextOnLine g s) (and-second (class.name (kind g s)) (eqb (kindAfter g 1 s) Is and nextOnLine g s) p)
+      (sym (rw (asked p) (then-then (T true (next (next s))) (λ t q. read (present t) q) (λ t q. make g [] (node.predicate (first g s) (end g q) false (subject g s) t) q))))
 
   -- ---- Literals
 
@@ -248,7 +211,7 @@ module _ (g : Given) (T : Reader) (s : State) where
   pub negative-at : rule.isNegative g s ≡ true → literalAt g s ≡ rule.negative g s
   unfolding literalAt
   negative-at n =
-      let m : stands g Minus s ≡ true = and-first (stands g Minus s) _ n in
+      let m : stands g Minus s ≡ true = both-true (stands g Minus s) _ n .0 in
       rw (other-kind (λ k. eqb k Minus) (kind g s) NoSubstitutionTemplate refl m, m)
 
   pub template-at : stands g NoSubstitutionTemplate s ≡ true → literalAt g s ≡ template g T s
@@ -358,10 +321,6 @@ shape-literal k s = record { same = refl; choices-are = omega arith; allowed-is 
 pub shape-truth : (k : ℕ) → Shape 0 3 (pick k (literalSpelling absent)) done (3 + 64 * k)
 shape-truth k = record { same = refl; choices-are = omega arith; allowed-is = tt }
 
--- A template with no type in it.
-pub shape-template : (s : Spelling) → Shape 0 15 (pick 0 (join (spell s) void)) (nameRun s) 15
-shape-template s = record { same = refl; choices-are = refl; allowed-is = tt }
-
 pub shape-parens : {u : Placed} → IsNode 0 u → Shape 0 4 u (runIn 0 u) 4
 shape-parens n = record { same = refl; choices-are = omega (arith, packed-node done n); allowed-is = tt }
 
@@ -423,7 +382,7 @@ module _ (g : Given) (s : State) where
         tag = 15;
         holds = pick 0 (join (spell (spelling g s)) void);
         is = rw t;
-        shape = rw l (shape-template (spelling g s));
+        shape = rw l (shape-template (spelling g s) [] tt);
       }
 
   -- A literal that is spelled with no sign, or a template with no type.

@@ -6,7 +6,6 @@ use Prim.Native.Nat.{ℕ, _≤_, _<_}
 use native.Mathlib.Omega.{arith}
 use borrow.Author.Tests.{le-leb, lt-leb}
 use Rattle.words.specs.Limits.{mostNotes}
-use Rattle.words.specs.Test.{test}
 use Rattle.rules.specs.Notes.{Note}
 use Rattle.rules.specs.Refusal.{manyNotes}
 use Rattle.rules.specs.State.{State, Result, refuse, reportIf}
@@ -50,6 +49,12 @@ module _ {holds : Bool} {given : Given} {n : Note} {m : Mark} {O : List ℕ} {a 
   -- A report where the test holds.
   pub reports-when : holds ≡ true → Reports true given n m O a O' → Reports holds given n m O a O'
   reports-when h r = subst (λ (b : Bool). Reports b given n m O a O') (sym h) r
+
+  -- The answer has no height.
+  pub reports-high : Reports holds given n m O a O' → a .high ≡ 0
+  reports-high (silent h e o) = ap (λ (x : Answer). x .high) e
+  reports-high (noted h f e o) = ap (λ (x : Answer). x .high) e
+  reports-high (full h f e o) = ap (λ (x : Answer). x .high) e
 
   -- The diagnostics before stand.
   pub reports-before : Reports holds given n m O a O' → notesOf O' (m .noted) ≡ notesOf O (m .noted)

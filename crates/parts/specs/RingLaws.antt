@@ -1,20 +1,19 @@
 -- What each rule is once its tests are known, in the steps in which the readers take it.
-use mathlib.Core.Path.{_≡_, refl, sym, ap, ap₂, _∙_}
+use mathlib.Core.Path.{_≡_, refl, sym}
 use mathlib.Core.Bool.{Bool, true, false, not}
 use mathlib.Core.List.{List, [], _∷_, _++_}
-use Prim.Native.Nat.{ℕ, zero, suc, _+_, _-_, _≤_, _<_}
+use Prim.Native.Nat.{ℕ, zero, suc, _-_}
 use native.Mathlib.Omega.{arith}
-use lib.Dec.{eqb}
 use lib.ListN.{length}
 use Rattle.words.specs.Test.{_and_, _or_, test}
-use Rattle.words.specs.Kind.{LParen, RParen, LAngle, RAngle, Question, Colon, Comma, Dot3, Arrow, Eq, Pipe, Amp, Abstract, Is, Extends, New, This, Infer, NoSubstitutionTemplate, TemplateHead, TemplateMiddle, TemplateTail}
+use Rattle.words.specs.Kind.{LAngle, RAngle, Question, Colon, Dot3, Arrow, Eq, Pipe, Amp, Abstract, Is, Extends, New, This, Infer, TemplateHead, TemplateMiddle, TemplateTail}
 use Rattle.words.specs.Ahead.{functionStart}
 use Rattle.keys.specs.Placed as node
 use Rattle.keys.specs.Placed.{Placed, Spelling, Opt, absent, present}
-use Rattle.rules.specs.Refusal.{unexpected, unsupported, tooDeep}
+use Rattle.rules.specs.Refusal.{unexpected, tooDeep}
 use Rattle.rules.specs.Notes.{note, emptyTypeParameters, emptyArguments}
-use Rattle.rules.specs.State.{Given, State, Result, Reader, read, refuse, refused, then, next, kind, stands, onLine, first, end, spelling, turns, past, expect, optional, make, reportIf}
-use Rattle.rules.specs.List.{noEntry, count, listFrom, list}
+use Rattle.rules.specs.State.{Given, State, Result, Reader, read, refused, then, next, kind, stands, onLine, first, end, spelling, turns, past, expect, optional, make, reportIf}
+use Rattle.rules.specs.List.{noEntry, listFrom, list}
 use Rattle.rules.specs.Names as names
 use Rattle.rules.specs.TypeParameters as types
 use Rattle.rules.specs.Function as function

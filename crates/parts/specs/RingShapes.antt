@@ -2,16 +2,15 @@
 use mathlib.Core.Path.{_≡_, refl, sym, ap, _∙_}
 use mathlib.Core.Bool.{Bool, true, false}
 use mathlib.Core.List.{List, [], _∷_, _++_}
-use Prim.Native.Nat.{ℕ, zero, suc, _+_, _*_, max}
+use Prim.Native.Nat.{ℕ, suc, _+_, _*_}
 use native.Mathlib.Omega.{arith}
 use lib.ListN.{length}
 use Rattle.keys.specs.Bits.{unit}
-use Rattle.keys.specs.Form.{child}
 use Rattle.keys.specs.Key.{nodeTable}
 use Rattle.keys.specs.Table.{times, type, spelling, _⊗_}
-use Rattle.keys.specs.Placed.{Placed, tree, join, pick, spell, maybe, subjectOf, listed, entries, pieces, Spelling, Opt, absent, present}
+use Rattle.keys.specs.Placed.{Placed, join, pick, spell, maybe, subjectOf, listed, entries, pieces, Spelling, Opt, absent, present}
 use Rattle.keys.specs.Store.{Run, done, name, plant, packed}
-use Rattle.keys.specs.StoreLaws.{_⊕_, join-done, join-join}
+use Rattle.keys.specs.StoreLaws.{_⊕_, join-join}
 use Rattle.parts.specs.Laid.{heights, skeleton, runIn, runOpt, runs, nameRun, namesRun, IsNode, node, IsOpt, AllNodes, Shape}
 use borrow.Author.Tests.{le-leb}
 use Rattle.parts.specs.RunLaws.{node-high}

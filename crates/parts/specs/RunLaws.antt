@@ -1,15 +1,14 @@
 -- The laws of runs: choices aside, joined, and as the makers of trees plant them.
 use mathlib.Core.Path.{_≡_, refl, sym, ap, ap₂, _∙_}
-use mathlib.Core.Bool.{Bool, true, false}
 use mathlib.Core.List.{List, [], _∷_, _++_}
-use Prim.Native.Nat.{ℕ, zero, suc, _+_, _≤_, _<_, max}
+use Prim.Native.Nat.{ℕ, suc, _+_, _<_, max}
 use native.Mathlib.Omega.{arith}
 use lib.ListN.{length}
-use Rattle.keys.specs.Form.{Form, child, Grammar, height, width, branch, left, right, class}
+use Rattle.keys.specs.Form.{Form, child, Grammar, height, branch, left, right, class}
 use Rattle.keys.specs.Key.{nodeTable}
 use Rattle.keys.specs.Table.{times}
 use Rattle.keys.specs.Placed.{Placed, void, said, pick, join, tree, bare, Spelling, entries}
-use Rattle.keys.specs.Store.{Run, done, chose, name, kid, plant, under, called, packed, firstKid, records, namesIn}
+use Rattle.keys.specs.Store.{Run, done, chose, name, kid, plant, under, called, firstKid, records, namesIn}
 use Rattle.keys.specs.StoreLaws.{_⊕_, join-done, join-join, plant-join}
 use Rattle.parts.specs.Laid.{heights, skeleton, runIn, runs, namesRun, IsNode, node}
 
@@ -61,6 +60,9 @@ namesIn-skeleton (kid first end b a) = ap (λ (l : List ℕ). namesIn b ++ l) (n
 
 -- ---- Heights
 
+max-zero : (n : ℕ) → max n 0 ≡ n
+max-zero n = omega arith
+
 max-assoc : (a b c : ℕ) → max a (max b c) ≡ max (max a b) c
 max-assoc a b c = omega arith
 
@@ -78,15 +80,9 @@ heights-plant G f (join a b) r =
     heights-plant G (left f) a (plant G (right f) b r) ∙ ap (max (height (bare a))) (heights-plant G (right f) b r)
     ∙ max-assoc (height (bare a)) (height (bare b)) (heights r)
 heights-plant G f (tree t first end p) r = ap (λ (n : ℕ). max (suc n) (heights r)) (heights-plant G (G .row (class f) t) p done ∙ max-zero (height (bare p)))
-  where
-    max-zero : (n : ℕ) → max n 0 ≡ n
-    max-zero n = omega arith
 
 pub heights-run : (c : ℕ) (t : Placed) → heights (runIn c t) ≡ height (bare t)
 heights-run c t = heights-plant nodeTable (child c) t done ∙ max-zero (height (bare t))
-  where
-    max-zero : (n : ℕ) → max n 0 ≡ n
-    max-zero n = omega arith
 
 -- There are nodes where there is a height, and no other.
 pub some-nodes : (a : Run) → 0 < heights a → 0 < under a

@@ -1,18 +1,16 @@
 -- What the functions answer: what the rules read, and that it stands in the slices; or the rules' refusal.
 use mathlib.Core.Path.{_≡_}
 use mathlib.Core.Bool.{Bool, true, false}
-use mathlib.Core.List.{List, [], _∷_, _++_}
-use Prim.Native.Nat.{ℕ, zero, suc, _+_, _*_, _≤_, _<_}
-use lib.ListN.{length}
-use Rattle.keys.specs.Form.{Form}
+use mathlib.Core.List.{List, [], _∷_}
+use Prim.Native.Nat.{ℕ}
 use Rattle.keys.specs.Placed.{Placed, Spelling, Opt, absent, present}
-use Rattle.keys.specs.Store.{Run, done}
+use Rattle.keys.specs.Store.{Run}
 use Rattle.keys.specs.StoreLaws.{_⊕_}
 use Rattle.rules.specs.State as rule
 use Rattle.rules.specs.State.{State, Result, read, refuse}
 use Rattle.rules.specs.List.{count}
 use Rattle.parts.specs.Marks.{view, givenOf, Spelt}
-use Rattle.parts.specs.Laid.{heights, runIn, runOpt, runs, runsOpt, IsNode, IsOpt, AllOpt, Was, was, Laid, Built, BuiltAt, Stands, Spoken}
+use Rattle.parts.specs.Laid.{heights, runOpt, runsOpt, IsOpt, AllOpt, Was, was, Laid, BuiltAt, Stands, Spoken}
 use Rattle.parts.specs.declared.state.Given.{Given}
 use Rattle.parts.specs.declared.state.Mark.{Mark}
 use Rattle.parts.specs.declared.state.Kids.{Kids}

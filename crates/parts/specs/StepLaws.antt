@@ -2,20 +2,17 @@
 use mathlib.Core.Path.{_≡_, refl, sym, ap, _∙_, subst}
 use mathlib.Core.Bool.{Bool, true, false}
 use mathlib.Core.List.{List}
-use Prim.Native.Nat.{ℕ, suc, _+_, _<_}
+use Prim.Native.Nat.{ℕ, suc, _<_}
 use native.Mathlib.Omega.{arith}
 use Rattle.words.specs.Test.{test}
 use Rattle.words.specs.Cursor.{kindAt}
 use Rattle.keys.specs.Placed.{Spelling}
 use Rattle.keys.specs.Store.{Run}
-use Rattle.rules.specs.Refusal.{unexpected}
-use Rattle.rules.specs.State as rule
-use Rattle.rules.specs.State.{State, Result, read, refuse, refused, next, stands, past, expect}
-use Rattle.parts.specs.Marks.{view, givenOf, nextMark, pastMark, placeOf, Inside, Fine, Reached, Moved}
+use Rattle.rules.specs.State.{Result, read, refuse, next, past}
+use Rattle.parts.specs.Marks.{view, givenOf, nextMark, pastMark, Inside, Fine, Moved}
 use Rattle.parts.specs.Laid.{Was, BuiltAt, Spoken}
 use Rattle.parts.specs.Says.{GotNames, SaysNames, SaysNumber}
 use Rattle.parts.specs.Reported.{takenAt, refusedAt}
-use Rattle.parts.specs.Nodes.{Put}
 use Rattle.parts.specs.Lists.{here}
 use Rattle.parts.specs.MarkLaws.{is-here, is-not-here, moved-next, inside-next}
 use Rattle.parts.specs.BuiltLaws.{spoken-from, spoken-to}
@@ -33,13 +30,6 @@ is-at W {m} {q} k i e t = subst (λ (p : Mark). here W k p ≡ true) i (is-here 
 
 pub not-at : (W : List ℕ) {m q : Mark} (k : ℕ) {r : ℕ} → q ≡ m → r ≡ kindAt W (q .at) (q .half) → (r ≡ k → ⊥) → here W k m ≡ false
 not-at W {m} {q} k i e t = subst (λ (p : Mark). here W k p ≡ false) i (is-not-here W q e t)
-
-module _ {A : Type 0} (g : rule.Given) (k : ℕ) (s : State) (on : State → Result A) where
-  pub expect-taken : stands g k s ≡ true → expect g k s on ≡ on (next s)
-  expect-taken e = ap (λ (b : Bool). test b (λ _. on (next s)) (λ _. refused unexpected s)) e
-
-  pub expect-refused : stands g k s ≡ false → expect g k s on ≡ refused unexpected s
-  expect-refused e = ap (λ (b : Bool). test b (λ _. on (next s)) (λ _. refused unexpected s)) e
 
 -- Past a mark, if it stands here.
 pub view-past : (text W : List ℕ) (given : Given) (k : ℕ) (m : Mark) (O : List ℕ) → view (pastMark W k m) O ≡ past (givenOf text W given) k (view m O)
@@ -141,27 +131,5 @@ pub spoken-between : {l : List Spelling} {len : ℕ} {m a q b : Mark} {M M' : Li
 spoken-between {m = m} {b = b} f g s =
     spoken-to b (g .used-is) (g .named-is) (g .noted-is) (spoken-from m (sym (f .used-is)) (sym (f .named-is)) (sym (f .noted-is)) s)
 
-module _ {len : ℕ} {given : Given} {m q : Mark} (f : Fine len given m) (h : Moved len m q) where
-  pub fine-moved : Fine len given q
-  fine-moved = record { inside = h .inside; half = h .half; roomy = omega (arith, f .roomy, h .used-is); few = omega (arith, f .few, h .named-is, h .ahead); recorded = omega (arith, f .recorded, h .noted-is) }
-
-  -- Refused further on.
-  pub reached-refused : (k : ℕ) → Reached len given (placeOf m) (m .used + 1) 0 (suc k) q
-  reached-refused k = record { past = omega (arith, h .onward); more = omega (arith, h .used-is); low = omega arith; fine = fine-moved }
-
-  -- A node is put further on.
-  pub reached-put : {a : Answer} → Put given q a → Reached len given (placeOf m) (m .used + 1) (a .high) (a .why) (a .m)
-  reached-put p =
-      record {
-        past = omega (arith, h .onward, p .at-is, p .half-is);
-        more = omega (arith, h .used-is, p .more);
-        low = p .low;
-        fine =
-            record {
-              inside = omega (arith, h .inside, p .at-is, p .half-is);
-              half = omega (arith, h .half, p .half-is);
-              roomy = p .roomy;
-              few = omega (arith, fine-moved .few, p .named-is, p .at-is);
-              recorded = omega (arith, fine-moved .recorded, p .noted-is);
-            };
-      }
+pub fine-moved : {len : ℕ} {given : Given} {m q : Mark} → Fine len given m → Moved len m q → Fine len given q
+fine-moved f h = record { inside = h .inside; half = h .half; roomy = omega (arith, f .roomy, h .used-is); few = omega (arith, f .few, h .named-is, h .ahead); recorded = omega (arith, f .recorded, h .noted-is) }

@@ -23,6 +23,7 @@ use Rattle.parts.specs.Laid.{runs, AllNodes, Shape}
 use Rattle.parts.specs.ShapeLaws.{shape-list}
 use Rattle.parts.specs.Answers.{then-read, then-refused, then-then}
 use Rattle.parts.specs.Elements.{elementStart, elementAfter}
+use Rattle.parts.specs.MarkLaws.{or-false}
 
 -- ---- Elements
 
@@ -97,17 +98,13 @@ module _ (g : Given) (T : Reader) (l : List Placed) (s : State) where
   pub checked-refused : {n i h : ℕ} → tuple.element g T s ≡ refuse n i h → tuple.checkedElement g T l s ≡ refuse n i h
   checked-refused i = checked-is g T l s ∙ then-refused behindElement i
 
-or-false : (a : Bool) → (a or false) ≡ a
-or-false true = refl
-or-false false = refl
-
 or-or : (a b c : Bool) → (a or (b or c)) ≡ ((a or b) or c)
 or-or true b c = refl
 or-or false b c = refl
 
 -- One element more: an optional one was seen, or it is one.
 pub seen-more : (l : List Placed) (e : Placed) → tuple.seenOptional (l ++ (e ∷ [])) ≡ (tuple.seenOptional l or tuple.isOptionalElement e)
-seen-more [] e = or-false (tuple.isOptionalElement e)
+seen-more [] e = sym (or-false (tuple.isOptionalElement e))
 seen-more (t ∷ l) e = ap (λ (b : Bool). tuple.isOptionalElement t or b) (seen-more l e) ∙ or-or (tuple.isOptionalElement t) (tuple.seenOptional l) (tuple.isOptionalElement e)
 
 -- ---- The tuple

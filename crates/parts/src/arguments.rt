@@ -97,7 +97,7 @@ impl Named {
 pub fn named_head(words: &[u64], classes: &[u16; 256], names: &mut [u64], m: Mark) -> Named
     requires { ⌜ (now classes ≡ classWords) × Sound (now words) × Inside (length (now words)) m × (m .named ≤ m .at) ⌝ }
     ensures { λ r. ⌜ ((text O : List ℕ) (given : AnyGiven) → Spelt text (now (words .entry)) → SaysNames namesOf (NamingIs r) (namingHead (givenOf text (now (words .entry)) given) (view m O)) (r .why) m (r .m) (now (names .entry)) (now (names .exit)) O) ⌝ }
-    ensures { λ r. ⌜ Along (length (now (words .entry))) m (r .m) × NamedSmall (length (now (words .entry))) r ⌝ }
+    ensures { λ r. ⌜ Along (length (now (words .entry))) m (r .m) × NamedSmall (length (now (words .entry))) r × (m .at < r .m .at + r .why) ⌝ }
 {
     let kind = kind_at(words, m);
     if kind == Kind::TYPEOF {
@@ -113,7 +113,7 @@ pub fn named_head(words: &[u64], classes: &[u16; 256], names: &mut [u64], m: Mar
 fn query(words: &[u64], classes: &[u16; 256], names: &mut [u64], m: Mark) -> Named
     requires { ⌜ (now classes ≡ classWords) × Sound (now words) × Inside (length (now words)) m × (m .named ≤ m .at) ⌝ }
     ensures { λ r. ⌜ ((text O : List ℕ) (given : AnyGiven) → Spelt text (now (words .entry)) → SaysNames namesOf (NamingIs r) (queryHead (givenOf text (now (words .entry)) given) (view m O)) (r .why) m (r .m) (now (names .entry)) (now (names .exit)) O) ⌝ }
-    ensures { λ r. ⌜ Along (length (now (words .entry))) m (r .m) × NamedSmall (length (now (words .entry))) r ⌝ }
+    ensures { λ r. ⌜ Along (length (now (words .entry))) m (r .m) × NamedSmall (length (now (words .entry))) r × (m .at < r .m .at + r .why) ⌝ }
 {
     if kind_at(words, m) == Kind::IMPORT {
         return import(words, classes, names, Tag::IMPORT + Tag::ALL, next(m));
@@ -131,7 +131,7 @@ fn reference(
 ) -> Named
     requires { ⌜ (now classes ≡ classWords) × Sound (now words) × Inside (length (now words)) m × (m .named ≤ m .at) × (choices ≤ 128) ⌝ }
     ensures { λ r. ⌜ ((text O : List ℕ) (given : AnyGiven) (make : List Spelling → Naming) → Dotted choices make → Spelt text (now (words .entry)) → SaysNames namesOf (NamingIs r) (dottedHead (givenOf text (now (words .entry)) given) make (view m O)) (r .why) m (r .m) (now (names .entry)) (now (names .exit)) O) ⌝ }
-    ensures { λ r. ⌜ Along (length (now (words .entry))) m (r .m) × NamedSmall (length (now (words .entry))) r ⌝ }
+    ensures { λ r. ⌜ Along (length (now (words .entry))) m (r .m) × NamedSmall (length (now (words .entry))) r × (m .at < r .m .at + r .why) ⌝ }
 {
     let a = dotted_name(words, classes, names, m);
     if a.why != 0 {
@@ -151,7 +151,7 @@ fn reference(
 fn import_source(words: &[u64], names: &mut [u64], m: Mark) -> Answer
     requires { ⌜ Sound (now words) × Inside (length (now words)) m × (m .named ≤ m .at) ⌝ }
     ensures { λ r. ⌜ ((text O : List ℕ) (given : AnyGiven) → Spelt text (now (words .entry)) → SaysNames one Any (importSource (givenOf text (now (words .entry)) given) (view m O)) (r .why) m (r .m) (now (names .entry)) (now (names .exit)) O) ⌝ }
-    ensures { λ r. ⌜ Along (length (now (words .entry))) m (r .m) ⌝ }
+    ensures { λ r. ⌜ Along (length (now (words .entry))) m (r .m) × (m .at < r .m .at + r .why) ⌝ }
 {
     if kind_at(words, m) != Kind::L_PAREN {
         return Answer::refused(Refusal::UNEXPECTED, m);
@@ -174,7 +174,7 @@ fn import_source(words: &[u64], names: &mut [u64], m: Mark) -> Answer
 fn import(words: &[u64], classes: &[u16; 256], names: &mut [u64], choices: usize, m: Mark) -> Named
     requires { ⌜ (now classes ≡ classWords) × Sound (now words) × Inside (length (now words)) m × (m .named ≤ m .at) × (choices ≤ 128) ⌝ }
     ensures { λ r. ⌜ ((text O : List ℕ) (given : AnyGiven) (isTypeof : Bool) → choices ≡ 18 + 64 * unit isTypeof → Spelt text (now (words .entry)) → SaysNames namesOf (NamingIs r) (importHead (givenOf text (now (words .entry)) given) isTypeof (view m O)) (r .why) m (r .m) (now (names .entry)) (now (names .exit)) O) ⌝ }
-    ensures { λ r. ⌜ Along (length (now (words .entry))) m (r .m) × NamedSmall (length (now (words .entry))) r ⌝ }
+    ensures { λ r. ⌜ Along (length (now (words .entry))) m (r .m) × NamedSmall (length (now (words .entry))) r × (m .at < r .m .at + r .why) ⌝ }
 {
     let s = import_source(words, names, m);
     if s.why != 0 {

@@ -200,7 +200,7 @@ pub fn varies(words: &[u64], classes: &[u16; 256], m: Mark) -> usize
 pub fn type_param_head(words: &[u64], classes: &[u16; 256], names: &mut [u64], m: Mark) -> Answer
     requires { ⌜ (now classes ≡ classWords) × Sound (now words) × Inside (length (now words)) m × (m .named ≤ m .at) ⌝ }
     ensures { λ r. ⌜ ((text O : List ℕ) (given : AnyGiven) → Spelt text (now (words .entry)) → SaysNames one Any (typeParameterHead (givenOf text (now (words .entry)) given) (view m O)) (r .why) m (r .m) (now (names .entry)) (now (names .exit)) O) ⌝ }
-    ensures { λ r. ⌜ Along (length (now (words .entry))) m (r .m) ⌝ }
+    ensures { λ r. ⌜ Along (length (now (words .entry))) m (r .m) × (m .at < r .m .at + r .why) ⌝ }
 {
     let why = varies(words, classes, m);
     if why != 0 {
@@ -222,7 +222,7 @@ fn bit(holds: bool) -> usize
 pub fn param_head(words: &[u64], classes: &[u16; 256], names: &mut [u64], m: Mark) -> Head
     requires { ⌜ (now classes ≡ classWords) × Sound (now words) × Inside (length (now words)) m × (m .named ≤ m .at) ⌝ }
     ensures { λ r. ⌜ ((text O : List ℕ) (given : AnyGiven) → Spelt text (now (words .entry)) → SaysNames (λ x. one (x .0)) (λ x. r .choices ≡ unit (here (now (words .entry)) kind.Dot3 m) + 2 * unit (x .1)) (parameterHead (givenOf text (now (words .entry)) given) (view m O)) (r .why) m (r .m) (now (names .entry)) (now (names .exit)) O) ⌝ }
-    ensures { λ r. ⌜ Along (length (now (words .entry))) m (r .m) × (r .choices ≤ 3) ⌝ }
+    ensures { λ r. ⌜ Along (length (now (words .entry))) m (r .m) × (r .choices ≤ 3) × (m .at < r .m .at + r .why) ⌝ }
 {
     let rest = kind_at(words, m) == Kind::DOT3;
     let p = past(words, Kind::DOT3, m);

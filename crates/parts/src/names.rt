@@ -1,7 +1,7 @@
 // Names, and names with dots between.
 ghost use mathlib.Core.Path.{_≡_};
 ghost use mathlib.Core.List.{List};
-ghost use Prim.Native.Nat.{ℕ, _≤_, _<_};
+ghost use Prim.Native.Nat.{ℕ, _+_, _≤_, _<_};
 ghost use lib.ListN.{length};
 ghost use Rattle.words.specs.Class.{classWords};
 ghost use Rattle.rules.specs.Names as rule;
@@ -43,7 +43,7 @@ pub fn name(words: &[u64], classes: &[u16; 256], names: &mut [u64], class: usize
     requires { ⌜ (now classes ≡ classWords) × Sound (now words) × Inside (length (now words)) m × (m .named ≤ m .at) × (class ≤ 1) ⌝ }
     ensures { λ r. ⌜ ((text O : List ℕ) (given : AnyGiven) → Spelt text (now (words .entry))
         → SaysNames one Any (oneName class (givenOf text (now (words .entry)) given) (view m O)) (r .why) m (r .m) (now (names .entry)) (now (names .exit)) O) ⌝ }
-    ensures { λ r. ⌜ Along (length (now (words .entry))) m (r .m) ⌝ }
+    ensures { λ r. ⌜ Along (length (now (words .entry))) m (r .m) × (m .at < r .m .at + r .why) ⌝ }
 {
     if !in_class(classes, kind_at(words, m), class) {
         return Answer::refused(Refusal::UNEXPECTED, m);
@@ -74,7 +74,7 @@ pub fn dotted_name(words: &[u64], classes: &[u16; 256], names: &mut [u64], m: Ma
     requires { ⌜ (now classes ≡ classWords) × Sound (now words) × Inside (length (now words)) m × (m .named ≤ m .at) ⌝ }
     ensures { λ r. ⌜ ((text O : List ℕ) (given : AnyGiven) → Spelt text (now (words .entry))
         → SaysNames (λ k. k) Any (rule.dotted (givenOf text (now (words .entry)) given) (view m O)) (r .why) m (r .m) (now (names .entry)) (now (names .exit)) O) ⌝ }
-    ensures { λ r. ⌜ Along (length (now (words .entry))) m (r .m) ⌝ }
+    ensures { λ r. ⌜ Along (length (now (words .entry))) m (r .m) × (m .at < r .m .at + r .why) ⌝ }
 {
     let a = name(words, classes, names, Class::NAME, m);
     if a.why != 0 {

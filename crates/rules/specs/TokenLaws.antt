@@ -139,11 +139,6 @@ list-later text before n (w ∷ []) zero e h = absurd (omega arith)
 list-later text before n (w ∷ x ∷ ws) zero e h = head-good text (end w) (suc n) x ws (tail-sound text before n w (x ∷ ws) e) .later
 list-later text before n (w ∷ ws) (suc i) e h = list-later text (end w) (suc n) ws i (tail-sound text before n w ws e) (omega arith)
 
-list-inside : (text : List ℕ) (before n : ℕ) (words : List ℕ) (i : ℕ) → wordsFrom text before n words ≡ sound → i < length words → end (getD words i 0) ≤ length text
-list-inside text before n [] i e h = absurd (omega arith)
-list-inside text before n (w ∷ ws) zero e h = head-good text before n w ws e .inside
-list-inside text before n (w ∷ ws) (suc i) e h = list-inside text (end w) (suc n) ws i (tail-sound text before n w ws e) (omega arith)
-
 check-words : (text words : List ℕ) (start : ℕ) → check text words start ≡ sound → wordsFrom text 0 0 words ≡ sound
 check-words text words start e = by (goodList text words start) e
   where
@@ -198,13 +193,43 @@ split-size g c i e =
     (λ r. omega (arith, same-length (fixedSpelling ShiftLeft) s r), (λ r. omega (arith, same-length (fixedSpelling LtEq) s r), (λ r. omega (arith, same-length (fixedSpelling ShiftLeftEq) s r), tt))) e in
     omega (arith, long (p .right), part-length (g .text) (start w) (size w) (p .inside))
 
+-- ---- Any index, also past the list's end
+
+list-ends : (text : List ℕ) (before n : ℕ) (words : List ℕ) (i : ℕ) → wordsFrom text before n words ≡ sound → end (getD words i 0) ≤ length text
+list-ends text before n [] i e = omega arith
+list-ends text before n (w ∷ ws) zero e = head-good text before n w ws e .inside
+list-ends text before n (w ∷ ws) (suc i) e = list-ends text (end w) (suc n) ws i (tail-sound text before n w ws e)
+
+module _ (text words : List ℕ) (first : ℕ) (passed : check text words first ≡ sound) where
+  within : goodList text words first ≡ true
+  within = by (goodList text words first) refl passed
+    where
+      by : (b : Bool) → goodList text words first ≡ b → test b (λ _. wordsFrom text 0 0 words) (λ _. refused 1 0) ≡ sound → goodList text words first ≡ true
+      by true i j = i
+      by false i j = clash (cc)
+
+  -- Neither text nor list is too long, and the start is a token's index.
+  pub text-few : length text ≤ mostText
+  text-few = leb-true (length text) mostText (both-true (leb (length text) mostText) _ within .0)
+
+  pub words-few : length words ≤ mostTokens
+  words-few = leb-true (length words) mostTokens (both-true (leb (length words) mostTokens) _ (both-true (leb (length text) mostText) _ within .1) .0)
+
+  pub start-there : first < length words
+  start-there = ltb-true first (length words) (both-true (leb (length words) mostTokens) _ (both-true (leb (length text) mostText) _ within .1) .1)
+
+  -- A word ends inside the text, and its bytes are as many as it says.
+  pub word-inside : (i : ℕ) → end (wordAt words i) ≤ length text
+  word-inside i = list-ends text 0 0 words i (check-words text words first passed)
+
+  pub word-sized : (i : ℕ) → length (part text (start (wordAt words i)) (size (wordAt words i))) ≡ size (wordAt words i)
+  word-sized i = part-length text (start (wordAt words i)) (size (wordAt words i)) (word-inside i)
+
 -- The start is a token's index.
 pub start-inside : (g : Given) (c : Checked g) → c .start < length (g .words)
-start-inside g c = by (goodList (g .text) (g .words) (c .start)) refl (c .sound)
-  where
-    by : (b : Bool) → goodList (g .text) (g .words) (c .start) ≡ b → test b (λ _. wordsFrom (g .text) 0 0 (g .words)) (λ _. refused 1 0) ≡ sound → c .start < length (g .words)
-    by true i j = ltb-true (c .start) (length (g .words)) (both-true (leb (length (g .words)) mostTokens) _ (both-true (leb (length (g .text)) mostText) _ i .1) .1)
-    by false i j = clash (cc)
+start-inside g c = start-there (g .text) (g .words) (c .start) (c .sound)
+
+-- ---- What was taken
 
 -- What was taken before a token ends no later than the token starts.
 pub taken-before : (g : Given) → Checked g → (i : ℕ) → i < length (g .words) → endByte (g .words) i 0 ≤ firstByte (g .words) i 0
@@ -215,4 +240,4 @@ taken-before g c (suc i) h =
 -- It ends inside the text.
 pub taken-inside : (g : Given) → Checked g → (i : ℕ) → i < length (g .words) → endByte (g .words) i 0 ≤ length (g .text)
 taken-inside g c zero h = omega arith
-taken-inside g c (suc i) h = list-inside (g .text) 0 0 (g .words) i (check-words (g .text) (g .words) (c .start) (c .sound)) (omega arith)
+taken-inside g c (suc i) h = word-inside (g .text) (g .words) (c .start) (c .sound) i

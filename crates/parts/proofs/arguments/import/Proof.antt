@@ -1,6 +1,7 @@
 -- The source, then the names with dots before.
 use mathlib.Core.Path.{sym, subst}
 use mathlib.Core.List.{[]}
+use Prim.Native.Nat.{_+_, _<_}
 use native.Mathlib.Omega.{arith}
 use lib.ListN.{length}
 use Rattle.parts.specs.Marks.{view, givenOf, Along}
@@ -30,7 +31,7 @@ returns c =
       λ text O given isTypeof e spelt.
           named-refused (refused .result) (import-source .result .why) (import-source .result .m) (if1 .taken) (refused .ensures)
           (import-refused (givenOf text (args .words .now) given) (view (args .m) O) isTypeof (import-source .result .why) (import-source .result .m .at) (import-source .result .m .half) (import-source .ensures .0 text O given spelt .refused (if1 .taken))),
-      subst (λ (n : Named). Along (length (args .words .now)) (args .m) (n .m) × NamedSmall (length (args .words .now)) n) (sym (refused .ensures)) (import-source .ensures .1, record { choices = omega arith; scale = omega arith; count = omega arith }),
+      subst (λ (n : Named). Along (length (args .words .now)) (args .m) (n .m) × NamedSmall (length (args .words .now)) n × (args .m .at < n .m .at + n .why)) (sym (refused .ensures)) (import-source .ensures .1 .0, record { choices = omega arith; scale = omega arith; count = omega arith }, import-source .ensures .1 .1),
     )
 
 dots-requires : tie.Need-dots-requires
@@ -54,7 +55,7 @@ returns-2 c =
           let v = import-source .ensures .0 text O given spelt .done (if1 .left) in
           named-refused (refused2 .result) (dots .result .why) (dots .result .m) (if2 .taken) (refused2 .ensures)
           (import-dots (givenOf text (args .words .now) given) (view (args .m) O) isTypeof (v .what) (view (import-source .result .m) O) (dots .result .why) (dots .result .m .at) (dots .result .m .half) (v .is) (dots .ensures .0 text O given [] spelt .refused (if2 .taken))),
-      subst (λ (n : Named). Along (length (args .words .now)) (args .m) (n .m) × NamedSmall (length (args .words .now)) n) (sym (refused2 .ensures)) (along-then (import-source .ensures .1) (dots .ensures .1), record { choices = omega arith; scale = omega arith; count = omega arith }),
+      subst (λ (n : Named). Along (length (args .words .now)) (args .m) (n .m) × NamedSmall (length (args .words .now)) n × (args .m .at < n .m .at + n .why)) (sym (refused2 .ensures)) (along-then (import-source .ensures .1 .0) (dots .ensures .1), record { choices = omega arith; scale = omega arith; count = omega arith }, omega (arith, import-source .ensures .1 .1, if1 .left, dots .ensures .1 .ahead)),
     )
 
 mul-t15 : tie.Need-mul-t15
@@ -77,7 +78,7 @@ returns-3 c =
       λ text O given isTypeof e spelt.
           import-read (givenOf text (args .words .now) given) (view (args .m) O) isTypeof (args .choices) (args .m) (import-source .result .m) (dots .result .m) e
           (import-source .ensures .0 text O given spelt .done (if1 .left)) (dots .ensures .0 text O given [] spelt .done (if2 .left)),
-      (along-then (import-source .ensures .1) (dots .ensures .1), record { choices = pre .4; scale = omega arith; count = omega (arith, dots .ensures .1 .few, dots .ensures .1 .inside) }),
+      (along-then (import-source .ensures .1 .0) (dots .ensures .1), record { choices = pre .4; scale = omega arith; count = omega (arith, dots .ensures .1 .few, dots .ensures .1 .inside) }, omega (arith, import-source .ensures .1 .1, if1 .left, dots .ensures .1 .ahead)),
     )
 
 pub import-spec : {M : Type 1} → statement M

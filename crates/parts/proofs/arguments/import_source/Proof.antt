@@ -33,7 +33,7 @@ returns c =
       λ text O given spelt.
           answer-refused (refused .result) 3 (args .m) (λ z. omega arith) (refused .ensures)
           (source-none (givenOf text (args .words .now) given) (view (args .m) O) (is-not-here (args .words .now) (args .m) (kind-at .ensures .0) (if1 .taken))),
-      subst (λ (a : Answer). Along (length (args .words .now)) (args .m) (a .m)) (sym (refused .ensures)) (along-moved (moved-same (pre .1))),
+      subst (λ (a : Answer). Along (length (args .words .now)) (args .m) (a .m) × (args .m .at < a .m .at + a .why)) (sym (refused .ensures)) (along-moved (moved-same (pre .1)), omega arith),
     )
 
 next-requires : tie.Need-next-requires
@@ -59,7 +59,7 @@ returns-2 c =
       λ text O given spelt.
           answer-refused (refused2 .result) 4 (nextMark (args .m)) (λ z. omega arith) is
           (source-other (givenOf text (args .words .now) given) (view (args .m) O) (is-here (args .words .now) (args .m) (kind-at .ensures .0) (if1 .left)) (not-at (args .words .now) Str (next .ensures) (kind-at2 .ensures .0) (if2 .taken))),
-      subst (λ (a : Answer). Along (length (args .words .now)) (args .m) (a .m)) (sym is) (along-moved (moved-next (pre .1) (omega (arith, kind-at .ensures .1, if1 .left)))),
+      subst (λ (a : Answer). Along (length (args .words .now)) (args .m) (a .m) × (args .m .at < a .m .at + a .why)) (sym is) (along-moved (moved-next (pre .1) (omega (arith, kind-at .ensures .1, if1 .left))), omega arith),
     )
 
 spell-requires : tie.Need-spell-requires
@@ -98,7 +98,7 @@ returns-3 c =
       λ text O given spelt.
           answer-refused (refused3 .result) 4 (namedMark (nextMark (args .m))) (λ z. omega arith) is
           (source-comma (givenOf text (args .words .now) given) (view (args .m) O) (is-here (args .words .now) (args .m) (kind-at .ensures .0) (if1 .left)) (is-at (args .words .now) Str (next .ensures) (kind-at2 .ensures .0) (if2 .left)) (is-at (args .words .now) Comma name (kind-at3 .ensures .0) (if3 .taken))),
-      subst (λ (a : Answer). Along (length (args .words .now)) (args .m) (a .m)) (sym is) (along-source (args .m) (pre .1) on),
+      subst (λ (a : Answer). Along (length (args .words .now)) (args .m) (a .m) × (args .m .at < a .m .at + a .why)) (sym is) (along-source (args .m) (pre .1) on, omega arith),
     )
 
 kind-at-requires-4 : tie.Need-kind-at-requires-4
@@ -131,7 +131,7 @@ returns-4 c =
       λ text O given spelt.
           answer-refused (refused4 .result) 3 (namedMark (nextMark (args .m))) (λ z. omega arith) is
           (source-open (givenOf text (args .words .now) given) (view (args .m) O) (is-here (args .words .now) (args .m) (kind-at .ensures .0) (if1 .left)) (is-at (args .words .now) Str (next .ensures) (kind-at2 .ensures .0) (if2 .left)) (not-at (args .words .now) Comma name (kind-at3 .ensures .0) (if3 .left)) (not-at (args .words .now) RParen name (kind-at4 .ensures .0) (if4 .taken))),
-      subst (λ (a : Answer). Along (length (args .words .now)) (args .m) (a .m)) (sym is) (along-source (args .m) (pre .1) on),
+      subst (λ (a : Answer). Along (length (args .words .now)) (args .m) (a .m) × (args .m .at < a .m .at + a .why)) (sym is) (along-source (args .m) (pre .1) on, omega arith),
     )
 
 next-requires-2 : tie.Need-next-requires-2
@@ -172,7 +172,7 @@ returns-5 c =
             such = tt;
             spoken = source-spoken text (args .words .now) given (args .m) O (next .ensures) (spell .ensures .1) spelt;
           }),
-      subst (λ (a : Answer). Along (length (args .words .now)) (args .m) (a .m)) (sym is) (along-then along (along-moved (moved-next (inside-along along) last))),
+      subst (λ (a : Answer). Along (length (args .words .now)) (args .m) (a .m) × (args .m .at < a .m .at + a .why)) (sym is) (along-then along (along-moved (moved-next (inside-along along) last)), omega arith),
     )
 
 pub import-source-spec : {M : Type 1} → statement M

@@ -44,7 +44,7 @@ returns c =
           names-behind
           (naming-typeof (givenOf text (args .words .now) given) (view (args .m) O) (is-here (args .words .now) (args .m) (kind-at .ensures .0) (if1 .taken)) ∙ ap (λ (q : Mark). naming.queryHead (givenOf text (args .words .now) given) (view q O)) (sym (next .ensures)))
           moved (query .ensures .0 text O given spelt),
-      (along-then (along-moved moved) (query .ensures .1 .0), query .ensures .1 .1),
+      (along-then (along-moved moved) (query .ensures .1 .0), query .ensures .1 .1, omega (arith, moved .ahead, query .ensures .1 .2)),
     )
 
 next-requires-2 : tie.Need-next-requires-2
@@ -77,7 +77,7 @@ returns-2 c =
           (naming-import (givenOf text (args .words .now) given) (view (args .m) O) (is-not-here (args .words .now) (args .m) (kind-at .ensures .0) (if1 .left)) (is-here (args .words .now) (args .m) (kind-at .ensures .0) (if2 .taken))
           ∙ ap (λ (q : Mark). naming.importHead (givenOf text (args .words .now) given) false (view q O)) (sym (next2 .ensures)))
           moved (import .ensures .0 text O given false refl spelt),
-      (along-then (along-moved moved) (import .ensures .1 .0), import .ensures .1 .1),
+      (along-then (along-moved moved) (import .ensures .1 .0), import .ensures .1 .1, omega (arith, moved .ahead, import .ensures .1 .2)),
     )
 
 reference-requires : tie.Need-reference-requires

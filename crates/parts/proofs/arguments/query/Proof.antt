@@ -47,7 +47,7 @@ returns c =
           names-behind
           (query-import (givenOf text (args .words .now) given) (view (args .m) O) (is-here (args .words .now) (args .m) (kind-at .ensures .0) (if1 .taken)) ∙ ap (λ (q : Mark). naming.importHead (givenOf text (args .words .now) given) true (view q O)) (sym (next .ensures)))
           moved (import .ensures .0 text O given true refl spelt),
-      (along-then (along-moved moved) (import .ensures .1 .0), import .ensures .1 .1),
+      (along-then (along-moved moved) (import .ensures .1 .0), import .ensures .1 .1, omega (arith, moved .ahead, import .ensures .1 .2)),
     )
 
 reference-requires : tie.Need-reference-requires

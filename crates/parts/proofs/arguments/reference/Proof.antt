@@ -1,5 +1,6 @@
 -- The names with dots between.
 use mathlib.Core.Path.{sym, subst}
+use Prim.Native.Nat.{_+_, _<_}
 use native.Mathlib.Omega.{arith}
 use lib.ListN.{length}
 use Rattle.parts.specs.Marks.{view, givenOf, Along}
@@ -28,7 +29,7 @@ returns c =
       λ text O given make d spelt.
           named-refused (refused .result) (dotted-name .result .why) (dotted-name .result .m) (if1 .taken) (refused .ensures)
           (reference-refused (givenOf text (args .words .now) given) (view (args .m) O) make (dotted-name .result .why) (dotted-name .result .m .at) (dotted-name .result .m .half) (dotted-name .ensures .0 text O given spelt .refused (if1 .taken))),
-      subst (λ (n : Named). Along (length (args .words .now)) (args .m) (n .m) × NamedSmall (length (args .words .now)) n) (sym (refused .ensures)) (dotted-name .ensures .1, record { choices = omega arith; scale = omega arith; count = omega arith }),
+      subst (λ (n : Named). Along (length (args .words .now)) (args .m) (n .m) × NamedSmall (length (args .words .now)) n × (args .m .at < n .m .at + n .why)) (sym (refused .ensures)) (dotted-name .ensures .1 .0, record { choices = omega arith; scale = omega arith; count = omega arith }, dotted-name .ensures .1 .1),
     )
 
 sub-t11 : tie.Need-sub-t11
@@ -44,7 +45,7 @@ returns-2 c =
     let dotted-name = c .before .before .before .before .before .before .before .dotted-name in
     let if1 = c .before .before .before .if1 in (
       λ text O given make d spelt. reference-read (givenOf text (args .words .now) given) (view (args .m) O) (args .choices) make (args .m) (dotted-name .result .m) d (dotted-name .ensures .0 text O given spelt .done (if1 .left)),
-      (dotted-name .ensures .1, record { choices = pre .4; scale = omega arith; count = omega (arith, dotted-name .ensures .1 .few, dotted-name .ensures .1 .inside) }),
+      (dotted-name .ensures .1 .0, record { choices = pre .4; scale = omega arith; count = omega (arith, dotted-name .ensures .1 .0 .few, dotted-name .ensures .1 .0 .inside) }, omega (arith, dotted-name .ensures .1 .1, if1 .left)),
     )
 
 pub reference-spec : {M : Type 1} → statement M

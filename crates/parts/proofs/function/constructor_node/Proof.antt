@@ -1,7 +1,8 @@
 -- The diagnostic has no record, or a list is too long, or the node.
-use mathlib.Core.Path.{sym, _∙_}
+use mathlib.Core.Path.{refl, sym, _∙_}
 use native.Mathlib.Omega.{arith}
-use Rattle.parts.specs.FunctionLaws.{constructor-stops, constructor-long, constructor-put, both-fit, fine-noted, reached-refused, reached-put, reached-reported}
+use Rattle.parts.specs.FunctionLaws.{constructor-stops, constructor-long, constructor-put, both-fit, reached-reported}
+use Rattle.parts.specs.MarkLaws.{fine-noted, reached-refused, reached-put}
 use borrow.Author.Needs.{needs}
 use Rattle.parts.proofs.function.constructor_node.Statement.{statement}
 use Rattle.parts.proofs.function.constructor_node.Tie as tie
@@ -42,7 +43,7 @@ returns-2 c =
     let refused = c .refused in
     rw (refused .ensures) (
       λ new. constructor-long (args .words .now) (args .given) (args .h) (args .there) (args .count) (args .p) (args .nodes .now) (args .notes .now) new (report-if .result) _ (report-if .ensures .0) (if1 .left) (sym (too-long .ensures) ∙ if2 .taken),
-      reached-refused _ _ 6 (omega (arith, report-if .ensures .1 .at-is, report-if .ensures .1 .half-is)) (omega (arith, report-if .ensures .1 .used-is)) (fine-noted (pre .3) (report-if .ensures .1)),
+      reached-refused 7 refl (fine-noted (pre .3) (report-if .ensures .1)) (omega (arith, report-if .ensures .1 .at-is, report-if .ensures .1 .half-is)) (omega (arith, report-if .ensures .1 .used-is)),
     )
 
 constructor-choices-requires : tie.Need-constructor-choices-requires
@@ -83,8 +84,8 @@ returns-3 c =
       λ new.
           constructor-put (args .words .now) (args .given) (args .h) (args .there) (args .count) (args .p) (args .nodes .now) (args .notes .now) new (report-if .result) _ (report-if .ensures .0) (if1 .left) (report-if .ensures .1) (sym (too-long .ensures) ∙ if2 .left)
           (constructor-choices .ensures) (put .ensures .0),
-      reached-put _ _ (omega (arith, report-if .ensures .1 .at-is, report-if .ensures .1 .half-is)) (omega (arith, report-if .ensures .1 .used-is))
-          (fine-noted (pre .3) (report-if .ensures .1)) (put .ensures .1),
+      reached-put (report-if .result .m) refl (fine-noted (pre .3) (report-if .ensures .1)) (omega (arith, report-if .ensures .1 .at-is, report-if .ensures .1 .half-is))
+          (omega (arith, report-if .ensures .1 .used-is)) (put .ensures .1),
     )
 
 pub constructor-node-spec : {M : Type 1} → statement M

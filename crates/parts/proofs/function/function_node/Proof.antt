@@ -1,7 +1,8 @@
 -- A constructor's node, or a list too long, or the node.
-use mathlib.Core.Path.{sym, _∙_}
+use mathlib.Core.Path.{refl, sym, _∙_}
 use native.Mathlib.Omega.{arith}
-use Rattle.parts.specs.FunctionLaws.{function-long, function-put, both-fit, reached-refused, reached-put}
+use Rattle.parts.specs.FunctionLaws.{function-long, function-put, both-fit}
+use Rattle.parts.specs.MarkLaws.{reached-refused, reached-put}
 use borrow.Author.Needs.{needs}
 use Rattle.parts.proofs.function.function_node.Statement.{statement}
 use Rattle.parts.proofs.function.function_node.Tie as tie
@@ -37,7 +38,7 @@ returns-2 c =
     let refused = c .refused in
     rw (refused .ensures) (
       function-long (args .words .now) (args .given) (args .h) (args .there) (args .count) (args .p) (args .nodes .now) (args .notes .now) (if1 .left) (sym (too-long .ensures) ∙ if2 .taken),
-      reached-refused _ _ 6 (omega arith) (omega arith) (pre .3),
+      reached-refused 7 refl (pre .3) (omega arith) (omega arith),
     )
 
 function-choices-requires : tie.Need-function-choices-requires
@@ -66,7 +67,7 @@ returns-3 c =
     let put = c .before .before .put in (
       function-put (args .words .now) (args .given) (args .h) (args .there) (args .count) (args .p) (args .nodes .now) (args .notes .now) (if1 .left) (sym (too-long .ensures) ∙ if2 .left)
           (function-choices .ensures) (put .ensures .0),
-      reached-put _ _ (omega arith) (omega arith) (pre .3) (put .ensures .1),
+      reached-put (args .p .m) refl (pre .3) (omega arith) (omega arith) (put .ensures .1),
     )
 
 pub function-node-spec : {M : Type 1} → statement M

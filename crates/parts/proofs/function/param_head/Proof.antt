@@ -8,8 +8,9 @@ use Rattle.words.specs.Kind.{Question, Dot3, This}
 use Rattle.words.specs.Test.{_and_}
 use Rattle.keys.specs.Bits.{unit}
 use Rattle.parts.specs.MarkLaws.{along-then, along-moved}
-use Rattle.parts.specs.HeadLaws.{names-stop, head-this, head-refused, head-read}
+use Rattle.parts.specs.HeadLaws.{head-this, parameter-head-refused, parameter-head-read}
 use Rattle.parts.specs.Lists.{here}
+use Rattle.parts.specs.StepLaws.{names-refused}
 use borrow.Author.Needs.{needs}
 use Rattle.parts.proofs.function.param_head.Statement.{statement}
 use Rattle.parts.proofs.function.param_head.Tie as tie
@@ -36,8 +37,8 @@ returns c =
     let refused = c .refused in
     let rest-is : eqb (kind-at .result) Dot3 ≡ here (args .words .now) Dot3 (args .m) = ap (λ (n : ℕ). eqb n Dot3) (kind-at .ensures .0) in
     let this-is : (here (args .words .now) Dot3 (args .m) and here (args .words .now) This (past .result)) ≡ true = ap (λ (b : Bool). b and here (args .words .now) This (past .result)) (sym rest-is) ∙ sym (this-after .ensures) ∙ if1 .taken in (
-      λ text O given s. rw (refused .ensures) (names-stop (λ z. omega arith) (head-this text (args .words .now) O given (args .m) (past .result) (past .ensures .0) this-is)),
-      rw (refused .ensures) (along-moved (past .ensures .1), omega arith),
+      λ text O given s. rw (refused .ensures) (names-refused (λ z. omega arith) (head-this text (args .words .now) O given (args .m) (past .result) (past .ensures .0) this-is)),
+      rw (refused .ensures) (along-moved (past .ensures .1), omega arith, omega (arith, past .ensures .1 .ahead)),
     )
 
 name-requires : tie.Need-name-requires
@@ -62,8 +63,8 @@ returns-2 c =
     let rest-is : eqb (kind-at .result) Dot3 ≡ here (args .words .now) Dot3 (args .m) = ap (λ (n : ℕ). eqb n Dot3) (kind-at .ensures .0) in
     let this-is : (here (args .words .now) Dot3 (args .m) and here (args .words .now) This (past .result)) ≡ false = ap (λ (b : Bool). b and here (args .words .now) This (past .result)) (sym rest-is) ∙ sym (this-after .ensures) ∙ if1 .left in (
       λ text O given s. rw (refused2 .ensures)
-          (names-stop (if2 .taken) (head-refused text (args .words .now) O given (args .m) (past .result) (past .ensures .0) this-is (name .ensures .0 text O given s) (if2 .taken))),
-      rw (refused2 .ensures) (along-then (along-moved (past .ensures .1)) (name .ensures .1), omega arith),
+          (names-refused (if2 .taken) (parameter-head-refused text (args .words .now) O given (args .m) (past .result) (past .ensures .0) this-is (name .ensures .0 text O given s) (if2 .taken))),
+      rw (refused2 .ensures) (along-then (along-moved (past .ensures .1)) (name .ensures .1 .0), omega arith, omega (arith, past .ensures .1 .ahead, name .ensures .1 .1)),
     )
 
 kind-at-requires-2 : tie.Need-kind-at-requires-2
@@ -103,10 +104,10 @@ returns-3 c =
     let rest-is : eqb (kind-at .result) Dot3 ≡ here (args .words .now) Dot3 (args .m) = ap (λ (n : ℕ). eqb n Dot3) (kind-at .ensures .0) in
     let this-is : (here (args .words .now) Dot3 (args .m) and here (args .words .now) This (past .result)) ≡ false = ap (λ (b : Bool). b and here (args .words .now) This (past .result)) (sym rest-is) ∙ sym (this-after .ensures) ∙ if1 .left in (
       λ text O given s.
-          head-read text (args .words .now) O given (args .m) (past .result) (past .ensures .0) this-is (name .ensures .0 text O given s) (past2 .result) _ (if2 .left) (past2 .ensures .0)
+          parameter-head-read text (args .words .now) O given (args .m) (past .result) (past .ensures .0) this-is (name .ensures .0 text O given s) (past2 .result) _ (if2 .left) (past2 .ensures .0)
           (past .ensures .1) (past2 .ensures .1)
           (ap₂ (λ (a b : ℕ). a + 2 * b) (bit .ensures .0 ∙ ap unit rest-is) (bit2 .ensures .0 ∙ ap unit (ap (λ (n : ℕ). eqb n Question) (kind-at2 .ensures .0)))),
-      (along-then (along-moved (past .ensures .1)) (along-then (name .ensures .1) (along-moved (past2 .ensures .1))), omega (arith, bit .ensures .1, bit2 .ensures .1)),
+      (along-then (along-moved (past .ensures .1)) (along-then (name .ensures .1 .0) (along-moved (past2 .ensures .1))), omega (arith, bit .ensures .1, bit2 .ensures .1), omega (arith, past .ensures .1 .ahead, name .ensures .1 .1, if2 .left, past2 .ensures .1 .ahead)),
     )
 
 pub param-head-spec : {M : Type 1} → statement M

@@ -1,4 +1,5 @@
 -- No modifier, then a name.
+use native.Mathlib.Omega.{arith}
 use Rattle.parts.specs.MarkLaws.{along-same}
 use Rattle.parts.specs.HeadLaws.{type-head-stops, type-head-says}
 use borrow.Author.Needs.{needs}
@@ -19,7 +20,7 @@ returns c =
     let if1 = c .before .if1 in
     let refused = c .refused in (
       λ text O given s. rw (refused .ensures) (type-head-stops text (args .words .now) O given (args .m) (varies .result) (varies .ensures text O given) (if1 .taken)),
-      rw (refused .ensures) (along-same (pre .2)),
+      rw (refused .ensures) (along-same (pre .2), omega (arith, if1 .taken)),
     )
 
 name-requires : tie.Need-name-requires

@@ -31,7 +31,7 @@ returns c =
       λ text O given t.
           says-next
           (subst (λ (p : Mark). SaysNames one Any (oneName 0 (givenOf text (args .words .now) given) (view p O)) (name .result .why) p (name .result .m) (args .names .now) (name .last .1 .1 .0) O) (next .ensures) (name .ensures .0 text O given t)),
-      subst (λ (p : Mark). Along (length (args .words .now)) p (name .result .m)) (next .ensures) (name .ensures .1),
+      subst (λ (p : Mark). Along (length (args .words .now)) p (name .result .m)) (next .ensures) (name .ensures .1 .0),
     )
 
 pub infer-head-spec : {M : Type 1} → statement M

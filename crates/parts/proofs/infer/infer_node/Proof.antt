@@ -9,7 +9,8 @@ use Rattle.parts.specs.Laid.{nameRun, runIn}
 use Rattle.parts.specs.BuiltLaws.{built-names, built-one}
 use Rattle.parts.specs.PostfixLaws.{shape-infer, shape-constrained}
 use Rattle.parts.specs.Infers.{Infers}
-use Rattle.parts.specs.LeafLaws.{under-none, reached-put, reached-less, makes-at}
+use Rattle.parts.specs.LeafLaws.{under-none, makes-at}
+use Rattle.parts.specs.MarkLaws.{reached-put}
 use borrow.Author.Needs.{needs}
 use Rattle.parts.proofs.infer.infer_node.Statement.{statement}
 use Rattle.parts.proofs.infer.infer_node.Tie as tie
@@ -37,7 +38,7 @@ returns c =
       subst (λ (d : Bool). Infers (args .words .now) (args .given) (args .b) d (args .high) (args .m) (args .q) (args .nodes .now) (put .result) (put .last .1 .0)) (sym (if1 .taken))
           (λ text B s M O n l.
           makes-at (args .words .now) (args .given) (args .b) 10 {q = args .m} (args .nodes .now) (put .result) (put .last .1 .0) (none .ensures) refl (put .ensures .0) text 0 B (nameRun s) 10 (join (spell s) (maybe absent)) M O (built-names (s ∷ []) l) n (shape-infer s)),
-      reached-put (args .m) refl (pre .2) (omega arith) (put .ensures .1),
+      reached-put (args .m) refl (pre .2) (omega arith) (omega arith) (put .ensures .1),
     )
 
 add-put-about : tie.Need-add-put-about
@@ -58,7 +59,7 @@ returns-2 c =
       subst (λ (d : Bool). Infers (args .words .now) (args .given) (args .b) d (args .high) (args .m) (args .q) (args .nodes .now) (put-about .result) (put-about .last .1 .0)) (sym (if1 .left))
           (λ text B s u M O n i h l.
           put-about .ensures .0 text 0 B (nameRun s ⊕ runIn 0 u) 10 (join (spell s) (maybe (present u))) M O (built-one (s ∷ []) i h l) n (shape-constrained s i)),
-      reached-less (omega arith) (omega (arith, pre .5)) (reached-put (args .q) refl (pre .3) (pre .4) (put-about .ensures .1)),
+      reached-put (args .q) refl (pre .3) (omega (arith, pre .4)) (omega (arith, pre .5)) (put-about .ensures .1),
     )
 
 pub infer-node-spec : {M : Type 1} → statement M

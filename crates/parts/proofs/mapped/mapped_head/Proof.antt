@@ -105,7 +105,7 @@ returns-3 c =
           (name .result .why) (name .result .m .at) (name .result .m .half)
           (is-here (args .words .now) (modifier .result .m) (kind-at .ensures .0) (if2 .left))
           (ap (λ (q : Mark). oneName 0 (givenOf text (args .words .now) given) (view q O)) (sym (next2 .ensures)) ∙ name .ensures .0 text O given spelt .refused (if3 .taken))),
-      subst (λ (h : Head). Along (length (args .words .now)) (nextMark (args .m)) (h .m) × (h .choices ≤ 3)) (sym (refused2 .ensures)) (along-then (along-moved inner) (name .ensures .1), omega arith),
+      subst (λ (h : Head). Along (length (args .words .now)) (nextMark (args .m)) (h .m) × (h .choices ≤ 3)) (sym (refused2 .ensures)) (along-then (along-moved inner) (name .ensures .1 .0), omega arith),
     )
 
 kind-at-requires-2 : tie.Need-kind-at-requires-2
@@ -142,14 +142,14 @@ returns-4 c =
           (is-here (args .words .now) (modifier .result .m) (kind-at .ensures .0) (if2 .left))
           (ap (λ (q : Mark). oneName 0 (givenOf text (args .words .now) given) (view q O)) (sym (next2 .ensures)) ∙ v .is)
           (is-not-here (args .words .now) (name .result .m) (kind-at2 .ensures .0) (if4 .taken))),
-      subst (λ (h : Head). Along (length (args .words .now)) (nextMark (args .m)) (h .m) × (h .choices ≤ 3)) (sym (refused3 .ensures)) (along-then (along-moved inner) (name .ensures .1), omega arith),
+      subst (λ (h : Head). Along (length (args .words .now)) (nextMark (args .m)) (h .m) × (h .choices ≤ 3)) (sym (refused3 .ensures)) (along-then (along-moved inner) (name .ensures .1 .0), omega arith),
     )
 
 next-requires-3 : tie.Need-next-requires-3
 next-requires-3 c κs =
     let pre = c .before .before .before .before .before .before .before .before .before .before .before .before .before .before .before .before .before .before .before .pre in
     let name = c .before .before .before .before .before .before .before .name in
-    omega (arith, name .ensures .1 .inside, pre .1 .few)
+    omega (arith, name .ensures .1 .0 .inside, pre .1 .few)
 
 same-length-3 : tie.Need-same-length-3
 same-length-3 c = search needs
@@ -170,7 +170,7 @@ returns-5 c =
     let next3 = c .next3 in
     let moved : Moved (length (args .words .now)) (nextMark (args .m)) (modifier .result .m) = subst (λ (q : Mark). Moved (length (args .words .now)) q (modifier .result .m)) (next .ensures) (modifier .ensures .1 .0) in
     let inner : Moved (length (args .words .now)) (nextMark (args .m)) (next2 .result) = moved-then moved (moved-taken (next2 .ensures) (inside-moved moved) (omega arith)) in
-    let last : Moved (length (args .words .now)) (name .result .m) (next3 .result) = moved-taken (next3 .ensures) (inside-along (name .ensures .1)) (omega (arith, kind-at2 .ensures .1, if4 .left)) in (
+    let last : Moved (length (args .words .now)) (name .result .m) (next3 .result) = moved-taken (next3 .ensures) (inside-along (name .ensures .1 .0)) (omega (arith, kind-at2 .ensures .1, if4 .left)) in (
       λ text O given spelt.
           let v = name .ensures .0 text O given spelt .done (if3 .left) in
           names-read
@@ -187,7 +187,7 @@ returns-5 c =
             such = refl;
             spoken = spoken-from (args .m) refl refl refl (spoken-between inner last (v .spoken));
           }),
-      (along-then (along-moved inner) (along-then (name .ensures .1) (along-moved last)), modifier .ensures .1 .1),
+      (along-then (along-moved inner) (along-then (name .ensures .1 .0) (along-moved last)), modifier .ensures .1 .1),
     )
 
 pub mapped-head-spec : {M : Type 1} → statement M

@@ -7,7 +7,8 @@ use Rattle.words.specs.Kind.{RBrack, Question}
 use Rattle.rules.specs.Mapped as rule
 use Rattle.parts.specs.Marks.{view, givenOf, Moved}
 use Rattle.parts.specs.MarkLaws.{is-here, is-not-here, moved-same}
-use Rattle.parts.specs.StepLaws.{expect-taken, expect-refused, number-refused, number-same, moved-taken, moved-then, inside-taken}
+use Rattle.parts.specs.StepLaws.{number-refused, number-same, moved-taken, moved-then, inside-taken}
+use Rattle.parts.specs.RingLaws.{expect-yes, expect-no}
 use Rattle.parts.specs.declared.state.Head.{Head}
 use Rattle.parts.specs.declared.state.Mark.{Mark}
 use borrow.Author.Needs.{needs}
@@ -29,7 +30,7 @@ returns c =
     let refused = c .refused in (
       λ text O given.
           number-refused 2 (args .m) (refused .ensures)
-          (expect-refused (givenOf text (args .words .now) given) RBrack (view (args .m) O) (rule.modifier (givenOf text (args .words .now) given) Question) (is-not-here (args .words .now) (args .m) (kind-at .ensures .0) (if1 .taken))),
+          (expect-no (givenOf text (args .words .now) given) RBrack (view (args .m) O) (rule.modifier (givenOf text (args .words .now) given) Question) (is-not-here (args .words .now) (args .m) (kind-at .ensures .0) (if1 .taken))),
       subst (λ (h : Head). Moved (length (args .words .now)) (args .m) (h .m) × (h .choices ≤ 3)) (sym (refused .ensures)) (moved-same (pre .1), omega arith),
     )
 
@@ -53,7 +54,7 @@ returns-2 c =
     let modifier = c .modifier in (
       λ text O given.
           number-same
-          (expect-taken (givenOf text (args .words .now) given) RBrack (view (args .m) O) (rule.modifier (givenOf text (args .words .now) given) Question) (is-here (args .words .now) (args .m) (kind-at .ensures .0) (if1 .left))
+          (expect-yes (givenOf text (args .words .now) given) RBrack (view (args .m) O) (rule.modifier (givenOf text (args .words .now) given) Question) (is-here (args .words .now) (args .m) (kind-at .ensures .0) (if1 .left))
           ∙ ap (λ (q : Mark). rule.modifier (givenOf text (args .words .now) given) Question (view q O)) (sym (next .ensures)))
           (modifier .ensures .0 text O given),
       (moved-then (moved-taken (next .ensures) (pre .1) (omega arith)) (modifier .ensures .1 .0), modifier .ensures .1 .1),

@@ -1,17 +1,16 @@
 -- Past the semicolon, the closing mark, then the node.
-use mathlib.Core.Path.{sym, subst}
+use mathlib.Core.Path.{refl, sym, subst}
 use mathlib.Core.List.{[]}
-use Prim.Native.Nat.{ℕ, _+_}
+use Prim.Native.Nat.{ℕ}
 use native.Mathlib.Omega.{arith}
 use lib.ListN.{length}
 use Rattle.keys.specs.Placed.{tree}
 use Rattle.rules.specs.State.{make, end}
-use Rattle.parts.specs.Marks.{givenOf, Moved, Under, Reached, placeOf}
+use Rattle.parts.specs.Marks.{givenOf, Moved, Under}
 use Rattle.parts.specs.Answers.{says-same, says-as, says-refused}
-use Rattle.parts.specs.MarkLaws.{is-here, is-not-here}
-use Rattle.parts.specs.StepLaws.{built-at, moved-taken, moved-then, inside-moved, fine-moved, reached-refused, reached-put}
+use Rattle.parts.specs.MarkLaws.{is-here, is-not-here, reached-refused, reached-put}
+use Rattle.parts.specs.StepLaws.{built-at, moved-taken, moved-then, inside-moved, fine-moved}
 use Rattle.parts.specs.MappingLaws.{curly-refused, curly-taken}
-use Rattle.parts.specs.declared.state.Answer.{Answer}
 use borrow.Author.Needs.{needs}
 use Rattle.parts.proofs.mapped.mapped_node.Statement.{statement}
 use Rattle.parts.proofs.mapped.mapped_node.Tie as tie
@@ -38,7 +37,7 @@ returns c =
           (says-refused 2
           (curly-refused text (args .words .now) (args .given) (args .m) (past .result) O (λ q. make (givenOf text (args .words .now) (args .given)) [] (tree tag (args .b .first) (end (givenOf text (args .words .now) (args .given)) q) p) q) (past .ensures .0)
           (is-not-here (args .words .now) (past .result) (kind-at .ensures .0) (if1 .taken)))),
-      subst (λ (a : Answer). Reached (length (args .words .now)) (args .given) (placeOf (args .m)) (args .m .used + 1) (a .high) (a .why) (a .m)) (sym (refused .ensures)) (reached-refused (pre .2) (past .ensures .1) 2),
+      reached-refused 3 (refused .ensures) (fine-moved (pre .2) (past .ensures .1)) (omega (arith, past .ensures .1 .onward)) (omega (arith, past .ensures .1 .used-is)),
     )
 
 next-requires : tie.Need-next-requires
@@ -71,7 +70,7 @@ returns-2 c =
           (curly-taken text (args .words .now) (args .given) (args .m) (past .result) O (λ q. make (givenOf text (args .words .now) (args .given)) [] (tree tag (args .b .first) (end (givenOf text (args .words .now) (args .given)) q) p) q) (past .ensures .0)
           (next .result) (next .ensures) (is-here (args .words .now) (past .result) (kind-at .ensures .0) (if1 .left)))
           (put .ensures .0 text 0 B t tag p M O (built-at (args .m) (next .result) (moved .used-is) (moved .named-is) (moved .noted-is) b) n s),
-      reached-put (pre .2) moved (put .ensures .1),
+      reached-put (next .result) refl (fine-moved (pre .2) moved) (omega (arith, moved .onward)) (omega (arith, moved .used-is)) (put .ensures .1),
     )
 
 pub mapped-node-spec : {M : Type 1} → statement M

@@ -6,7 +6,8 @@ use lib.ListN.{length}
 use Rattle.rules.specs.State.{read}
 use Rattle.parts.specs.Marks.{view, givenOf, Moved}
 use Rattle.parts.specs.MarkLaws.{is-here, is-not-here, moved-same}
-use Rattle.parts.specs.StepLaws.{expect-taken, expect-refused, number-read, number-refused, moved-taken}
+use Rattle.parts.specs.StepLaws.{number-read, number-refused, moved-taken}
+use Rattle.parts.specs.RingLaws.{expect-yes, expect-no}
 use Rattle.parts.specs.declared.state.Head.{Head}
 use borrow.Author.Needs.{needs}
 use Rattle.parts.proofs.mapped.signed.Statement.{statement}
@@ -27,7 +28,7 @@ returns c =
     let refused = c .refused in (
       λ text O given.
           number-refused 2 (args .m) (refused .ensures)
-          (expect-refused (givenOf text (args .words .now) given) (args .kind) (view (args .m) O) (read (args .choices)) (is-not-here (args .words .now) (args .m) (kind-at .ensures .0) (if1 .taken))),
+          (expect-no (givenOf text (args .words .now) given) (args .kind) (view (args .m) O) (read (args .choices)) (is-not-here (args .words .now) (args .m) (kind-at .ensures .0) (if1 .taken))),
       subst (λ (h : Head). Moved (length (args .words .now)) (args .m) (h .m) × (h .choices ≤ 3)) (sym (refused .ensures)) (moved-same (pre .1), omega arith),
     )
 
@@ -43,7 +44,7 @@ returns-2 c =
     let next = c .next in (
       λ text O given.
           number-read (args .choices) (next .ensures)
-          (expect-taken (givenOf text (args .words .now) given) (args .kind) (view (args .m) O) (read (args .choices)) (is-here (args .words .now) (args .m) (kind-at .ensures .0) (if1 .left))),
+          (expect-yes (givenOf text (args .words .now) given) (args .kind) (view (args .m) O) (read (args .choices)) (is-here (args .words .now) (args .m) (kind-at .ensures .0) (if1 .left))),
       (moved-taken (next .ensures) (pre .1) (omega arith), pre .3),
     )
 

@@ -70,7 +70,7 @@ returns c =
     let if2 = c .if2 in
     let there : loop .p .at < length (args .words .now) = omega (arith, kind-at .ensures .1, if1 .taken) in (
       λ text O given l w. dotting-stop (loop .inv .2 text O given l w) (next .ensures) (is-here (args .words .now) (loop .p) (kind-at .ensures .0) (if1 .taken)) (name .ensures .0 text O given w) (if2 .taken),
-      along-then (loop .inv .1) (along-then (along-moved (moved-next (inside-along (loop .inv .1)) there)) (subst (λ (q : Mark). Along (length (args .words .now)) q (name .result .m)) (next .ensures) (name .ensures .1))),
+      along-then (loop .inv .1) (along-then (along-moved (moved-next (inside-along (loop .inv .1)) there)) (subst (λ (q : Mark). Along (length (args .words .now)) q (name .result .m)) (next .ensures) (name .ensures .1 .0))),
     )
 
 loop-less : tie.Need-loop-less Inv-loop μ-loop
@@ -79,7 +79,7 @@ loop-less c =
     let if1 = c .before .before .before .before .before .before .before .before .if1 in
     let next = c .before .before .before .before .before .before .next in
     let name = c .before .before .before .before .before .name in
-    omega (arith, kind-at .ensures .1, if1 .taken, ap (λ (q : Mark). q .at) (next .ensures), name .ensures .1 .ahead)
+    omega (arith, kind-at .ensures .1, if1 .taken, ap (λ (q : Mark). q .at) (next .ensures), name .ensures .1 .0 .ahead)
 
 loop-again : tie.Need-loop-again Inv-loop μ-loop
 loop-again c =
@@ -91,7 +91,7 @@ loop-again c =
     let name = c .before .before .before .before .before .name in
     let if2 = c .before .if2 in
     let there : loop .p .at < length (args .words .now) = omega (arith, kind-at .ensures .1, if1 .taken) in
-    let on : Along (length (args .words .now)) (nextMark (loop .p)) (name .result .m) = subst (λ (q : Mark). Along (length (args .words .now)) q (name .result .m)) (next .ensures) (name .ensures .1) in (
+    let on : Along (length (args .words .now)) (nextMark (loop .p)) (name .result .m) = subst (λ (q : Mark). Along (length (args .words .now)) q (name .result .m)) (next .ensures) (name .ensures .1 .0) in (
       name .kept .1 .1 .0 ∙ loop .inv .0,
       along-then (loop .inv .1) (along-then (along-moved (moved-next (inside-along (loop .inv .1)) there)) on),
       λ text O given l w. dotting-step (loop .inv .2 text O given l w) (next .ensures) (is-here (args .words .now) (loop .p) (kind-at .ensures .0) (if1 .taken)) there (omega (arith, on .ahead)) (name .ensures .0 text O given w) (if2 .left),

@@ -1,5 +1,6 @@
 -- A name, then dots.
 use mathlib.Core.List.{[], _∷_}
+use native.Mathlib.Omega.{arith}
 use Rattle.parts.specs.Marks.{givenOf, view}
 use Rattle.parts.specs.MarkLaws.{along-then}
 use Rattle.parts.specs.NameLaws.{dotted-refused, says-dotted}
@@ -41,7 +42,7 @@ returns-2 c =
       λ text O given w.
           let got = name .ensures .0 text O given w .done (if1 .left) in
           says-dotted (givenOf text (args .words .now) given) got (dots .ensures .0 text O given (got .what ∷ []) w),
-      along-then (name .ensures .1) (dots .ensures .1),
+      (along-then (name .ensures .1 .0) (dots .ensures .1), omega (arith, name .ensures .1 .1, if1 .left, dots .ensures .1 .ahead)),
     )
 
 pub dotted-name-spec : {M : Type 1} → statement M

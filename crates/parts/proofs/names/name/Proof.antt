@@ -1,5 +1,6 @@
 -- Refused, or spelled.
 use mathlib.Core.Path.{sym, ap, _∙_, subst}
+use Prim.Native.Nat.{_+_, _<_}
 use native.Mathlib.Omega.{arith}
 use lib.ListN.{length}
 use borrow.Author.Tests.{not-true, not-false}
@@ -37,7 +38,7 @@ returns c =
     let refused = c .refused in
     let no = sym (ap (inClass (args .class)) (kind-at .ensures .0)) ∙ sym (in-class .ensures) ∙ not-true (in-class .result) (if1 .taken) in (
       λ text O given w. says-unnamed (args .class) (args .words .now) text O (args .names .now) given no (refused .ensures),
-      subst (λ (a : Answer). Along (length (args .words .now)) (args .m) (a .m)) (sym (refused .ensures)) (along-same (pre .2)),
+      subst (λ (a : Answer). Along (length (args .words .now)) (args .m) (a .m) × (args .m .at < a .m .at + a .why)) (sym (refused .ensures)) (along-same (pre .2), omega arith),
     )
 
 spell-requires : tie.Need-spell-requires
@@ -69,7 +70,7 @@ returns-2 c =
     let some = class-some (args .class) (kind-at .result) (pre .4) (sym (in-class .ensures) ∙ not-false (in-class .result) (if1 .left)) in
     let e = taken .ensures ∙ ap (λ (q : Mark). takenAt q) (spell .ensures .0) in (
       λ text O given w. says-named (args .class) text O given yes e (spell .ensures .1) w,
-      subst (λ (a : Answer). Along (length (args .words .now)) (args .m) (a .m)) (sym e) (along-named (pre .2) (omega (arith, some, kind-at .ensures .1))),
+      subst (λ (a : Answer). Along (length (args .words .now)) (args .m) (a .m) × (args .m .at < a .m .at + a .why)) (sym e) (along-named (pre .2) (omega (arith, some, kind-at .ensures .1)), omega arith),
     )
 
 pub name-spec : {M : Type 1} → statement M

@@ -7,8 +7,9 @@ use Rattle.keys.specs.Placed.{tree}
 use Rattle.parts.specs.Marks.{givenOf, view, nextMark}
 use Rattle.parts.specs.Answers.{says-same, says-as, says-refused}
 use Rattle.parts.specs.PrimaryLaws.{eq-at, ne-at}
-use Rattle.parts.specs.PostfixLaws.{square-close}
-use Rattle.parts.specs.LeafLaws.{fine-next, reached-put, reached-stop, makes-at}
+use Rattle.parts.specs.LeafLaws.{fine-next, makes-at}
+use Rattle.parts.specs.MarkLaws.{reached-put, reached-refused}
+use Rattle.parts.specs.RingLaws.{expect-yes}
 use borrow.Author.Needs.{needs}
 use Rattle.parts.proofs.postfix.bracketed.Statement.{statement}
 use Rattle.parts.proofs.postfix.bracketed.Tie as tie
@@ -26,7 +27,7 @@ returns c =
     let if1 = c .before .if1 in
     let refused = c .refused in (
       λ text B t tag p M O d n z. says-as (refused .ensures) (says-refused 2 (rw (ne-at 19 (kind-at .ensures .0) (if1 .taken)))),
-      reached-stop 3 (refused .ensures) (pre .2) (omega arith) (omega arith),
+      reached-refused 3 (refused .ensures) (pre .2) (omega arith) (omega arith),
     )
 
 next-requires : tie.Need-next-requires
@@ -54,9 +55,9 @@ returns-2 c =
       λ text B t tag p M O d n z.
           let g = givenOf text (args .words .now) (args .given) in
           let s = view (args .m) O in
-          says-same (square-close g s (λ q. make g [] (tree tag (args .b .first) (end g q) p) q) (eq-at 19 (kind-at .ensures .0) (if1 .left)))
+          says-same (expect-yes g 19 s (λ q. make g [] (tree tag (args .b .first) (end g q) p) q) (eq-at 19 (kind-at .ensures .0) (if1 .left)))
           (makes-at (args .words .now) (args .given) (args .b) (args .choices) (args .nodes .now) (put .result) (put .last .1 .0) refl (next .ensures) (put .ensures .0) text 0 B t tag p M O d n z),
-      reached-put (nextMark (args .m)) (next .ensures) (fine-next (pre .2) (omega (arith, kind-at .ensures .1, if1 .left))) (omega (arith, pre .2 .half)) (put .ensures .1),
+      reached-put (nextMark (args .m)) (next .ensures) (fine-next (pre .2) (omega (arith, kind-at .ensures .1, if1 .left))) (omega (arith, pre .2 .half)) (omega arith) (put .ensures .1),
     )
 
 pub bracketed-spec : {M : Type 1} → statement M

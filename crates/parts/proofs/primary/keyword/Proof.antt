@@ -9,7 +9,8 @@ use Rattle.parts.specs.Marks.{givenOf, view, nextMark}
 use Rattle.parts.specs.Laid.{Shape}
 use Rattle.parts.specs.Answers.{says-same}
 use Rattle.parts.specs.PrimaryLaws.{shape-keyword, keyword-is}
-use Rattle.parts.specs.LeafLaws.{fine-next, under-none, reached-put, plain-says}
+use Rattle.parts.specs.LeafLaws.{fine-next, under-none, plain-says}
+use Rattle.parts.specs.MarkLaws.{reached-put}
 use Rattle.rules.specs.Primary as rule
 use borrow.Author.Needs.{needs}
 use Rattle.parts.proofs.primary.keyword.Statement.{statement}
@@ -71,7 +72,7 @@ returns c =
           (subst (λ (x : ℕ). Shape 0 2 (number x) done (2 + 64 * keyword-number .result)) (keyword-number .ensures .0 ∙ ap (λ (k : ℕ). position k rule.keywords) (kind-at .ensures .0)) (shape-keyword (keyword-number .result)))
           (put .ensures .0)
           text M O),
-      reached-put (nextMark (args .m)) (next .ensures) (fine-next (pre .2) (pre .3)) (omega arith) (put .ensures .1),
+      reached-put (nextMark (args .m)) (next .ensures) (fine-next (pre .2) (pre .3)) (omega arith) (omega arith) (put .ensures .1),
     )
 
 pub keyword-spec : {M : Type 1} → statement M

@@ -10,7 +10,8 @@ use Rattle.parts.specs.Laid.{nameRun, Shape}
 use Rattle.parts.specs.Primaries.{literalChoices, SaysNegative}
 use Rattle.parts.specs.Answers.{says-same}
 use Rattle.parts.specs.PrimaryLaws.{eq-at, shape-truth, literal-true, literal-false, literal-minus, literal-named, minus-next, negative-is}
-use Rattle.parts.specs.LeafLaws.{fine-next, under-none, reached-put, reached-less, plain-says}
+use Rattle.parts.specs.LeafLaws.{fine-next, under-none, plain-says}
+use Rattle.parts.specs.MarkLaws.{reached-put, reached-less}
 use Rattle.rules.specs.Primary as rule
 use Rattle.rules.specs.State as state
 use Rattle.parts.specs.declared.state.Mark.{Mark}
@@ -65,7 +66,7 @@ returns c =
           (shape-truth 3)
           (put .ensures .0)
           text (args .names .now) O),
-      reached-put (nextMark (args .m)) (next .ensures) (fine-next (pre .2) (pre .3)) (omega arith) (put .ensures .1),
+      reached-put (nextMark (args .m)) (next .ensures) (fine-next (pre .2) (pre .3)) (omega arith) (omega arith) (put .ensures .1),
     )
 
 none-requires-2 : tie.Need-none-requires-2
@@ -109,7 +110,7 @@ returns-2 c =
           (shape-truth 4)
           (put2 .ensures .0)
           text (args .names .now) O),
-      reached-put (nextMark (args .m)) (next2 .ensures) (fine-next (pre .2) (pre .3)) (omega arith) (put2 .ensures .1),
+      reached-put (nextMark (args .m)) (next2 .ensures) (fine-next (pre .2) (pre .3)) (omega arith) (omega arith) (put2 .ensures .1),
     )
 
 next-requires-3 : tie.Need-next-requires-3

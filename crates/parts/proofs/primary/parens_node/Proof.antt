@@ -1,14 +1,13 @@
 -- No `)`; a node about the type; or the type itself.
 use mathlib.Core.Path.{sym, ap, subst}
-use Prim.Native.Nat.{_+_, _*_}
 use native.Mathlib.Omega.{arith}
-use Rattle.keys.specs.Placed.{tree}
 use Rattle.parts.specs.Marks.{givenOf, view, nextMark}
 use Rattle.parts.specs.Says.{Says}
 use Rattle.parts.specs.Primaries.{closeParens}
 use Rattle.parts.specs.Answers.{says-same, says-as, says-refused, says-read}
 use Rattle.parts.specs.PrimaryLaws.{eq-at, ne-at, shape-parens, parens-kept, parens-dropped}
-use Rattle.parts.specs.LeafLaws.{fine-next, oneKid, reached-put, reached-stop, reached-less, about-says, stands-on}
+use Rattle.parts.specs.LeafLaws.{fine-next, oneKid, about-says, stands-on}
+use Rattle.parts.specs.MarkLaws.{reached-put, reached-refused}
 use Rattle.parts.specs.declared.state.Mark.{Mark}
 use borrow.Author.Needs.{needs}
 use Rattle.parts.proofs.primary.parens_node.Statement.{statement}
@@ -27,7 +26,7 @@ returns c =
     let if1 = c .before .if1 in
     let refused = c .refused in (
       λ text B t M O st n. says-as (refused .ensures) (says-refused 2 (rw (ne-at 21 (kind-at .ensures .0) (if1 .taken)))),
-      reached-stop 3 (refused .ensures) (pre .2) (omega arith) (omega arith),
+      reached-refused 3 (refused .ensures) (pre .2) (omega arith) (omega arith),
     )
 
 next-requires : tie.Need-next-requires
@@ -58,7 +57,7 @@ returns-2 c =
           let s = view (args .m) O in
           says-same (parens-kept g (args .b .first) t s (eq-at 21 (kind-at .ensures .0) (if1 .left)) (if2 .taken))
           (about-says (args .words .now) (args .given) (args .b) 4 (args .m) (args .nodes .now) (put-about .result) (put-about .last .1 .0) text M O (ap (λ (x : Mark). oneKid (x .used) (args .high)) (next .ensures)) (next .ensures) st n (shape-parens (st .is-node)) (put-about .ensures .0)),
-      reached-less {on = args .m .at * 2 + args .m .half} (omega arith) (omega arith) (reached-put (nextMark (args .m)) (next .ensures) (fine-next (pre .2) (omega (arith, kind-at .ensures .1, if1 .left))) (omega (arith, pre .2 .half)) (put-about .ensures .1)),
+      reached-put (nextMark (args .m)) (next .ensures) (fine-next (pre .2) (omega (arith, kind-at .ensures .1, if1 .left))) (omega (arith, pre .2 .half)) (omega arith) (put-about .ensures .1),
     )
 
 returns-3 : tie.Need-returns-3

@@ -1,7 +1,8 @@
 -- The name, and the node over it.
 use native.Mathlib.Omega.{arith}
 use Rattle.parts.specs.Marks.{namedMark}
-use Rattle.parts.specs.LeafLaws.{fine-named, under-none, reached-put, named-says}
+use Rattle.parts.specs.LeafLaws.{fine-named, under-none, named-says}
+use Rattle.parts.specs.MarkLaws.{reached-put}
 use borrow.Author.Needs.{needs}
 use Rattle.parts.proofs.primary.spelled.Statement.{statement}
 use Rattle.parts.proofs.primary.spelled.Tie as tie
@@ -33,7 +34,7 @@ returns c =
     let none = c .before .before .before .none in
     let put = c .before .before .put in (
       named-says (args .words .now) (args .given) (args .b) (args .choices) (args .m) (args .nodes .now) (put .result) (put .last .1 .0) (none .ensures) (spell .ensures .0) (spell .ensures .1) (put .ensures .0),
-      reached-put (namedMark (args .m)) (spell .ensures .0) (fine-named (pre .2) (pre .3)) (omega arith) (put .ensures .1),
+      reached-put (namedMark (args .m)) (spell .ensures .0) (fine-named (pre .2) (pre .3)) (omega arith) (omega arith) (put .ensures .1),
     )
 
 pub spelled-spec : {M : Type 1} → statement M

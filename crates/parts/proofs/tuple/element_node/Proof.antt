@@ -1,5 +1,5 @@
 -- A member, a rest, or the type itself.
-use mathlib.Core.Path.{sym, _∙_, subst}
+use mathlib.Core.Path.{refl, sym, _∙_, subst}
 use mathlib.Core.List.{List, []}
 use native.Mathlib.Omega.{arith}
 use Rattle.keys.specs.Placed.{Spelling}
@@ -8,7 +8,8 @@ use Rattle.parts.specs.Marks.{view}
 use Rattle.parts.specs.Laid.{runIn, namesRun, Laid}
 use Rattle.parts.specs.Answers.{says-same}
 use Rattle.parts.specs.LabelLaws.{after-label, after-rest, after-type, names-label, names-none}
-use Rattle.parts.specs.MemberLaws.{says-type, says-rest, reached-put}
+use Rattle.parts.specs.MemberLaws.{says-type, says-rest}
+use Rattle.parts.specs.MarkLaws.{reached-put}
 use borrow.Author.Needs.{needs}
 use Rattle.parts.proofs.tuple.element_node.Statement.{statement}
 use Rattle.parts.proofs.tuple.element_node.Tie as tie
@@ -52,7 +53,7 @@ returns-2 c =
           (says-rest (args .words .now) (args .given) (args .l .b) (args .a .high) (args .a .m) (args .nodes .now) (put-about .result) _ text B t M (args .notes .now) (put-about .ensures .0) i h
           (subst (λ (l : List Spelling). Laid B (namesRun l ⊕ runIn 0 t) (args .a .m .used) (args .a .m .named) (args .a .m .noted) (args .nodes .now) M (args .notes .now)) (names-none text (args .words .now) (args .given) T m (args .l) s is (record { at-is = sa; half-is = sh }) same (if1 .left)) d)
           (is .name-is ∙ sym bn))),
-      reached-put (pre .3) (put-about .ensures .1),
+      reached-put (args .a .m) refl (pre .3) (omega arith) (omega arith) (put-about .ensures .1),
     )
 
 convert-type-to-tuple-element-requires : tie.Need-convert-type-to-tuple-element-requires

@@ -1,6 +1,6 @@
 -- The tag first, then the `?` bit of a member.
 use mathlib.Core.Path.{sym, _∙_}
-use Rattle.parts.specs.ElementLaws.{optional-tag, optional-none, optional-bit}
+use Rattle.parts.specs.ElementLaws.{optional-tag, optional-not, optional-bit}
 use borrow.Author.Needs.{needs}
 use Rattle.parts.proofs.tuple.is_optional.Statement.{statement}
 use Rattle.parts.proofs.tuple.is_optional.Tie as tie
@@ -19,7 +19,7 @@ returns-2 c =
     let last-tag = c .before .before .last-tag in
     let if1 = c .before .if1 in
     let if2 = c .if2 in
-    optional-none _ (λ z. if1 .left (last-tag .ensures ∙ z)) (λ z. if2 .taken (last-tag .ensures ∙ z))
+    optional-not _ (λ z. if1 .left (last-tag .ensures ∙ z)) (λ z. if2 .taken (last-tag .ensures ∙ z))
 
 mul-i : tie.Need-mul-i
 mul-i c = search needs

@@ -1,8 +1,10 @@
 -- Each refusal on the way, and then what becomes of the member.
-use mathlib.Core.Path.{sym, ap₂, _∙_}
+use mathlib.Core.Path.{refl, sym, ap₂, _∙_}
 use native.Mathlib.Omega.{arith}
 use Rattle.words.specs.Cursor.{endByte}
-use Rattle.parts.specs.MemberLaws.{member-refused, member-dots, member-asked, member-rest, fine-noted, fine-put, reached-put, reached-noted, reached-from, reports-high}
+use Rattle.parts.specs.MemberLaws.{member-refused, member-dots, member-asked, member-rest, reached-noted}
+use Rattle.parts.specs.MarkLaws.{fine-noted, fine-put, reached-put, reached-less}
+use Rattle.parts.specs.ReportLaws.{reports-high}
 use borrow.Author.Needs.{needs}
 use Rattle.parts.proofs.tuple.member.Statement.{statement}
 use Rattle.parts.proofs.tuple.member.Tie as tie
@@ -23,7 +25,7 @@ returns c =
     let convert-type-to-tuple-element = c .before .before .before .before .before .before .before .before .convert-type-to-tuple-element in
     let member-node = c .before .before .before .before .member-node in
     let if1 = c .if1 in
-    (member-refused (args .words .now) (args .given) (args .l) (args .a) (args .nodes .now) (args .notes .now) (convert-type-to-tuple-element .result) _ (member-node .result) _ (convert-type-to-tuple-element .ensures) (member-node .ensures .0) (if1 .taken) (args .notes .now), reached-put (pre .3) (member-node .ensures .1))
+    (member-refused (args .words .now) (args .given) (args .l) (args .a) (args .nodes .now) (args .notes .now) (convert-type-to-tuple-element .result) _ (member-node .result) _ (convert-type-to-tuple-element .ensures) (member-node .ensures .0) (if1 .taken) (args .notes .now), reached-put (args .a .m) refl (pre .3) (omega arith) (omega arith) (member-node .ensures .1))
 
 end-byte-requires : tie.Need-end-byte-requires
 end-byte-requires c κs = search needs
@@ -49,7 +51,7 @@ returns-2 c =
     let if2 = c .if2 in (
       member-dots (args .words .now) (args .given) (args .l) (args .a) (args .nodes .now) (args .notes .now) (convert-type-to-tuple-element .result) _ (member-node .result) _ (convert-type-to-tuple-element .ensures) (member-node .ensures .0)
           (end-byte .result) (report-if .result) _ (if1 .left) (ap₂ (endByte (args .words .now)) (member-node .ensures .1 .at-is) (member-node .ensures .1 .half-is) ∙ sym (end-byte .ensures .0)) (report-if .ensures .0) (if2 .taken),
-      reached-from (args .a .m) (member-node .result .m) (member-node .ensures .1 .at-is) (member-node .ensures .1 .half-is) (omega (arith, member-node .ensures .1 .more, if1 .left))
+      reached-less (omega (arith, member-node .ensures .1 .at-is, member-node .ensures .1 .half-is)) (omega (arith, member-node .ensures .1 .more, if1 .left))
           (reached-noted (fine-put (pre .3) (member-node .ensures .1)) (report-if .ensures .1) (reports-high (report-if .ensures .0))),
     )
 
@@ -83,7 +85,7 @@ returns-3 c =
       member-asked (args .words .now) (args .given) (args .l) (args .a) (args .nodes .now) (args .notes .now) (convert-type-to-tuple-element .result) _ (member-node .result) _ (convert-type-to-tuple-element .ensures) (member-node .ensures .0)
           (end-byte .result) (report-if .result) _ (if1 .left) (ap₂ (endByte (args .words .now)) (member-node .ensures .1 .at-is) (member-node .ensures .1 .half-is) ∙ sym (end-byte .ensures .0)) (report-if .ensures .0)
           (report-if2 .result) _ (if2 .left) (ap₂ (endByte (args .words .now)) (report-if .ensures .1 .at-is) (report-if .ensures .1 .half-is) ∙ ap₂ (endByte (args .words .now)) (member-node .ensures .1 .at-is) (member-node .ensures .1 .half-is) ∙ sym (end-byte .ensures .0)) (report-if2 .ensures .0) (if3 .taken),
-      reached-from (args .a .m) (report-if .result .m) (report-if .ensures .1 .at-is ∙ member-node .ensures .1 .at-is) (report-if .ensures .1 .half-is ∙ member-node .ensures .1 .half-is)
+      reached-less (omega (arith, report-if .ensures .1 .at-is, member-node .ensures .1 .at-is, report-if .ensures .1 .half-is, member-node .ensures .1 .half-is))
           (omega (arith, member-node .ensures .1 .more, if1 .left, report-if .ensures .1 .used-is))
           (reached-noted (fine-noted (fine-put (pre .3) (member-node .ensures .1)) (report-if .ensures .1)) (report-if2 .ensures .1) (reports-high (report-if2 .ensures .0))),
     )
@@ -131,8 +133,8 @@ returns-4 c =
       member-rest (args .words .now) (args .given) (args .l) (args .a) (args .nodes .now) (args .notes .now) (convert-type-to-tuple-element .result) _ (member-node .result) _ (convert-type-to-tuple-element .ensures) (member-node .ensures .0)
           (end-byte .result) (report-if .result) _ (if1 .left) (ap₂ (endByte (args .words .now)) (member-node .ensures .1 .at-is) (member-node .ensures .1 .half-is) ∙ sym (end-byte .ensures .0)) (report-if .ensures .0)
           (report-if2 .result) _ (if2 .left) (ap₂ (endByte (args .words .now)) (report-if .ensures .1 .at-is) (report-if .ensures .1 .half-is) ∙ ap₂ (endByte (args .words .now)) (member-node .ensures .1 .at-is) (member-node .ensures .1 .half-is) ∙ sym (end-byte .ensures .0)) (report-if2 .ensures .0) (rest-of .result) _ _ (if3 .left) (rest-of .ensures .0),
-      reached-from (args .a .m) (report-if2 .result .m) (report-if2 .ensures .1 .at-is ∙ report-if .ensures .1 .at-is ∙ member-node .ensures .1 .at-is)
-          (report-if2 .ensures .1 .half-is ∙ report-if .ensures .1 .half-is ∙ member-node .ensures .1 .half-is)
+      reached-less
+          (omega (arith, report-if2 .ensures .1 .at-is, report-if .ensures .1 .at-is, member-node .ensures .1 .at-is, report-if2 .ensures .1 .half-is, report-if .ensures .1 .half-is, member-node .ensures .1 .half-is))
           (omega (arith, member-node .ensures .1 .more, if1 .left, report-if .ensures .1 .used-is, report-if2 .ensures .1 .used-is)) (rest-of .ensures .1),
     )
 

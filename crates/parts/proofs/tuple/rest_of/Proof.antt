@@ -1,7 +1,10 @@
 -- No dots; no record for the diagnostic; the rest.
+use mathlib.Core.Path.{refl}
 use native.Mathlib.Omega.{arith}
 use borrow.Author.Tests.{not-true, not-false}
-use Rattle.parts.specs.MemberLaws.{rest-none, rest-full, rest-about, fine-noted, reached-put, reached-noted, reached-from, reports-high}
+use Rattle.parts.specs.MemberLaws.{rest-none, rest-full, rest-about, reached-noted}
+use Rattle.parts.specs.MarkLaws.{fine-noted, reached-put}
+use Rattle.parts.specs.ReportLaws.{reports-high}
 use borrow.Author.Needs.{needs}
 use Rattle.parts.proofs.tuple.rest_of.Statement.{statement}
 use Rattle.parts.proofs.tuple.rest_of.Tie as tie
@@ -58,8 +61,8 @@ returns-3 c =
     let if2 = c .before .before .before .before .if2 in
     let put-about = c .before .before .put-about in (
       rest-about (args .words .now) (args .given) (args .l) (args .high) (args .m) (args .nodes .now) (args .notes .now) (report-if .result) _ _ (not-false _ (if1 .left)) (end-byte .result) (end-byte .ensures .0) (report-if .ensures .0) (put-about .result) (if2 .left) (put-about .ensures .0),
-      reached-from (args .m) (report-if .result .m) (report-if .ensures .1 .at-is) (report-if .ensures .1 .half-is) (omega (arith, report-if .ensures .1 .used-is))
-          (reached-put (fine-noted (pre .3) (report-if .ensures .1)) (put-about .ensures .1)),
+      reached-put (report-if .result .m) refl (fine-noted (pre .3) (report-if .ensures .1)) (omega (arith, report-if .ensures .1 .at-is, report-if .ensures .1 .half-is))
+          (omega (arith, report-if .ensures .1 .used-is)) (put-about .ensures .1),
     )
 
 pub rest-of-spec : {M : Type 1} → statement M

@@ -1,0 +1,174 @@
+-- The needs of `mapped`.
+use Prim.Native.Nat.{ℕ, suc, _+_, _-_, _*_, _^_, _≤_, _<_}
+use native.Mathlib.Omega.{arith}
+use borrow.Author.Needs.{needs}
+use borrow.Author.Tests.{not-true, not-false}
+use mathlib.Core.Path.{_≡_, refl, sym, _∙_, ap, subst}
+use mathlib.Core.List.{List, [], _∷_, _++_}
+use lib.ListN.{length}
+use Rattle.parts.specs.declared.function.This.{This}
+use Rattle.parts.specs.Answers.{then-read, then-refused, says-same, says-as, says-stop, says-stops}
+use Rattle.parts.specs.MappingLaws.{mapped-step}
+use Rattle.parts.specs.BuiltLaws.{built-one, laid-spoken}
+use Rattle.parts.specs.LaidLaws.{laid-on}
+use Rattle.readers.specs.MappedLaws.{mapped-read, built-as}
+use Rattle.readers.specs.Fields.{same-mark, same-kids, same-answer, same-listed, same-params}
+use Rattle.parts.proofs.mapped.mapped_head.Reads as mapped-head-reads
+use Rattle.parts.proofs.state.Answer.refused.Reads as state-Answer-refused-reads
+use Rattle.parts.proofs.state.Begin.at.Reads as at-reads
+use Rattle.parts.proofs.state.Kids.one.Reads as one-reads
+use Rattle.readers.proofs.ring.mapped.Reads as mapped
+use Rattle.readers.proofs.ring.name_type.Reads as name-type
+use Rattle.readers.proofs.ring.ty.Reads as ty
+use Rattle.readers.proofs.ring.+arguments+conditional+element+extends+function+infer+intersection+mapped+name_type+named+operator+opt+other+param+param_list+params+parens+postfix+predicate+primary+return_type+signature+suffix+template+then+tuple+ty+type_param+type_params+union.Lts-mapped as lts
+use Rattle.readers.proofs.ring.+arguments+conditional+element+extends+function+infer+intersection+mapped+name_type+named+operator+opt+other+param+param_list+params+parens+postfix+predicate+primary+return_type+signature+suffix+template+then+tuple+ty+type_param+type_params+union.Proof.Base.{mapped-at, name-type-below, ty-below}
+
+abbrev pub R : ℕ → lts.Claims
+R t = (mapped-head-reads.Asked, mapped-head-reads.Learnt, state-Answer-refused-reads.Asked, state-Answer-refused-reads.Learnt, ty-below t, ty.Post, at-reads.Asked, at-reads.Learnt, one-reads.Asked, one-reads.Learnt, name-type-below t, name-type.Post)
+
+module _ (t : ℕ) where
+  pub mapped-head-requires : lts.Need-mapped-head-requires (R t) (mapped-at t) mapped.Post
+  mapped-head-requires c κs =
+      let good = c .before .before .before .before .before .good in
+      let pre = c .before .before .before .before .before .pre in
+      (pre .1 .0, pre .1 .1, omega (arith, pre, good), omega (arith, pre, good))
+
+  pub refused-requires : lts.Need-refused-requires (R t) (mapped-at t) mapped.Post
+  refused-requires c κs =
+      search needs
+
+  pub same-length : lts.Need-same-length (R t) (mapped-at t) mapped.Post
+  same-length c =
+      let mapped-head = c .before .before .before .before .before .mapped-head in
+      omega (arith, mapped-head .kept)
+
+  pub returns : lts.Need-returns (R t) (mapped-at t) mapped.Post
+  returns c =
+      let args = c .before .before .before .before .before .before .before .before .before .before .before .args in
+      let good = c .before .before .before .before .before .before .before .before .before .before .before .good in
+      let pre = c .before .before .before .before .before .before .before .before .before .before .before .pre in
+      let mapped-head = c .before .before .before .before .before .mapped-head in
+      let if1 = c .before .if1 in
+      let refused = c .refused in (
+        λ curly text s.
+            says-as (refused .ensures)
+            (says-stop (if1 .taken) (mapped-step _ _ _ curly ∙ then-refused _ (mapped-head .ensures .0 text _ (args .given) s .refused (if1 .taken)))),
+        (omega (arith, same-answer (refused .ensures), if1, mapped-head .ensures .1 .1, mapped-head .kept, pre, good), λ z. omega (arith, same-answer (refused .ensures), if1, mapped-head .ensures .1 .1, mapped-head .kept, pre, good, z)),
+      )
+
+  pub ty-requires : lts.Need-ty-requires (R t) (mapped-at t) mapped.Post
+  ty-requires c κs =
+      let good = c .before .before .before .before .before .before .before .before .before .before .before .before .before .before .good in
+      let pre = c .before .before .before .before .before .before .before .before .before .before .before .before .before .before .pre in
+      let mapped-head = c .before .before .before .before .before .before .before .before .mapped-head in
+      let if1 = c .before .before .before .before .if1 in
+      (omega (arith, if1, mapped-head .ensures .1 .1, mapped-head .kept, pre, good), (pre .1 .0, pre .1 .1, omega (arith, if1, mapped-head .ensures .1 .1, mapped-head .kept, pre, good), omega (arith, if1, mapped-head .ensures .1 .1, mapped-head .kept, pre, good)))
+
+  pub same-length-2 : lts.Need-same-length-2 (R t) (mapped-at t) mapped.Post
+  same-length-2 c =
+      let mapped-head = c .before .before .before .before .before .before .before .before .before .before .before .before .before .before .before .before .before .mapped-head in
+      let ty = c .before .before .before .before .before .before .before .before .ty in
+      omega (arith, ty .kept, mapped-head .kept)
+
+  pub same-length-3 : lts.Need-same-length-3 (R t) (mapped-at t) mapped.Post
+  same-length-3 c =
+      let mapped-head = c .before .before .before .before .before .before .before .before .before .before .before .before .before .before .before .before .before .mapped-head in
+      let ty = c .before .before .before .before .before .before .before .before .ty in
+      omega (arith, ty .kept, mapped-head .kept)
+
+  pub same-length-4 : lts.Need-same-length-4 (R t) (mapped-at t) mapped.Post
+  same-length-4 c =
+      let mapped-head = c .before .before .before .before .before .before .before .before .before .before .before .before .before .before .before .before .before .mapped-head in
+      let ty = c .before .before .before .before .before .before .before .before .ty in
+      omega (arith, ty .kept, mapped-head .kept)
+
+  pub returns-2 : lts.Need-returns-2 (R t) (mapped-at t) mapped.Post
+  returns-2 c =
+      let args = c .before .before .before .before .before .before .before .before .before .before .before .before .before .before .before .before .before .before .before .before .before .before .before .args in
+      let good = c .before .before .before .before .before .before .before .before .before .before .before .before .before .before .before .before .before .before .before .before .before .before .before .good in
+      let pre = c .before .before .before .before .before .before .before .before .before .before .before .before .before .before .before .before .before .before .before .before .before .before .before .pre in
+      let mapped-head = c .before .before .before .before .before .before .before .before .before .before .before .before .before .before .before .before .before .mapped-head in
+      let if1 = c .before .before .before .before .before .before .before .before .before .before .before .before .before .if1 in
+      let ty = c .before .before .before .before .before .before .before .before .ty in
+      let if2 = c .if2 in (
+        λ curly text s.
+            says-stops _ (ty .ensures .0 text s) (if2 .taken) (mapped-step _ _ _ curly ∙ then-read _ (mapped-head .ensures .0 text _ (args .given) s .done (if1 .left) .is)),
+        (omega (arith, if2, ty .ensures .1 .0, ty .kept, if1, mapped-head .ensures .1 .1, mapped-head .kept, pre, good), λ z. omega (arith, if2, ty .ensures .1 .0, ty .kept, if1, mapped-head .ensures .1 .1, mapped-head .kept, pre, good, z)),
+      )
+
+  pub at-requires : lts.Need-at-requires (R t) (mapped-at t) mapped.Post
+  at-requires c κs =
+      let good = c .before .before .before .before .before .before .before .before .before .before .before .before .before .before .before .before .before .before .before .before .before .before .before .before .good in
+      let pre = c .before .before .before .before .before .before .before .before .before .before .before .before .before .before .before .before .before .before .before .before .before .before .before .before .pre in
+      let mapped-head = c .before .before .before .before .before .before .before .before .before .before .before .before .before .before .before .before .before .before .mapped-head in
+      let if1 = c .before .before .before .before .before .before .before .before .before .before .before .before .before .before .if1 in
+      let ty = c .before .before .before .before .before .before .before .before .before .ty in
+      let if2 = c .before .if2 in
+      (pre .1 .1, omega (arith, if2, ty .ensures .1 .0, ty .kept, ty .ensures .1 .1 (if2 .left), if1, mapped-head .ensures .1 .1, mapped-head .kept, pre, good))
+
+  pub one-requires : lts.Need-one-requires (R t) (mapped-at t) mapped.Post
+  one-requires c κs =
+      let good = c .before .before .before .before .before .before .before .before .before .before .before .before .before .before .before .before .before .before .before .before .before .before .before .before .before .good in
+      let pre = c .before .before .before .before .before .before .before .before .before .before .before .before .before .before .before .before .before .before .before .before .before .before .before .before .before .pre in
+      let mapped-head = c .before .before .before .before .before .before .before .before .before .before .before .before .before .before .before .before .before .before .before .mapped-head in
+      let if1 = c .before .before .before .before .before .before .before .before .before .before .before .before .before .before .before .if1 in
+      let ty = c .before .before .before .before .before .before .before .before .before .before .ty in
+      let if2 = c .before .before .if2 in
+      let at = c .at in
+      omega (arith, at .ensures .0, at .ensures .1, if2, ty .ensures .1 .0, ty .kept, ty .ensures .1 .1 (if2 .left), if1, mapped-head .ensures .1 .1, mapped-head .kept, pre, good)
+
+  pub name-type-requires : lts.Need-name-type-requires (R t) (mapped-at t) mapped.Post
+  name-type-requires c κs =
+      let good = c .before .before .before .before .before .before .before .before .before .before .before .before .before .before .before .before .before .before .before .before .before .before .before .before .before .before .before .before .before .good in
+      let pre = c .before .before .before .before .before .before .before .before .before .before .before .before .before .before .before .before .before .before .before .before .before .before .before .before .before .before .before .before .before .pre in
+      let mapped-head = c .before .before .before .before .before .before .before .before .before .before .before .before .before .before .before .before .before .before .before .before .before .before .before .mapped-head in
+      let if1 = c .before .before .before .before .before .before .before .before .before .before .before .before .before .before .before .before .before .before .before .if1 in
+      let ty = c .before .before .before .before .before .before .before .before .before .before .before .before .before .before .ty in
+      let if2 = c .before .before .before .before .before .before .if2 in
+      let at = c .before .before .before .before .at in
+      let one = c .before .before .before .one in
+      (omega (arith, same-kids (one .ensures), at .ensures .0, at .ensures .1, if2, ty .ensures .1 .0, ty .kept, ty .ensures .1 .1 (if2 .left), if1, mapped-head .ensures .1 .1, mapped-head .kept, pre, good), (pre .1 .0, pre .1 .1, omega (arith, same-kids (one .ensures), at .ensures .0, at .ensures .1, if2, ty .ensures .1 .0, ty .kept, ty .ensures .1 .1 (if2 .left), if1, mapped-head .ensures .1 .1, mapped-head .kept, pre, good), omega (arith, same-kids (one .ensures), at .ensures .0, at .ensures .1, if2, ty .ensures .1 .0, ty .kept, ty .ensures .1 .1 (if2 .left), if1, mapped-head .ensures .1 .1, mapped-head .kept, pre, good), omega (arith, same-kids (one .ensures), at .ensures .0, at .ensures .1, if2, ty .ensures .1 .0, ty .kept, ty .ensures .1 .1 (if2 .left), if1, mapped-head .ensures .1 .1, mapped-head .kept, pre, good), omega (arith, same-kids (one .ensures), at .ensures .0, at .ensures .1, if2, ty .ensures .1 .0, ty .kept, ty .ensures .1 .1 (if2 .left), if1, mapped-head .ensures .1 .1, mapped-head .kept, pre, good), omega (arith, same-kids (one .ensures), at .ensures .0, at .ensures .1, if2, ty .ensures .1 .0, ty .kept, ty .ensures .1 .1 (if2 .left), if1, mapped-head .ensures .1 .1, mapped-head .kept, pre, good), omega (arith, same-kids (one .ensures), at .ensures .0, at .ensures .1, if2, ty .ensures .1 .0, ty .kept, ty .ensures .1 .1 (if2 .left), if1, mapped-head .ensures .1 .1, mapped-head .kept, pre, good)))
+
+  pub same-length-5 : lts.Need-same-length-5 (R t) (mapped-at t) mapped.Post
+  same-length-5 c =
+      let mapped-head = c .before .before .before .before .before .before .before .before .before .before .before .before .before .before .before .before .before .before .before .before .before .before .before .before .before .before .before .before .before .before .mapped-head in
+      let ty = c .before .before .before .before .before .before .before .before .before .before .before .before .before .before .before .before .before .before .before .before .before .ty in
+      let name-type = c .before .before .before .before .before .before .name-type in
+      omega (arith, name-type .kept, ty .kept, mapped-head .kept)
+
+  pub same-length-6 : lts.Need-same-length-6 (R t) (mapped-at t) mapped.Post
+  same-length-6 c =
+      let mapped-head = c .before .before .before .before .before .before .before .before .before .before .before .before .before .before .before .before .before .before .before .before .before .before .before .before .before .before .before .before .before .before .mapped-head in
+      let ty = c .before .before .before .before .before .before .before .before .before .before .before .before .before .before .before .before .before .before .before .before .before .ty in
+      let name-type = c .before .before .before .before .before .before .name-type in
+      omega (arith, name-type .kept, ty .kept, mapped-head .kept)
+
+  pub same-length-7 : lts.Need-same-length-7 (R t) (mapped-at t) mapped.Post
+  same-length-7 c =
+      let mapped-head = c .before .before .before .before .before .before .before .before .before .before .before .before .before .before .before .before .before .before .before .before .before .before .before .before .before .before .before .before .before .before .mapped-head in
+      let ty = c .before .before .before .before .before .before .before .before .before .before .before .before .before .before .before .before .before .before .before .before .before .ty in
+      let name-type = c .before .before .before .before .before .before .name-type in
+      omega (arith, name-type .kept, ty .kept, mapped-head .kept)
+
+  pub returns-3 : lts.Need-returns-3 (R t) (mapped-at t) mapped.Post
+  returns-3 c =
+      let args = c .before .before .before .before .before .before .before .before .before .before .before .before .before .before .before .before .before .before .before .before .before .before .before .before .before .before .before .before .before .before .before .before .before .before .before .before .args in
+      let good = c .before .before .before .before .before .before .before .before .before .before .before .before .before .before .before .before .before .before .before .before .before .before .before .before .before .before .before .before .before .before .before .before .before .before .before .before .good in
+      let pre = c .before .before .before .before .before .before .before .before .before .before .before .before .before .before .before .before .before .before .before .before .before .before .before .before .before .before .before .before .before .before .before .before .before .before .before .before .pre in
+      let mapped-head = c .before .before .before .before .before .before .before .before .before .before .before .before .before .before .before .before .before .before .before .before .before .before .before .before .before .before .before .before .before .before .mapped-head in
+      let if1 = c .before .before .before .before .before .before .before .before .before .before .before .before .before .before .before .before .before .before .before .before .before .before .before .before .before .before .if1 in
+      let ty = c .before .before .before .before .before .before .before .before .before .before .before .before .before .before .before .before .before .before .before .before .before .ty in
+      let if2 = c .before .before .before .before .before .before .before .before .before .before .before .before .before .if2 in
+      let at = c .before .before .before .before .before .before .before .before .before .before .before .at in
+      let one = c .before .before .before .before .before .before .before .before .before .before .one in
+      let name-type = c .before .before .before .before .before .before .name-type in (
+        λ curly text s.
+            let head = mapped-head .ensures .0 text (args .notes .now) (args .given) s .done (if1 .left) in
+            let got = ty .ensures .0 text s .done (if2 .left) in
+            says-same (mapped-read _ _ _ curly (at .ensures .0 .0) (head .such) (head .is) (got .is))
+            (name-type .ensures .0 text _ (head .what .1) (got .tree) s (got .stands .is-node)
+            (built-as (one .ensures)
+            (built-one (head .what .1 ∷ []) (got .stands .is-node) (got .stands .high-is) (laid-on (head .what .1 ∷ []) (laid-spoken _ _ (head .spoken)) (got .stands .laid))))
+            (at .ensures .0 .1)),
+        (omega (arith, name-type .ensures .1 .0, name-type .kept, same-kids (one .ensures), at .ensures .0, at .ensures .1, if2, ty .ensures .1 .0, ty .kept, ty .ensures .1 .1 (if2 .left), if1, mapped-head .ensures .1 .1, mapped-head .kept, pre, good), λ z. omega (arith, name-type .ensures .1 .0, name-type .kept, same-kids (one .ensures), at .ensures .0, at .ensures .1, if2, ty .ensures .1 .0, ty .kept, ty .ensures .1 .1 (if2 .left), if1, mapped-head .ensures .1 .1, mapped-head .kept, pre, good, z, name-type .ensures .1 .1 z)),
+      )

@@ -1,0 +1,20 @@
+-- What the readers are proved with: what their loops keep, the numbers of equal structs, and the laws of each rule as its reader takes it.
+pub mod Kept
+pub mod Loops
+pub mod Fields
+pub mod TypeLaws
+pub mod ParameterTurns
+pub mod ParamsLaws
+pub mod SignatureLaws
+pub mod MovedLaws
+pub mod PartsLaws
+pub mod SuffixLaws
+pub mod OperandLaws
+pub mod TrialLaws
+pub mod StartLaws
+pub mod NamedLaws
+pub mod MappedLaws
+pub mod TupleTurns
+pub mod ListTurns
+pub mod OptionLaws
+pub mod PieceTurns

@@ -1,0 +1,162 @@
+-- The list of parameters in its brackets, by what stands behind the bracket; what a constructor's `this` gives back.
+use mathlib.Core.Path.{_≡_, refl, sym, ap, _∙_, subst}
+use mathlib.Core.Bool.{Bool, true, false}
+use mathlib.Core.List.{List, []}
+use Prim.Native.Nat.{ℕ, zero, suc, _+_, _*_, _≤_}
+use native.Mathlib.Omega.{arith}
+use lib.ListN.{length}
+use Rattle.words.specs.Kind.{Colon}
+use Rattle.words.specs.Cursor.{firstByte, endByte}
+use Rattle.keys.specs.Placed.{Placed, Opt, absent, present}
+use Rattle.keys.specs.Store.{Run, done}
+use Rattle.keys.specs.StoreLaws.{_⊕_, join-done}
+use Rattle.rules.specs.State as rule
+use Rattle.rules.specs.State.{Result, Reader, refuse, optional, turns}
+use Rattle.rules.specs.Function.{ThisParameter, Parameters, parametersOf, parametersFrom, thisFirst, parameters}
+use Rattle.parts.specs.Marks.{view, nextMark, Moved}
+use Rattle.parts.specs.Laid.{heights, runOpt, IsOpt, Was, was, Laid, Built, BuiltAt}
+use Rattle.parts.specs.Says.{SaysOpt}
+use Rattle.parts.specs.Nodes.{optBit}
+use Rattle.parts.specs.Lists.{Separates}
+use Rattle.parts.specs.Functions.{typeBits, thisRun, IsThis, ThisIs, SaysParams, Opens, freedMark, ThisKids, freedUsed}
+use Rattle.parts.specs.Ring.{SaysRest}
+use Rattle.parts.specs.LaidLaws.{laid-back}
+use Rattle.parts.specs.RingShapes.{bit-of}
+use Rattle.parts.specs.ParameterListLaws.{opens-this, this-refused, this-goes, this-stops}
+use Rattle.parts.specs.declared.state.Mark.{Mark}
+use Rattle.parts.specs.declared.state.Kids.{Kids}
+use Rattle.parts.specs.declared.state.Head.{Head}
+use Rattle.parts.specs.declared.state.Answer.{Answer}
+use Rattle.parts.specs.declared.function.This.{This as ThisCode}
+use Rattle.parts.specs.declared.function.Params.{Params}
+
+-- ---- Numbers
+
+-- What is in use after a `this`: as much as before it, or as after it.
+pub freed-low : (n : Bool) (a b c : ℕ) → a ≤ c → b ≤ c → freedUsed n a b ≤ c
+freed-low true a b c h i = h
+freed-low false a b c h i = i
+
+pub freed-high : (n : Bool) (a b c : ℕ) → c ≤ a → c ≤ b → c ≤ freedUsed n a b
+freed-high true a b c h i = h
+freed-high false a b c h i = i
+
+-- The choice of an optional child is a bit.
+pub bit-low : (n : ℕ) → optBit n ≤ 1
+bit-low zero = omega arith
+bit-low (suc n) = omega arith
+
+-- ---- Marks
+
+-- Where only the cursor moved, the same is built.
+pub built-moved : {len : ℕ} {m q : Mark} {B : Was} {t : Run} {k : Kids} {N M O : List ℕ} → Moved len m q → BuiltAt B t k m N M O → BuiltAt B t k q N M O
+built-moved {len} {m} {q} {B} {t} {k} {N} {M} {O} v b = rw (v .used-is, v .named-is, v .noted-is) b
+
+-- ---- Answers
+
+-- A refusal of the list.
+pub params-refused : {B : Was} {t : Run} {R : Opt ThisParameter → Run} {x : Result Parameters} {r : Params} {N M O : List ℕ} {why : ℕ} {m : Mark}
+    → r ≡ record { why = why; count = 0; this = record { bits = 0; first = 0; end = 0 }; kids = record { first = 0; count = 0; high = 0 }; m = m }
+    → (why ≡ 0 → ⊥) → x ≡ refuse why (m .at) (m .half) → SaysParams B t R x r N M O
+params-refused {B} {t} {R} {x} {r} {N} {M} {O} {why} {m} e n i =
+    subst (λ (p : Params). SaysParams B t R x p N M O) (sym e) (record { done = λ z. absurd (n z); refused = λ _. i })
+
+-- What the others come to is what the list does, if the type of its `this` stands before them.
+params-rest : {B : Was} {t : Run} (R : Opt ThisParameter → Run) (th : Opt ThisParameter) {x y : Result Parameters} {p : Params} {N M O : List ℕ}
+    → x ≡ y → IsThis th → SaysRest B (t ⊕ R th) th y p N M O → SaysParams B t R x p N M O
+params-rest R th e i w =
+    record {
+      done = λ z.
+          let got = w .done z in
+          record {
+            what = parametersOf th (got .list);
+            is = e ∙ got .is;
+            this-is = got .this-is;
+            is-this = i;
+            count-is = got .count-is;
+            each = got .each;
+            built = got .built;
+          };
+      refused = λ n. e ∙ w .refused n;
+    }
+
+-- No `this` is no child.
+no-this : (isNew : Bool) → thisRun isNew absent ≡ done
+no-this true = refl
+no-this false = refl
+
+-- The code's none is the rules'.
+pub this-none : {r : ThisCode} → r ≡ record { bits = 0; first = 0; end = 0 } → ThisIs r absent
+this-none e =
+    record {
+      bits = ap (λ (x : ThisCode). x .bits) e;
+      first = ap (λ (x : ThisCode). x .first) e;
+      end = ap (λ (x : ThisCode). x .end) e;
+    }
+
+-- No `this` stands behind the bracket.
+pub params-plain : {B : Was} {t : Run} (isNew : Bool) {x y : Result Parameters} {p : Params} {N M O : List ℕ}
+    → x ≡ y → SaysRest B t absent y p N M O → SaysParams B t (thisRun isNew) x p N M O
+params-plain {B} {t} isNew {x} {y} {p} {N} {M} {O} e w =
+    params-rest (thisRun isNew) absent e tt
+    (subst (λ (r : Run). SaysRest B r absent y p N M O) (sym (ap (λ (r : Run). t ⊕ r) (no-this isNew) ∙ join-done t)) w)
+
+-- ---- A `this` behind the bracket
+
+-- Its bits, by the height of its type.
+this-bits : (u : Opt Placed) (high : ℕ) → IsOpt 0 u → high ≡ heights (runOpt 0 u) → 1 + 2 * optBit high ≡ typeBits u
+this-bits absent high i e = ap (λ (n : ℕ). 1 + 2 * optBit n) e
+this-bits (present u) high i e = ap (λ (n : ℕ). 1 + 2 * optBit n) e ∙ ap (λ (n : ℕ). 1 + 2 * n) (bit-of i)
+
+-- Its type is the next child, or all that it took is free again.
+built-this : (isNew : Bool) {B : Was} {t : Run} {k k' : Kids} (m : Mark) (a : Answer) (th : ThisParameter) {N M O N₁ M₁ O₁ N₂ : List ℕ}
+    → ThisKids isNew k (m .used) a N₁ k' N₂ → BuiltAt B t k m N M O → length N ≡ length N₁ → 4 * m .used ≤ length N
+    → IsOpt 0 (th .type) → a .high ≡ heights (runOpt 0 (th .type)) → Laid (was m N M O) (runOpt 0 (th .type)) (a .m .used) (a .m .named) (a .m .noted) N₁ M₁ O₁
+    → BuiltAt B (t ⊕ thisRun isNew (present th)) k' (freedMark isNew m (a .m)) N₂ M₁ O₁
+built-this true {B} {t} {k} {k'} m a th {N} {M} {O} {N₁} {M₁} {O₁} {N₂} l b n f i h d =
+    let same : Built B t k (m .used) (m .named) (a .m .noted) N₁ M₁ O₁ =
+    record { laid = laid-back (a .m .noted) (d .noted-is) f (b .laid) d; first-is = b .first-is; high-is = b .high-is } in
+    rw (l .0, l .1, join-done t) same
+built-this false {B} {t} {k} {k'} m a th {N} {M} {O} {N₁} {M₁} {O₁} {N₂} l b n f i h d =
+    l B t (th .type) N M O M₁ O₁ (m .named) (m .noted) (a .m .named) (a .m .noted) b n i h d
+
+module _ (g : rule.Given) (T : Reader) (isNew : Bool) {m : Mark} {h : Head} (N M O : List ℕ)
+    (opens : Opens (g .words) m h) (z : h .why ≡ 0) (some : h .choices ≡ 0 → ⊥) {a : Answer} {N₁ M₁ O₁ : List ℕ}
+    (w : SaysOpt (was (h .m) N M O) (optional g Colon (T true) (view (h .m) O)) a N₁ M₁ O₁) where
+  this-there : parameters g T isNew (view m O) ≡ thisFirst g T isNew (view (nextMark m) O)
+  this-there = opens-this g T isNew m O opens z some .0
+
+  behind : h .m ≡ nextMark (nextMark m)
+  behind = opens-this g T isNew m O opens z some .1
+
+  type-says : SaysOpt (was m N M O) (optional g Colon (T true) (view (nextMark (nextMark m)) O)) a N₁ M₁ O₁
+  type-says = subst (λ (q : Mark). SaysOpt (was q N M O) (optional g Colon (T true) (view q O)) a N₁ M₁ O₁) behind w
+
+  -- Its type is refused.
+  pub params-this-refused : (a .why ≡ 0 → ⊥) → parameters g T isNew (view m O) ≡ refuse (a .why) (a .m .at) (a .m .half)
+  params-this-refused n = this-there ∙ this-refused g T isNew m O (type-says .refused n)
+
+  module _ (read-it : a .why ≡ 0) {f : Mark} (freed-is : f ≡ freedMark isNew m (a .m)) {c : Answer} (s : Separates (g .words) false f c) where
+    separates : Separates (g .words) false (freedMark isNew m (a .m)) c
+    separates = subst (λ (q : Mark). Separates (g .words) false q c) freed-is s
+
+    -- What stands behind it lets no list go on.
+    pub params-this-stops : (c .why ≡ 0 → ⊥) → parameters g T isNew (view m O) ≡ refuse (c .why) (c .m .at) (c .m .half)
+    params-this-stops n = this-there ∙ this-stops g T isNew m O (a .m) O₁ (type-says .done read-it .is) separates n
+
+    -- The others are read behind it.
+    pub params-this : {len : ℕ} {B : Was} {t : Run} {k k' : Kids} {N₂ : List ℕ} {this : ThisCode} {p : Params} {N₃ M₃ O₃ : List ℕ} → c .why ≡ 0 → Moved len f (c .m)
+        → ThisKids isNew k (m .used) a N₁ k' N₂ → BuiltAt B t k m N M O → length N ≡ length N₁ → 4 * m .used ≤ length N
+        → (this .bits ≡ 1 + 2 * optBit (a .high)) × (this .first ≡ firstByte (g .words) (m .at + 1) 0) × (this .end ≡ endByte (g .words) (a .m .at) (a .m .half))
+        → ((r : Run) (th : Opt ThisParameter) → BuiltAt B r k' (c .m) N₂ M₁ O₁ → ThisIs this th
+        → SaysRest B r th (parametersFrom g T th (turns g) [] (view (c .m) O₁)) p N₃ M₃ O₃)
+        → SaysParams B t (thisRun isNew) (parameters g T isNew (view m O)) p N₃ M₃ O₃
+    params-this {B = B} {t = t} {k = k} {k' = k'} {N₂ = N₂} go moved kids b same fits this-is rest =
+        let got = type-says .done read-it in
+        let th : ThisParameter = record { first = rule.first g (view (nextMark m) O₁); end = rule.end g (view (a .m) O₁); type = got .tree } in
+        let built : BuiltAt B (t ⊕ thisRun isNew (present th)) k' f N₂ M₁ O₁ =
+        subst (λ (q : Mark). BuiltAt B (t ⊕ thisRun isNew (present th)) k' q N₂ M₁ O₁) (sym freed-is)
+        (built-this isNew m a th kids b same fits (got .is-opt) (got .high-is) (got .laid)) in
+        params-rest (thisRun isNew) (present th) (this-there ∙ this-goes g T isNew m O (a .m) O₁ (got .is) separates go) (got .is-opt)
+        (rest (t ⊕ thisRun isNew (present th)) (present th) (built-moved moved built)
+        (record { bits = this-is .0 ∙ this-bits (got .tree) (a .high) (got .is-opt) (got .high-is); first = this-is .1; end = this-is .2 }))
