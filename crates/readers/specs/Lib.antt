@@ -18,3 +18,5 @@ pub mod TupleTurns
 pub mod ListTurns
 pub mod OptionLaws
 pub mod PieceTurns
+pub mod Call
+pub mod CallLaws

@@ -1,2 +1,3 @@
-// The readers of types: a ring of functions, one a rule or a part of one.
+// The readers of types: a ring of functions, one a rule or a part of one, and the call that reads without the key.
+pub mod read;
 pub mod ring;

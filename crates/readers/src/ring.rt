@@ -578,7 +578,8 @@ fn return_type(
     if predicates(words, classes, m) {
         return predicate(words, classes, nodes, names, notes, given, false, m);
     }
-    ty(words, classes, nodes, names, notes, given, true, m)
+    let on = true;
+    ty(words, classes, nodes, names, notes, given, on, m)
 }
 
 // A predicate about a name or this, with or without asserts before it; its type follows `is`.
