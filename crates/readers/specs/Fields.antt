@@ -1,12 +1,12 @@
 -- What equal structs of the code have in common, number by number.
 use mathlib.Core.Path.{_≡_, ap}
-use Prim.Native.Nat.{ℕ}
 use Rattle.parts.specs.declared.state.Mark.{Mark}
 use Rattle.parts.specs.declared.state.Kids.{Kids}
 use Rattle.parts.specs.declared.state.Answer.{Answer}
 use Rattle.parts.specs.declared.state.Listed.{Listed}
 use Rattle.parts.specs.declared.function.Params.{Params}
 
+-- Marks.
 pub record SameMark (m q : Mark) : Type 0 where
   pub at : m .at ≡ q .at
   pub half : m .half ≡ q .half
@@ -14,21 +14,25 @@ pub record SameMark (m q : Mark) : Type 0 where
   pub named : m .named ≡ q .named
   pub noted : m .noted ≡ q .noted
 
+-- Children.
 pub record SameKids (k l : Kids) : Type 0 where
   pub first : k .first ≡ l .first
   pub count : k .count ≡ l .count
   pub high : k .high ≡ l .high
 
+-- Answers.
 pub record SameAnswer (a b : Answer) : Type 0 where
   pub why : a .why ≡ b .why
   pub high : a .high ≡ b .high
   pub mark : SameMark (a .m) (b .m)
 
+-- Lists.
 pub record SameListed (a b : Listed) : Type 0 where
   pub why : a .why ≡ b .why
   pub kids : SameKids (a .kids) (b .kids)
   pub mark : SameMark (a .m) (b .m)
 
+-- Parameters.
 pub record SameParams (a b : Params) : Type 0 where
   pub why : a .why ≡ b .why
   pub count : a .count ≡ b .count
@@ -36,6 +40,7 @@ pub record SameParams (a b : Params) : Type 0 where
   pub kids : SameKids (a .kids) (b .kids)
   pub mark : SameMark (a .m) (b .m)
 
+-- Equal structs have them all in common.
 pub same-mark : {m q : Mark} → m ≡ q → SameMark m q
 same-mark e =
     record {

@@ -19,6 +19,7 @@ use Rattle.parts.specs.Nodes.{Links}
 use Rattle.parts.specs.Lists.{Follows, Ends}
 use Rattle.parts.specs.Answers.{then-read, then-refused}
 use Rattle.parts.specs.BuiltLaws.{built-none}
+use Rattle.parts.specs.LeafLaws.{noKids}
 use Rattle.parts.specs.StepLaws.{built-at}
 use Rattle.parts.specs.ListLaws.{list-refused, list-stops, list-closed}
 use Rattle.parts.specs.Turns.{ListTurn, looped, turn-list}
@@ -27,10 +28,7 @@ use Rattle.parts.specs.declared.state.Mark.{Mark}
 use Rattle.parts.specs.declared.state.Kids.{Kids}
 use Rattle.parts.specs.declared.state.Answer.{Answer}
 use Rattle.parts.specs.declared.state.Listed.{Listed}
-
--- No children.
-abbrev pub noKids : Kids
-noKids = record { first = 0; count = 0; high = 0 }
+use Rattle.readers.specs.MovedLaws.{built-moved}
 
 -- The list is absent.
 pub listed-absent : {c : ℕ} {x : Result (Opt (List Placed))} {m : Mark} {N M O : List ℕ} {r : Listed} → r ≡ record { why = 0; there = false; kids = noKids; m = m }
@@ -87,7 +85,7 @@ module _ {A : Type 0} (g : rule.Given) (close : ℕ) (entry : List Placed → St
       (got .stands .is-node) (got .stands .high-is) (got .stands .laid) in
       subst (λ (y : ℕ). ListTurn c (length (g .words)) B done (looped g close entry K) x y k' (a .m) N'' M' O') (sym n)
       (turn-list g close entry K c done w k' q a N'' M' O' (got .tree) z (got .is) f h i j (got .stands .is-node)
-      (built-at q (a .m) (v .used-is) (v .named-is) (v .noted-is) b))
+      (built-moved v b))
 
 -- The closing mark stands there, and the list ends.
 pub turn-ends : (text W : List ℕ) (given : Given) (close : ℕ) (entry : List Placed → State → Result Placed) (number b : ℕ) {first c : ℕ}

@@ -27,6 +27,7 @@ module _ (g : Given) (T : Reader) where
   abbrev pub TypesTurn : Bool → State → Was → Kids → Mark → (N M O : List ℕ) → Type 0
   TypesTurn on s B k p N M O = ListTurn 4 (length (g .words)) B done (looped g RAngle (λ l. types.typeParameter g T on) (endTypes g T (first g s))) (types.typeParameters g T on s) (k .count) k p N M O
 
+  -- Arguments that began at s.
   abbrev pub ArgumentsTurn : State → Was → Kids → Mark → (N M O : List ℕ) → Type 0
   ArgumentsTurn s B k p N M O = ListTurn 0 (length (g .words)) B done (looped g RAngle (λ l. T true) (endArguments g T (first g s))) (arguments.arguments g T s) (k .count) k p N M O
 
@@ -39,9 +40,11 @@ module _ (g : Given) (T : Reader) where
     abbrev pub endParts : List Placed → State → Result Placed
     endParts l q = make g (length l ∷ []) (node (first g s) (end g q) l) q
 
+    -- What is due with the parts so far.
     abbrev pub partsOf : ℕ → List Placed → State → Result Placed
     partsOf n l q = then (partsFrom g mark part n l q) endParts
 
+    -- The loop over the others.
     abbrev pub PartsTurn : Placed → State → Was → Kids → Mark → (N M O : List ℕ) → Type 0
     PartsTurn t q B k p N M O = ListTurn 0 (length (g .words)) B done partsOf (partsOf (turns g) (t ∷ []) q) (k .count) k p N M O
 
@@ -53,6 +56,7 @@ module _ (g : Given) (T : Reader) where
   abbrev pub endTuple : State → List Placed → State → Result Placed
   endTuple s l q = make g (length l ∷ []) (node.tuple (first g s) (end g q) l) q
 
+  -- The loop over its elements.
   pub record TupleTurn (s : State) (B : Was) (seen : Bool) (k : Kids) (p : Mark) (N M O : List ℕ) : Type 0 where
     pub turn : ListTurn 1 (length (g .words)) B done (looped g RBrack (tuple.checkedElement g T) (endTuple s)) (tuple.tuple g T s) (k .count) k p N M O
     pub seen-is : seen ≡ tuple.seenOptional (turn .list)
@@ -61,5 +65,6 @@ module _ (g : Given) (T : Reader) where
   abbrev pub piecesOf : State → ℕ → List (Placed × Spelling) → State → Result Placed
   piecesOf s n l q = then (template.piecesFrom g T n l q) (endTemplate g T s)
 
+  -- The loop over its pieces.
   abbrev pub PiecesTurn : State → State → Was → Kids → Mark → (N M O : List ℕ) → Type 0
   PiecesTurn s q B k p N M O = PieceTurn (length (g .words)) B (spelling g s) (piecesOf s) (piecesOf s (turns g) [] q) (k .count) k p N M O

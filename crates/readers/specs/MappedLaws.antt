@@ -1,24 +1,20 @@
 -- Mapped types, from one call of their readers to the next.
 use mathlib.Core.Path.{_≡_, sym, ap, _∙_, subst}
 use mathlib.Core.Bool.{true}
-use mathlib.Core.List.{List, []}
+use mathlib.Core.List.{[]}
 use Prim.Native.Nat.{ℕ}
 use Rattle.words.specs.Kind.{LCurly, Colon, As}
 use Rattle.keys.specs.Placed as node
 use Rattle.keys.specs.Placed.{Placed, Spelling, Opt}
-use Rattle.keys.specs.Store.{Run}
 use Rattle.keys.specs.StoreLaws.{_⊕_}
 use Rattle.rules.specs.State.{Given, State, Result, Reader, read, then, next, kind, first, end, optional, make}
 use Rattle.rules.specs.Mapped.{mapped}
-use Rattle.parts.specs.Marks.{Moved}
-use Rattle.parts.specs.Laid.{heights, runIn, runOpt, nameRun, IsNode, IsOpt, Was, was, wasAt, Laid, Built, Shape}
+use Rattle.parts.specs.Laid.{heights, runIn, runOpt, nameRun, IsNode, IsOpt, Shape}
 use Rattle.parts.specs.Nodes.{optBit}
 use Rattle.parts.specs.Mapping.{mappedHead, mappedMiddle, mappedChoices, closeCurly}
 use Rattle.parts.specs.Onward.{behindConstraint}
 use Rattle.parts.specs.MappingLaws.{mapped-step, behind-step, mappedContent, mapped-shape}
 use Rattle.parts.specs.Answers.{then-read}
-use Rattle.parts.specs.declared.state.Mark.{Mark}
-use Rattle.parts.specs.declared.state.Kids.{Kids}
 
 module _ (g : Given) (T : Reader) where
   -- The head and the constraint were read; b is the first byte.
@@ -30,39 +26,31 @@ module _ (g : Given) (T : Reader) where
       ∙ ap (λ (y : ℕ). behindConstraint g T y (x .0) (x .1) c p) (sym h) ∙ ap (λ (y : ℕ). behindConstraint g T b y (x .1) c p) (sym r)
 
   module _ (b readonly : ℕ) (key : Spelling) (c : Placed) (s : State) where
-    -- What is due behind the name type n, behind the `?`, and behind the type t.
+    -- What is due behind the type.
     abbrev behindType : Opt Placed → ℕ → Opt Placed → State → Result Placed
     behindType n question t q = closeCurly g q λ q. make g [] (node.mapped b (end g q) readonly key c n question t) q
 
+    -- Behind the `?`.
     abbrev pub behindAsked : Opt Placed → ℕ → State → Result Placed
     behindAsked n question q = then (optional g Colon (T true) q) (behindType n question)
 
+    -- Behind the name type.
     abbrev pub behindName : Opt Placed → State → Result Placed
     behindName n q = then (mappedMiddle g q) (behindAsked n)
 
-    -- The name type was read; the `?` too; the type too.
+    -- The name type was read.
     pub mapped-named : {n : Opt Placed} {q : State} → optional g As (T true) s ≡ read n q → behindConstraint g T b readonly key c s ≡ behindName n q
     mapped-named i = behind-step g T b readonly key c s ∙ then-read behindName i
 
+    -- The `?` was looked for too.
     pub mapped-asked : {n : Opt Placed} {q : State} {question : ℕ} {p : State} → optional g As (T true) s ≡ read n q → mappedMiddle g q ≡ read question p
         → behindConstraint g T b readonly key c s ≡ behindAsked n question p
     mapped-asked {n} i k = mapped-named i ∙ then-read (behindAsked n) k
 
+    -- The type too.
     pub mapped-typed : {n : Opt Placed} {q : State} {question : ℕ} {p : State} {t : Opt Placed} {r : State} → optional g As (T true) s ≡ read n q
         → mappedMiddle g q ≡ read question p → optional g Colon (T true) p ≡ read t r → behindConstraint g T b readonly key c s ≡ behindType n question t r
     mapped-typed {n} {question = question} i k l = mapped-asked i k ∙ then-read (behindType n question) l
-
--- The same children under another name.
-pub built-as : {B : Was} {t : Run} {k l : Kids} {used named noted : ℕ} {N M O : List ℕ} → l ≡ k → Built B t k used named noted N M O → Built B t l used named noted N M O
-built-as {B} {t} {k} {l} {used} {named} {noted} {N} {M} {O} e b = subst (λ (x : Kids). Built B t x used named noted N M O) (sym e) b
-
--- Only the cursor moved before it was laid.
-pub laid-moved : (N M O : List ℕ) {len : ℕ} {m q : Mark} {t : Run} {used named noted : ℕ} {N' M' O' : List ℕ} → Moved len m q
-    → Laid (was q N M O) t used named noted N' M' O' → Laid (was m N M O) t used named noted N' M' O'
-laid-moved N M O {len} {m} {q} {t} {used} {named} {noted} {N'} {M'} {O'} w d =
-    subst (λ (x : ℕ). Laid (wasAt x (m .named) (m .noted) N M O) t used named noted N' M' O') (w .used-is)
-    (subst (λ (x : ℕ). Laid (wasAt (q .used) x (m .noted) N M O) t used named noted N' M' O') (w .named-is)
-    (subst (λ (x : ℕ). Laid (wasAt (q .used) (q .named) x N M O) t used named noted N' M' O') (w .noted-is) d))
 
 -- Its names, children and choices, by the heights of its optional types.
 pub mapped-shaped : (readonly : ℕ) (key : Spelling) {c : Placed} (n : Opt Placed) (question : ℕ) (t : Opt Placed) {choices named typed high low : ℕ}

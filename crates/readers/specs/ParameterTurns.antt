@@ -19,6 +19,7 @@ use Rattle.parts.specs.Laid.{runIn, runs, IsNode, Was, BuiltAt}
 use Rattle.parts.specs.Lists.{Separates, default, closes, behindRest, goes, stops}
 use Rattle.parts.specs.Functions.{whyIf, ThisIs}
 use Rattle.parts.specs.Ring.{SaysRest}
+use Rattle.parts.specs.LeafLaws.{noKids}
 use Rattle.parts.specs.ShapeLaws.{all-more}
 use Rattle.parts.specs.Turns.{built-more}
 use Rattle.parts.specs.ParameterListLaws.{parameters-closed, parameters-none, parameters-go}
@@ -43,10 +44,13 @@ why-some false e n = absurd (n e)
 pub separates-as : {W : List ℕ} {x y : ℕ} (k : ℕ) {q : Mark} {a : Answer} → x ≡ y → Separates W (eqb x k) q a → Separates W (eqb y k) q a
 separates-as {W} {x} {y} k {q} {a} e s = subst (λ (z : ℕ). Separates W (eqb z k) q a) e s
 
--- A refusal of the parameters.
+-- The code's answer that refuses parameters, for a reason at a mark.
+abbrev pub refusedParams : ℕ → Mark → Params
+refusedParams why m = record { why = why; count = 0; this = record { bits = 0; first = 0; end = 0 }; kids = noKids; m = m }
+
+-- The others are refused.
 pub rest-refused : {B : Was} {t : Run} {th : Opt ThisParameter} {x : Result Parameters} {r : Params} {N M O : List ℕ} {why : ℕ} {m : Mark}
-    → r ≡ record { why = why; count = 0; this = record { bits = 0; first = 0; end = 0 }; kids = record { first = 0; count = 0; high = 0 }; m = m }
-    → (why ≡ 0 → ⊥) → x ≡ refuse why (m .at) (m .half) → SaysRest B t th x r N M O
+    → r ≡ refusedParams why m → (why ≡ 0 → ⊥) → x ≡ refuse why (m .at) (m .half) → SaysRest B t th x r N M O
 rest-refused {B} {t} {th} {x} {r} {N} {M} {O} {why} {m} e n i =
     subst (λ (p : Params). SaysRest B t th x p N M O) (sym e) (record { done = λ z. absurd (n z); refused = λ _. i })
 

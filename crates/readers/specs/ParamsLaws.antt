@@ -29,14 +29,17 @@ use Rattle.parts.specs.declared.state.Head.{Head}
 use Rattle.parts.specs.declared.state.Answer.{Answer}
 use Rattle.parts.specs.declared.function.This.{This as ThisCode}
 use Rattle.parts.specs.declared.function.Params.{Params}
+use Rattle.readers.specs.MovedLaws.{built-moved}
+use Rattle.readers.specs.ParameterTurns.{refusedParams}
 
 -- ---- Numbers
 
--- What is in use after a `this`: as much as before it, or as after it.
+-- What is in use after a `this`, which is as much as before it or as after it: no more than what both are no more than.
 pub freed-low : (n : Bool) (a b c : ℕ) → a ≤ c → b ≤ c → freedUsed n a b ≤ c
 freed-low true a b c h i = h
 freed-low false a b c h i = i
 
+-- And no less than what both are no less than.
 pub freed-high : (n : Bool) (a b c : ℕ) → c ≤ a → c ≤ b → c ≤ freedUsed n a b
 freed-high true a b c h i = h
 freed-high false a b c h i = i
@@ -46,18 +49,11 @@ pub bit-low : (n : ℕ) → optBit n ≤ 1
 bit-low zero = omega arith
 bit-low (suc n) = omega arith
 
--- ---- Marks
-
--- Where only the cursor moved, the same is built.
-pub built-moved : {len : ℕ} {m q : Mark} {B : Was} {t : Run} {k : Kids} {N M O : List ℕ} → Moved len m q → BuiltAt B t k m N M O → BuiltAt B t k q N M O
-built-moved {len} {m} {q} {B} {t} {k} {N} {M} {O} v b = rw (v .used-is, v .named-is, v .noted-is) b
-
 -- ---- Answers
 
--- A refusal of the list.
+-- The list is refused.
 pub params-refused : {B : Was} {t : Run} {R : Opt ThisParameter → Run} {x : Result Parameters} {r : Params} {N M O : List ℕ} {why : ℕ} {m : Mark}
-    → r ≡ record { why = why; count = 0; this = record { bits = 0; first = 0; end = 0 }; kids = record { first = 0; count = 0; high = 0 }; m = m }
-    → (why ≡ 0 → ⊥) → x ≡ refuse why (m .at) (m .half) → SaysParams B t R x r N M O
+    → r ≡ refusedParams why m → (why ≡ 0 → ⊥) → x ≡ refuse why (m .at) (m .half) → SaysParams B t R x r N M O
 params-refused {B} {t} {R} {x} {r} {N} {M} {O} {why} {m} e n i =
     subst (λ (p : Params). SaysParams B t R x p N M O) (sym e) (record { done = λ z. absurd (n z); refused = λ _. i })
 
@@ -123,12 +119,15 @@ built-this false {B} {t} {k} {k'} m a th {N} {M} {O} {N₁} {M₁} {O₁} {N₂}
 module _ (g : rule.Given) (T : Reader) (isNew : Bool) {m : Mark} {h : Head} (N M O : List ℕ)
     (opens : Opens (g .words) m h) (z : h .why ≡ 0) (some : h .choices ≡ 0 → ⊥) {a : Answer} {N₁ M₁ O₁ : List ℕ}
     (w : SaysOpt (was (h .m) N M O) (optional g Colon (T true) (view (h .m) O)) a N₁ M₁ O₁) where
+  -- The rule goes on with the `this`.
   this-there : parameters g T isNew (view m O) ≡ thisFirst g T isNew (view (nextMark m) O)
   this-there = opens-this g T isNew m O opens z some .0
 
+  -- The head ends behind it.
   behind : h .m ≡ nextMark (nextMark m)
   behind = opens-this g T isNew m O opens z some .1
 
+  -- What its type says, since the bracket.
   type-says : SaysOpt (was m N M O) (optional g Colon (T true) (view (nextMark (nextMark m)) O)) a N₁ M₁ O₁
   type-says = subst (λ (q : Mark). SaysOpt (was q N M O) (optional g Colon (T true) (view q O)) a N₁ M₁ O₁) behind w
 
@@ -137,6 +136,7 @@ module _ (g : rule.Given) (T : Reader) (isNew : Bool) {m : Mark} {h : Head} (N M
   params-this-refused n = this-there ∙ this-refused g T isNew m O (type-says .refused n)
 
   module _ (read-it : a .why ≡ 0) {f : Mark} (freed-is : f ≡ freedMark isNew m (a .m)) {c : Answer} (s : Separates (g .words) false f c) where
+    -- What stands behind it, at the mark that is free again.
     separates : Separates (g .words) false (freedMark isNew m (a .m)) c
     separates = subst (λ (q : Mark). Separates (g .words) false q c) freed-is s
 

@@ -18,7 +18,7 @@ use Rattle.parts.specs.Says.{Says}
 use Rattle.parts.specs.Nodes.{MakesList, Links}
 use Rattle.parts.specs.Lists.{here}
 use Rattle.parts.specs.Answers.{then-read, then-then, says-same, says-passed, says-stops}
-use Rattle.parts.specs.BuiltLaws.{built-one}
+use Rattle.parts.specs.LeafLaws.{oneKid}
 use Rattle.parts.specs.ShapeLaws.{all-more}
 use Rattle.parts.specs.StepLaws.{view-past}
 use Rattle.parts.specs.RingLaws.{behindPart, parts-more, parts-end}
@@ -28,16 +28,13 @@ use Rattle.parts.specs.declared.state.Mark.{Mark}
 use Rattle.parts.specs.declared.state.Begin.{Begin}
 use Rattle.parts.specs.declared.state.Kids.{Kids}
 use Rattle.parts.specs.declared.state.Answer.{Answer}
-use Rattle.readers.specs.Loops.{endParts, partsOf}
 use Rattle.readers.specs.MovedLaws.{says-moved}
+use Rattle.readers.specs.ChildLaws.{built-child}
+use Rattle.readers.specs.Loops.{endParts, partsOf}
 
--- What a test comes to where its answer in the code was true.
-taken : {A : Type 0} {r b : Bool} (f g : Unit {0} → A) → r ≡ b → r ≡ true → test b f g ≡ f tt
-taken f g e h = ap (λ (x : Bool). test x f g) (sym e ∙ h)
-
--- The same where it was false.
-not-taken : {A : Type 0} {r b : Bool} (f g : Unit {0} → A) → r ≡ b → r ≡ false → test b f g ≡ g tt
-not-taken f g e h = ap (λ (x : Bool). test x f g) (sym e ∙ h)
+-- A test is as its answer in the code.
+tested : {A : Type 0} {r b c : Bool} (f g : Unit {0} → A) → r ≡ b → r ≡ c → test b f g ≡ test c f g
+tested f g e h = ap (λ (x : Bool). test x f g) (sym e ∙ h)
 
 -- Nodes of a tag over a list, with a mark between their parts.
 module _ (text W : List ℕ) (given : Given) (T : Reader) (mark tag : ℕ) (part : State → Result Placed) where
@@ -79,23 +76,21 @@ module _ (text W : List ℕ) (given : Given) (T : Reader) (mark tag : ℕ) (part
       pub first-alone : r ≡ true → Says 0 (was m N M O) x a N' M' O'
       first-alone h =
           let u = first-part .done z .tree in
-          says-passed first-part z (behind ∙ taken (λ _. read u (view (a .m) O')) (λ _. onward (view m O) (turns g) (u ∷ []) (view (a .m) O')) r-is h)
+          says-passed first-part z (behind ∙ tested (λ _. read u (view (a .m) O')) (λ _. onward (view m O) (turns g) (u ∷ []) (view (a .m) O')) r-is h)
 
       -- It is not: the loop that any first part begins is at its head with it.
-      pub first-turn : {k₀ k : Kids} {p : Mark} {N₂ M₂ O₂ : List ℕ} → r ≡ false → k₀ ≡ record { first = a .m .used - 1; count = 1; high = a .high }
+      pub first-turn : {k₀ k : Kids} {p : Mark} {N₂ M₂ O₂ : List ℕ} → r ≡ false → k₀ ≡ oneKid (a .m .used) (a .high)
           → ((B : Was) (u : Placed) → IsNode 0 u → BuiltAt B (runIn 0 u) k₀ (a .m) N' M' O'
           → Turn (view m O') B (onward (view m O') (turns g) (u ∷ []) (view (a .m) O')) k p N₂ M₂ O₂)
           → Turn (view m O) (was m N M O) x k p N₂ M₂ O₂
       first-turn h k-is f =
           let got = first-part .done z in
-          let built = subst (λ (k : Kids). BuiltAt (was m N M O) (runIn 0 (got .tree)) k (a .m) N' M' O') (sym k-is)
-          (built-one [] (got .stands .is-node) (got .stands .high-is) (got .stands .laid)) in
-          let w = f (was m N M O) (got .tree) (got .stands .is-node) built in
+          let w = f (was m N M O) (got .tree) (got .stands .is-node) (built-child k-is (got .stands)) in
           record {
             list = w .list;
             fuel = w .fuel;
             enough = w .enough;
-            is = behind ∙ not-taken (λ _. read (got .tree) (view (a .m) O')) (λ _. onward (view m O) (turns g) (got .tree ∷ []) (view (a .m) O')) r-is h ∙ w .is;
+            is = behind ∙ tested (λ _. read (got .tree) (view (a .m) O')) (λ _. onward (view m O) (turns g) (got .tree ∷ []) (view (a .m) O')) r-is h ∙ w .is;
             each = w .each;
             many-is = w .many-is;
             built = w .built;

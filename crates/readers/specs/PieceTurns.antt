@@ -2,7 +2,7 @@
 use mathlib.Core.Path.{_≡_, refl, sym, ap, _∙_, subst}
 use mathlib.Core.Bool.{true, false}
 use mathlib.Core.List.{List, [], _∷_, _++_}
-use Prim.Native.Nat.{ℕ, suc, _+_, _-_, _*_, _≤_, _<_, max}
+use Prim.Native.Nat.{ℕ, suc, _+_, _-_, _*_, _≤_, _<_}
 use native.Mathlib.Omega.{arith}
 use lib.Dec.{eqb}
 use lib.ListN.{length, length-append}
@@ -10,19 +10,19 @@ use Rattle.words.specs.Kind.{TemplateHead, TemplateMiddle, TemplateTail}
 use Rattle.words.specs.Cursor.{kindAt}
 use Rattle.keys.specs.Placed as node
 use Rattle.keys.specs.Placed.{Placed, Spelling}
-use Rattle.keys.specs.Store.{Run, name, firstKid, under}
-use Rattle.keys.specs.StoreLaws.{_⊕_, firstKid-join}
+use Rattle.keys.specs.Store.{Run, name}
+use Rattle.keys.specs.StoreLaws.{_⊕_}
 use Rattle.rules.specs.Refusal.{unexpected}
 use Rattle.rules.specs.State as rule
 use Rattle.rules.specs.State.{State, Result, Reader, refuse, then, next, first, end, spelling, turns, make}
 use Rattle.rules.specs.Template as template
 use Rattle.parts.specs.Marks.{view, givenOf, namedMark}
-use Rattle.parts.specs.Laid.{heights, nameRun, namesRun, Was, was, Laid, BuiltAt, Spoken}
+use Rattle.parts.specs.Laid.{nameRun, namesRun, Was, was, Laid, BuiltAt, Spoken}
 use Rattle.parts.specs.Says.{Got, Says}
 use Rattle.parts.specs.Nodes.{Links, MakesList}
 use Rattle.parts.specs.Answers.{says-same, then-read, then-refused}
-use Rattle.parts.specs.RunLaws.{heights-join, heights-names, first-names}
 use Rattle.parts.specs.BuiltLaws.{built-names, laid-spoken}
+use Rattle.parts.specs.LeafLaws.{noKids}
 use Rattle.parts.specs.RingLaws.{endTemplate, template-is, behindPiece, pieces-is}
 use Rattle.parts.specs.RingShapes.{pieceRuns, pieces-join, all-pieces, shape-template}
 use Rattle.parts.specs.Turns.{PieceTurn}
@@ -32,18 +32,7 @@ use Rattle.parts.specs.declared.state.Begin.{Begin}
 use Rattle.parts.specs.declared.state.Kids.{Kids}
 use Rattle.parts.specs.declared.state.Answer.{Answer}
 use Rattle.readers.specs.Loops.{piecesOf}
-use Rattle.readers.specs.OptionLaws.{shape-as}
-
--- Names behind what is built are no children.
-pub built-named : {B : Was} {t : Run} {k : Kids} {m q : Mark} {N M M' O : List ℕ} (ss : List Spelling) → Spoken ss m q M M' → BuiltAt B t k m N M O
-    → BuiltAt B (t ⊕ namesRun ss) k q N M' O
-built-named {B} {t} {N = N} {O = O} ss s b =
-    record {
-      laid = s .on B t N O (b .laid);
-      first-is = b .first-is ∙ sym (firstKid-join t (namesRun ss) (B .used) 0 ∙ ap (firstKid t (B .used)) (first-names ss (B .used + under t) 0));
-      high-is =
-          b .high-is ∙ (let z : heights t ≡ max (heights t) 0 = omega arith in z) ∙ ap (max (heights t)) (sym (heights-names ss)) ∙ sym (heights-join t (namesRun ss));
-    }
+use Rattle.readers.specs.ChildLaws.{built-named, shape-as}
 
 -- The first name of a template stands.
 pub laid-head : {ss : List Spelling} (m : Mark) {q : Mark} {N M M' O : List ℕ} → q ≡ namedMark m → Spoken ss m (namedMark m) M M'
@@ -53,7 +42,7 @@ laid-head {ss} m {N = N} {M = M} {M' = M'} {O = O} e s =
 
 -- The pieces begin behind it.
 pub pieces-start : {A : Type 0} {len : ℕ} {B : Was} {s : Spelling} {L : ℕ → List (Placed × Spelling) → State → Result A} {k : Kids} (p : Mark) {N M O : List ℕ}
-    → k ≡ record { first = 0; count = 0; high = 0 } → Laid B (nameRun s) (p .used) (p .named) (p .noted) N M O
+    → k ≡ noKids → Laid B (nameRun s) (p .used) (p .named) (p .noted) N M O
     → PieceTurn len B s L (L (suc len) [] (view p O)) (k .count) k p N M O
 pieces-start {A} {len} {B} {s} {L} p {N} {M} {O} e d =
     subst (λ (y : Kids). PieceTurn len B s L (L (suc len) [] (view p O)) (y .count) y p N M O) (sym e)
@@ -68,9 +57,11 @@ pieces-start {A} {len} {B} {s} {L} p {N} {M} {O} e d =
     })
 
 module _ (text W : List ℕ) (given : Given) (T : Reader) where
+  -- What the reading is given.
   abbrev gave : rule.Given
   gave = givenOf text W given
 
+  -- The rule behind the first name.
   pub template-starts : (m : Mark) (q : Mark) (O : List ℕ) → q ≡ namedMark m → kindAt W (m .at) (m .half) ≡ TemplateHead
       → template.template gave T (view m O) ≡ piecesOf gave T (view m O) (turns gave) [] (view q O)
   template-starts m q O e h =
@@ -84,9 +75,11 @@ module _ (text W : List ℕ) (given : Given) (T : Reader) where
         w .is ∙ then-refused (endTemplate gave T s) (pieces-is gave T (w .fuel) (w .list) (view p O) ∙ then-refused (behindPiece gave T (w .fuel) (w .list)) e)
 
     module _ {high : ℕ} (q : Mark) {N' M' O' : List ℕ} (got : Got 0 (was p N M O) (T true (view p O)) high q N' M' O') where
+      -- What is due behind a type.
       abbrev behind : ℕ → Result Placed
       behind n = then (behindPiece gave T n (w .list) (got .tree) (view q O')) (endTemplate gave T s)
 
+      -- The pieces with one more.
       abbrev more : List (Placed × Spelling)
       more = w .list ++ ((got .tree, spelling gave (view q O')) ∷ [])
 
@@ -100,6 +93,7 @@ module _ (text W : List ℕ) (given : Given) (T : Reader) where
       pub pieces-stop : eqb (kindAt W (q .at) (q .half)) TemplateMiddle ≡ false → eqb (kindAt W (q .at) (q .half)) TemplateTail ≡ false → x ≡ refuse unexpected (q .at) (q .half)
       pieces-stop a b = follows ∙ rw (a, b)
 
+      -- A name in the middle follows, or the last one.
       middle : (n : ℕ) → kindAt W (q .at) (q .half) ≡ TemplateMiddle → behind n ≡ piecesOf gave T s n more (next (view q O'))
       middle n e = rw e
 
@@ -118,6 +112,7 @@ module _ (text W : List ℕ) (given : Given) (T : Reader) where
             (l 0 B (nameRun (spelling gave s) ⊕ pieceRuns (w .list)) (got .tree) N M O M' O' (p .named) (p .noted) (q .named) (q .noted) (w .built) same
             (got .stands .is-node) (got .stands .high-is) (got .stands .laid))))
 
+        -- They are as many as were counted.
         more-many : k' .count ≡ length more
         more-many = omega (arith, many, w .many-is, length-append (w .list) ((got .tree, spelling gave (view q O')) ∷ []))
 

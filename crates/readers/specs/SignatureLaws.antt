@@ -14,7 +14,7 @@ use Rattle.rules.specs.List.{count}
 use Rattle.rules.specs.TypeParameters.{typeParameters}
 use Rattle.rules.specs.Function as function
 use Rattle.rules.specs.Function.{Parameters}
-use Rattle.parts.specs.Marks.{view, givenOf, nextMark, pastMark, Moved}
+use Rattle.parts.specs.Marks.{view, givenOf, nextMark, pastMark}
 use Rattle.parts.specs.Laid.{runIn, runs, runsOpt, AllOpt, Was, was, BuiltAt}
 use Rattle.parts.specs.Says.{Got, Says, isThere}
 use Rattle.parts.specs.Nodes.{Links}
@@ -29,11 +29,6 @@ use Rattle.parts.specs.declared.state.Answer.{Answer}
 use Rattle.parts.specs.declared.function.This.{This as ThisCode}
 use Rattle.parts.specs.declared.function.FunctionHead.{FunctionHead}
 use Rattle.parts.specs.declared.function.Params.{Params}
-
--- Where only the cursor moved, an answer since then is one since before.
-pub says-moved : {c len : ℕ} {m q : Mark} {x : Result Placed} {a : Answer} (N M O : List ℕ) {N' M' O' : List ℕ} → Moved len m q
-    → Says c (was q N M O) x a N' M' O' → Says c (was m N M O) x a N' M' O'
-says-moved N M O v w = rw (← v .used-is, ← v .named-is, ← v .noted-is) w
 
 -- The rule from where its head ends.
 pub function-from : (text W : List ℕ) (given : Given) (T : Reader) (on : Bool) {m : Mark} {h : FunctionHead} (O : List ℕ) → HeadIs W m h

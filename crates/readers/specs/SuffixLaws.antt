@@ -1,6 +1,6 @@
 -- Postfix marks as their reader takes them: what stands first, and the loop over the marks.
 use mathlib.Core.Path.{_≡_, refl, sym, ap, _∙_}
-use mathlib.Core.Bool.{Bool, true, false, not}
+use mathlib.Core.Bool.{true, false, not}
 use mathlib.Core.List.{List}
 use Prim.Native.Nat.{ℕ, suc, _+_, _-_, _<_}
 use native.Mathlib.Omega.{arith}
@@ -10,6 +10,7 @@ use Rattle.words.specs.Test.{_and_, _or_}
 use Rattle.words.specs.Kind.{LBrack, Question, Bang}
 use Rattle.words.specs.Ahead.{starter}
 use Rattle.keys.specs.Placed.{Placed}
+use Rattle.rules.specs.TokenLaws.{both-true}
 use Rattle.rules.specs.State as rule
 use Rattle.rules.specs.State.{State, Result, Reader, then, onLine, first, turns}
 use Rattle.rules.specs.Primary.{primary}
@@ -26,15 +27,10 @@ use Rattle.parts.specs.declared.state.Mark.{Mark}
 use Rattle.parts.specs.declared.state.Begin.{Begin}
 use Rattle.parts.specs.declared.state.Answer.{Answer}
 
--- The second half of a test that holds.
-behind : (a b : Bool) → (a and b) ≡ true → b ≡ true
-behind true b h = h
-behind false b h = let z : _≡_ {A = ℕ} 0 1 = cc in absurd (omega arith)
-
 -- A mark that follows lies inside the list.
 pub suffixed-inside : (g : rule.Given) (s : State) → suffixed g s ≡ true → s .at < length (g .words)
 suffixed-inside g s h =
-    kind-inside (λ k. eqb k Bang or (eqb k Question and not (starter (g .words) (s .at + 1))) or eqb k LBrack) (g .words) (s .at) (s .half) refl (behind (onLine g s) _ h)
+    kind-inside (λ k. eqb k Bang or (eqb k Question and not (starter (g .words) (s .at + 1))) or eqb k LBrack) (g .words) (s .at) (s .half) refl (both-true (onLine g s) _ h .1)
 
 module _ (text W : List ℕ) (given : Given) (T : Reader) where
   -- What the reading is given.

@@ -1,5 +1,5 @@
 -- An infer as its reader takes it: the name that is bound, and its constraint that was tried.
-use mathlib.Core.Path.{_≡_, sym, ap, _∙_, subst}
+use mathlib.Core.Path.{_≡_, sym, ap, _∙_}
 use mathlib.Core.Bool.{Bool, true, false}
 use mathlib.Core.List.{List, [], _∷_}
 use Prim.Native.Nat.{ℕ, _*_, _≤_}
@@ -14,21 +14,23 @@ use Rattle.rules.specs.State.{State, Result, Reader, first, end, make}
 use Rattle.rules.specs.Infer.{infer}
 use Rattle.rules.specs.Notes.{Note}
 use Rattle.parts.specs.Marks.{view, givenOf, nextMark}
-use Rattle.parts.specs.Laid.{nameRun, was, BuiltAt, Laid}
+use Rattle.parts.specs.Laid.{nameRun, was, Laid}
 use Rattle.parts.specs.Says.{Says, GotNames, Any, one}
 use Rattle.parts.specs.Named.{oneName}
 use Rattle.parts.specs.Nodes.{Makes}
 use Rattle.parts.specs.Infers.{Infers}
 use Rattle.parts.specs.Lists.{here}
 use Rattle.parts.specs.Answers.{says-same, says-stops}
-use Rattle.parts.specs.BuiltLaws.{built-names, laid-spoken}
+use Rattle.parts.specs.BuiltLaws.{laid-spoken}
 use Rattle.parts.specs.LaidLaws.{laid-on, laid-back}
+use Rattle.parts.specs.LeafLaws.{noKids}
 use Rattle.parts.specs.PostfixLaws.{infer-none, infer-tried, infer-dropped, infer-kept, shape-infer}
 use Rattle.parts.specs.declared.state.Given.{Given}
 use Rattle.parts.specs.declared.state.Mark.{Mark}
 use Rattle.parts.specs.declared.state.Begin.{Begin}
 use Rattle.parts.specs.declared.state.Kids.{Kids}
 use Rattle.parts.specs.declared.state.Answer.{Answer}
+use Rattle.readers.specs.ChildLaws.{built-spoken}
 
 -- The name was read from m to p.
 module _ (text W : List ℕ) (given : Given) (T : Reader) (on : Bool) {m p : Mark} {M M' O : List ℕ}
@@ -51,12 +53,12 @@ module _ (text W : List ℕ) (given : Given) (T : Reader) (on : Bool) {m p : Mar
 
   module _ {b : Begin} (first-is : b .first ≡ first g (view m O)) (name-is : b .name ≡ m .named) where
     -- No constraint follows.
-    pub bare-put : {k : Kids} {a : Answer} {N' : List ℕ} → here W Extends p ≡ false → k ≡ record { first = 0; count = 0; high = 0 } → Makes W given b 10 k p N a N'
+    pub bare-put : {k : Kids} {a : Answer} {N' : List ℕ} → here W Extends p ≡ false → k ≡ noKids → Makes W given b 10 k p N a N'
         → Says 0 (was m N M O) (infer g T on (view m O)) a N' M' O
     bare-put {k} {a} {N'} h k-is makes =
         says-same (infer-none g T on (view m O) (named .is) h ∙ ap (λ (f : ℕ). node-at f absent (view p O)) (sym first-is))
         (makes text 0 (was m N M O) (nameRun x) 10 (join (spell x) (maybe absent)) M' O
-        (subst (λ (j : Kids). BuiltAt (was m N M O) (nameRun x) j p N M' O) (sym k-is) (built-names (x ∷ []) name-laid)) name-is (shape-infer x))
+        (built-spoken k-is (named .spoken)) name-is (shape-infer x))
 
     module _ (h : here W Extends p ≡ true) {t : Answer} {N' M'' O' : List ℕ} (says : Says 0 (was (nextMark p) N M' O) (T false (view (nextMark p) O)) t N' M'' O') where
       -- The constraint is refused.

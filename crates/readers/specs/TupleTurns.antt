@@ -9,7 +9,7 @@ use Rattle.words.specs.Kind.{LBrack, RBrack}
 use Rattle.words.specs.Test.{_and_, _or_}
 use Rattle.keys.specs.Placed as node
 use Rattle.keys.specs.Placed.{Placed, listed}
-use Rattle.keys.specs.Store.{Run, done}
+use Rattle.keys.specs.Store.{done}
 use Rattle.rules.specs.Refusal.{unexpected}
 use Rattle.rules.specs.Notes.{note, requiredAfterOptional}
 use Rattle.rules.specs.State as rule
@@ -17,13 +17,14 @@ use Rattle.rules.specs.State.{State, Result, Reader, read, refuse, then, kind, 
 use Rattle.rules.specs.List.{listFrom}
 use Rattle.rules.specs.Tuple as tuple
 use Rattle.parts.specs.Marks.{view, givenOf, nextMark, Moved}
-use Rattle.parts.specs.Laid.{runs, Was, was, Built, BuiltAt, Stands, Shape}
+use Rattle.parts.specs.Laid.{runs, Was, was, BuiltAt, Stands, Shape}
 use Rattle.parts.specs.Says.{Got}
 use Rattle.parts.specs.Nodes.{Links}
 use Rattle.parts.specs.Lists.{Follows, closes, goes, stops}
 use Rattle.parts.specs.Elements.{Checks}
 use Rattle.parts.specs.ListLaws.{list-closed, list-refused, list-goes, list-stops}
 use Rattle.parts.specs.BuiltLaws.{built-none}
+use Rattle.parts.specs.LeafLaws.{noKids}
 use Rattle.parts.specs.ShapeLaws.{all-more}
 use Rattle.parts.specs.TupleLaws.{tuple-is, checked-read, checked-full, checked-refused, seen-more, tuple-shape}
 use Rattle.parts.specs.Turns.{looped, built-more}
@@ -32,17 +33,11 @@ use Rattle.parts.specs.declared.state.Mark.{Mark}
 use Rattle.parts.specs.declared.state.Kids.{Kids}
 use Rattle.parts.specs.declared.state.Answer.{Answer}
 use Rattle.parts.specs.declared.tuple.Seen.{Seen}
+use Rattle.readers.specs.MovedLaws.{built-moved}
 use Rattle.readers.specs.Loops.{TupleTurn, endTuple}
 
--- Only the cursor moved behind what was built.
-pub built-moved : {B : Was} {t : Run} {k : Kids} {len : ℕ} {m q : Mark} {N M O : List ℕ} → Moved len m q → BuiltAt B t k m N M O → BuiltAt B t k q N M O
-built-moved {B} {t} {k} {len} {m} {q} {N} {M} {O} w b =
-    subst (λ (x : ℕ). Built B t k x (q .named) (q .noted) N M O) (sym (w .used-is))
-    (subst (λ (x : ℕ). Built B t k (m .used) x (q .noted) N M O) (sym (w .named-is))
-    (subst (λ (x : ℕ). Built B t k (m .used) (m .named) x N M O) (sym (w .noted-is)) b))
-
 -- Behind its bracket there is no element yet.
-pub tuple-begins : (g : rule.Given) (T : Reader) (m : Mark) (N M O : List ℕ) {k : Kids} → k ≡ record { first = 0; count = 0; high = 0 } → kind g (view m O) ≡ LBrack
+pub tuple-begins : (g : rule.Given) (T : Reader) (m : Mark) (N M O : List ℕ) {k : Kids} → k ≡ noKids → kind g (view m O) ≡ LBrack
     → TupleTurn g T (view m O) (was m N M O) false k (nextMark m) N M O
 tuple-begins g T m N M O e h =
     subst (λ (x : Kids). TupleTurn g T (view m O) (was m N M O) false x (nextMark m) N M O) (sym e)
@@ -62,15 +57,19 @@ tuple-begins g T m N M O e h =
 
 module _ (text W : List ℕ) (given : Given) (T : Reader) (s : State) {B : Was} {seen : Bool} {k : Kids} {p : Mark} {N M O : List ℕ}
     (w : TupleTurn (givenOf text W given) T s B seen k p N M O) where
+  -- What the reading is given.
   abbrev g : rule.Given
   g = givenOf text W given
 
+  -- The elements so far.
   abbrev list : List Placed
   list = w .turn .list
 
+  -- What is due with the elements so far.
   abbrev from : ℕ → List Placed → State → Result Placed
   from = looped g RBrack (tuple.checkedElement g T) (endTuple g T s)
 
+  -- The list of the elements alone.
   abbrev elements : ℕ → List Placed → State → Result (List Placed)
   elements n l q = listFrom g RBrack (tuple.checkedElement g T) n l q
 
@@ -86,6 +85,7 @@ module _ (text W : List ℕ) (given : Given) (T : Reader) (s : State) {B : Was} 
       ∙ ap (λ (n : ℕ). make g (n ∷ []) (node.tuple (first g s) (end g (view (nextMark p) O)) list) (view (nextMark p) O)) (sym (w .turn .many-is))
       ∙ ap (λ (x : ℕ). make g (k .count ∷ []) (node.tuple x (end g (view (nextMark p) O)) list) (view (nextMark p) O)) (sym e)
 
+  -- The shape of its list of elements.
   pub tuple-listed : Shape 0 19 (listed list) (runs 1 list) (19 + 64 * k .count)
   tuple-listed = subst (λ (n : ℕ). Shape 0 19 (listed list) (runs 1 list) (19 + 64 * n)) (sym (w .turn .many-is)) (tuple-shape list (w .turn .each))
 
@@ -96,6 +96,7 @@ module _ (text W : List ℕ) (given : Given) (T : Reader) (s : State) {B : Was} 
 
     module _ {high : ℕ} {q : Mark} {N' M' O' : List ℕ} {r : Seen} {O'' : List ℕ}
         (got : Got 1 (was p N M O) (tuple.element g T (view p O)) high q N' M' O') (checks : Checks given seen q N' O' r O'') where
+      -- The element.
       abbrev e : Placed
       e = got .tree
 
@@ -111,6 +112,7 @@ module _ (text W : List ℕ) (given : Given) (T : Reader) (s : State) {B : Was} 
           (subst (λ (b : Bool). reported b ≡ refuse (r .why) (r .m .at) (r .m .half)) (w .seen-is) (checks .refused h text W (was p N M O) e high M' (got .stands)))))
 
       module _ (h : r .why ≡ 0) where
+        -- The element is read, diagnostic 4 with it.
         checked-here : tuple.checkedElement g T list (view p O) ≡ read e (view (r .m) O'')
         checked-here =
             checked-read g T list (view p O) (got .is)

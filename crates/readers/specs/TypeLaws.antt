@@ -1,7 +1,7 @@
 -- Types, conditionals, optional types and brackets, as their readers take them.
 use mathlib.Core.Path.{_≡_, refl, sym, ap, _∙_, subst}
 use mathlib.Core.Bool.{Bool, true, false}
-use mathlib.Core.List.{List, []}
+use mathlib.Core.List.{List}
 use Prim.Native.Nat.{ℕ}
 use Rattle.words.specs.Kind.{Question, Colon, Extends}
 use Rattle.keys.specs.Placed.{Placed, absent, present}
@@ -11,7 +11,7 @@ use Rattle.rules.specs.TypeRule as type
 use Rattle.rules.specs.Union as union
 use Rattle.rules.specs.Primary as primary
 use Rattle.parts.specs.Marks.{view}
-use Rattle.parts.specs.Laid.{runIn, Was, was, BuiltAt, Stands}
+use Rattle.parts.specs.Laid.{was}
 use Rattle.parts.specs.Says.{Says, SaysOpt}
 use Rattle.parts.specs.Onward.{behindColon, behindQuestion}
 use Rattle.parts.specs.Primaries.{closeParens}
@@ -19,15 +19,13 @@ use Rattle.parts.specs.Answers.{then-read, then-refused}
 use Rattle.parts.specs.RingLaws.{expect-yes, expect-no, optional-none, optional-some, orConditional, union-or, conditional-is, question-is}
 use Rattle.parts.specs.PrimaryLaws.{brackets-is}
 use Rattle.parts.specs.LaidLaws.{laid-none}
-use Rattle.parts.specs.LeafLaws.{oneKid}
-use Rattle.parts.specs.BuiltLaws.{built-one}
 use Rattle.parts.specs.declared.state.Mark.{Mark}
-use Rattle.parts.specs.declared.state.Kids.{Kids}
 use Rattle.parts.specs.declared.state.Answer.{Answer}
 
 -- ---- Behind a union
 
 module _ (g : Given) (T : Reader) (on : Bool) (s : State) {t : Placed} {q : State} (is : union.union g T on s ≡ read t q) where
+  -- What the rule does with the union.
   behind-union : type.unionOrConditional g T on s ≡ orConditional g T on s t q
   behind-union = union-or g T on s ∙ then-read (orConditional g T on s) is
 
@@ -103,11 +101,3 @@ module _ (g : Given) (mark : ℕ) (part : State → Result Placed) (m : Mark) (N
 pub brackets-from : (g : Given) (T : Reader) (s : State) {t : Placed} {q : State} (b : ℕ) → b ≡ first g s → T true (next s) ≡ read t q
     → primary.brackets g T s ≡ closeParens g b t q
 brackets-from g T s {t} {q} b f is = brackets-is g T s ∙ then-read _ is ∙ ap (λ (n : ℕ). closeParens g n t q) (sym f)
-
--- ---- One child
-
--- A tree that stands alone is the one child of what is being read.
-pub built-child : {c high : ℕ} {B : Was} {u : Placed} {k : Kids} {m : Mark} {N M O : List ℕ} → k ≡ oneKid (m .used) high → Stands c B u high m N M O
-    → BuiltAt B (runIn c u) k m N M O
-built-child {c} {high} {B} {u} {k} {m} {N} {M} {O} e s =
-    subst (λ (x : Kids). BuiltAt B (runIn c u) x m N M O) (sym e) (built-one [] (s .is-node) (s .high-is) (s .laid))

@@ -1,14 +1,7 @@
 -- The needs of `element`.
-use Prim.Native.Nat.{ℕ, suc, _+_, _-_, _*_, _^_, _≤_, _<_}
+use Prim.Native.Nat.{ℕ}
 use native.Mathlib.Omega.{arith}
-use borrow.Author.Needs.{needs}
-use borrow.Author.Tests.{not-true, not-false}
-use mathlib.Core.Path.{_≡_, refl, sym, _∙_, ap, subst}
-use mathlib.Core.List.{List, [], _∷_, _++_}
-use lib.ListN.{length}
 use Rattle.parts.specs.MemberLaws.{element-refused, element-says}
-use Rattle.parts.specs.declared.function.This.{This}
-use Rattle.readers.specs.Fields.{same-mark, same-kids, same-answer, same-listed, same-params}
 use Rattle.parts.proofs.tuple.element_head.Reads as element-head-reads
 use Rattle.parts.proofs.tuple.element_node.Reads as element-node-reads
 use Rattle.readers.proofs.ring.element.Reads as element
@@ -22,82 +15,72 @@ R t = (element-head-reads.Asked, element-head-reads.Learnt, ty-below t, ty.Post,
 module _ (t : ℕ) where
   pub element-head-requires : lts.Need-element-head-requires (R t) (element-at t) element.Post
   element-head-requires c κs =
-      let good = c .before .before .before .before .before .good in
       let pre = c .before .before .before .before .before .pre in
-      (pre .1 .0, pre .1 .1, omega (arith, pre, good), omega (arith, pre, good))
+      (pre .1 .0, pre .1 .1, omega arith, omega arith)
 
   pub ty-requires : lts.Need-ty-requires (R t) (element-at t) element.Post
   ty-requires c κs =
-      let good = c .before .before .before .before .before .before .before .before .before .before .before .good in
       let pre = c .before .before .before .before .before .before .before .before .before .before .before .pre in
-      let element-head = c .before .before .before .before .before .element-head in
-      (omega (arith, element-head .ensures .0 .name-is, element-head .ensures .1 .1, element-head .kept, pre, good), (pre .1 .0, pre .1 .1, omega (arith, element-head .ensures .0 .name-is, element-head .ensures .1 .1, element-head .kept, pre, good), omega (arith, element-head .ensures .0 .name-is, element-head .ensures .1 .1, element-head .kept, pre, good)))
+      (omega arith, (pre .1 .0, pre .1 .1, omega arith, omega arith))
 
   pub same-length : lts.Need-same-length (R t) (element-at t) element.Post
-  same-length c =
-      let element-head = c .before .before .before .before .before .before .before .before .before .before .before .before .before .before .element-head in
-      let ty = c .before .before .before .before .before .before .before .before .ty in
-      omega (arith, ty .kept, element-head .kept)
+  same-length c = omega arith
 
   pub same-length-2 : lts.Need-same-length-2 (R t) (element-at t) element.Post
-  same-length-2 c =
-      let element-head = c .before .before .before .before .before .before .before .before .before .before .before .before .before .before .element-head in
-      let ty = c .before .before .before .before .before .before .before .before .ty in
-      omega (arith, ty .kept, element-head .kept)
+  same-length-2 c = omega arith
 
   pub same-length-3 : lts.Need-same-length-3 (R t) (element-at t) element.Post
-  same-length-3 c =
-      let element-head = c .before .before .before .before .before .before .before .before .before .before .before .before .before .before .element-head in
-      let ty = c .before .before .before .before .before .before .before .before .ty in
-      omega (arith, ty .kept, element-head .kept)
+  same-length-3 c = omega arith
 
   pub returns : lts.Need-returns (R t) (element-at t) element.Post
   returns c =
       let args = c .before .before .before .before .before .before .before .before .before .before .before .before .before .before .before .before .before .before .before .before .args in
-      let good = c .before .before .before .before .before .before .before .before .before .before .before .before .before .before .before .before .before .before .before .before .good in
-      let pre = c .before .before .before .before .before .before .before .before .before .before .before .before .before .before .before .before .before .before .before .before .pre in
       let element-head = c .before .before .before .before .before .before .before .before .before .before .before .before .before .before .element-head in
       let ty = c .before .before .before .before .before .before .before .before .ty in
-      let if1 = c .if1 in
-      (λ text s. element-refused _ _ (args .given) _ _ _ _ _ _ _ _ _ _ _ s (element-head .ensures .0) (element-head .ensures .1 .0) (ty .ensures .0 text s) _ _ _ (if1 .taken), (omega (arith, if1, ty .ensures .1 .0, ty .kept, element-head .ensures .0 .name-is, element-head .ensures .1 .1, element-head .kept, pre, good), λ z. omega (arith, if1, ty .ensures .1 .0, ty .kept, element-head .ensures .0 .name-is, element-head .ensures .1 .1, element-head .kept, pre, good, z)))
+      let if1 = c .if1 in (
+        λ text s.
+            element-refused _ _ (args .given) _ _ _ _ _ _ _ _ _ _ _ s (element-head .ensures .0) (element-head .ensures .1 .0)
+            (ty .ensures .0 text s) _ _ _ (if1 .taken),
+        (omega arith, λ z. omega arith),
+      )
 
   pub element-node-requires : lts.Need-element-node-requires (R t) (element-at t) element.Post
   element-node-requires c κs =
-      let good = c .before .before .before .before .before .before .before .before .before .before .before .before .before .before .before .before .before .before .before .before .before .before .good in
       let pre = c .before .before .before .before .before .before .before .before .before .before .before .before .before .before .before .before .before .before .before .before .before .before .pre in
       let element-head = c .before .before .before .before .before .before .before .before .before .before .before .before .before .before .before .before .element-head in
       let ty = c .before .before .before .before .before .before .before .before .before .before .ty in
-      let if1 = c .before .before .if1 in
-      (pre .1 .1, omega (arith, if1, ty .ensures .1 .0, ty .kept, ty .ensures .1 .1 (if1 .left), element-head .ensures .0 .name-is, element-head .ensures .1 .1, element-head .kept, pre, good), omega (arith, if1, ty .ensures .1 .0, ty .kept, ty .ensures .1 .1 (if1 .left), element-head .ensures .0 .name-is, element-head .ensures .1 .1, element-head .kept, pre, good), omega (arith, if1, ty .ensures .1 .0, ty .kept, ty .ensures .1 .1 (if1 .left), element-head .ensures .0 .name-is, element-head .ensures .1 .1, element-head .kept, pre, good), omega (arith, if1, ty .ensures .1 .0, ty .kept, ty .ensures .1 .1 (if1 .left), element-head .ensures .0 .name-is, element-head .ensures .1 .1, element-head .kept, pre, good), omega (arith, if1, ty .ensures .1 .0, ty .kept, ty .ensures .1 .1 (if1 .left), element-head .ensures .0 .name-is, element-head .ensures .1 .1, element-head .kept, pre, good), omega (arith, if1, ty .ensures .1 .0, ty .kept, ty .ensures .1 .1 (if1 .left), element-head .ensures .0 .name-is, element-head .ensures .1 .1, element-head .kept, pre, good), omega (arith, if1, ty .ensures .1 .0, ty .kept, ty .ensures .1 .1 (if1 .left), element-head .ensures .0 .name-is, element-head .ensures .1 .1, element-head .kept, pre, good), omega (arith, if1, ty .ensures .1 .0, ty .kept, ty .ensures .1 .1 (if1 .left), element-head .ensures .0 .name-is, element-head .ensures .1 .1, element-head .kept, pre, good))
+      let if1 = c .before .before .if1 in (
+        pre .1 .1,
+        omega arith,
+        omega arith,
+        omega arith,
+        omega (arith, ty .ensures .1 .1 (if1 .left)),
+        omega arith,
+        omega arith,
+        omega (arith, ty .ensures .1 .1 (if1 .left), element-head .ensures .0 .name-is, element-head .ensures .1 .1),
+        omega (arith, ty .ensures .1 .1 (if1 .left), element-head .ensures .0 .name-is, element-head .ensures .1 .1),
+      )
 
   pub same-length-4 : lts.Need-same-length-4 (R t) (element-at t) element.Post
-  same-length-4 c =
-      let element-head = c .before .before .before .before .before .before .before .before .before .before .before .before .before .before .before .before .before .before .before .before .before .element-head in
-      let ty = c .before .before .before .before .before .before .before .before .before .before .before .before .before .before .before .ty in
-      let element-node = c .before .before .before .before .element-node in
-      omega (arith, element-node .kept, ty .kept, element-head .kept)
+  same-length-4 c = omega arith
 
   pub same-length-5 : lts.Need-same-length-5 (R t) (element-at t) element.Post
   same-length-5 c =
       let element-head = c .before .before .before .before .before .before .before .before .before .before .before .before .before .before .before .before .before .before .before .before .before .element-head in
-      let ty = c .before .before .before .before .before .before .before .before .before .before .before .before .before .before .before .ty in
-      let element-node = c .before .before .before .before .element-node in
-      omega (arith, element-node .kept, ty .kept, element-head .kept)
+      omega (arith, element-head .kept)
 
   pub same-length-6 : lts.Need-same-length-6 (R t) (element-at t) element.Post
-  same-length-6 c =
-      let element-head = c .before .before .before .before .before .before .before .before .before .before .before .before .before .before .before .before .before .before .before .before .before .element-head in
-      let ty = c .before .before .before .before .before .before .before .before .before .before .before .before .before .before .before .ty in
-      let element-node = c .before .before .before .before .element-node in
-      omega (arith, element-node .kept, ty .kept, element-head .kept)
+  same-length-6 c = omega arith
 
   pub returns-2 : lts.Need-returns-2 (R t) (element-at t) element.Post
   returns-2 c =
       let args = c .before .before .before .before .before .before .before .before .before .before .before .before .before .before .before .before .before .before .before .before .before .before .before .before .before .before .before .args in
-      let good = c .before .before .before .before .before .before .before .before .before .before .before .before .before .before .before .before .before .before .before .before .before .before .before .before .before .before .before .good in
-      let pre = c .before .before .before .before .before .before .before .before .before .before .before .before .before .before .before .before .before .before .before .before .before .before .before .before .before .before .before .pre in
       let element-head = c .before .before .before .before .before .before .before .before .before .before .before .before .before .before .before .before .before .before .before .before .before .element-head in
       let ty = c .before .before .before .before .before .before .before .before .before .before .before .before .before .before .before .ty in
       let if1 = c .before .before .before .before .before .before .before .if1 in
-      let element-node = c .before .before .before .before .element-node in
-      (λ text s. element-says _ _ (args .given) _ _ _ _ _ _ _ _ _ _ _ s (element-head .ensures .0) (element-head .ensures .1 .0) (ty .ensures .0 text s) _ _ _ (if1 .left) (element-node .ensures .0), (omega (arith, element-node .ensures .1, element-node .kept, if1, ty .ensures .1 .0, ty .kept, ty .ensures .1 .1 (if1 .left), element-head .ensures .0 .name-is, element-head .ensures .1 .1, element-head .kept, pre, good), λ z. omega (arith, element-node .ensures .1, element-node .kept, if1, ty .ensures .1 .0, ty .kept, ty .ensures .1 .1 (if1 .left), element-head .ensures .0 .name-is, element-head .ensures .1 .1, element-head .kept, pre, good, z)))
+      let element-node = c .before .before .before .before .element-node in (
+        λ text s.
+            element-says _ _ (args .given) _ _ _ _ _ _ _ _ _ _ _ s (element-head .ensures .0) (element-head .ensures .1 .0)
+            (ty .ensures .0 text s) _ _ _ (if1 .left) (element-node .ensures .0),
+        (omega arith, λ z. omega (arith, ty .ensures .1 .1 (if1 .left))),
+      )

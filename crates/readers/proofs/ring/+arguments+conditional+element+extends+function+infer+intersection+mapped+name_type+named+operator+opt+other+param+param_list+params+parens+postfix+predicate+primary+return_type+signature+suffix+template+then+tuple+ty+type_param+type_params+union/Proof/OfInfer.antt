@@ -1,18 +1,13 @@
 -- The needs of `infer`.
-use Prim.Native.Nat.{ℕ, suc, _+_, _-_, _*_, _^_, _≤_, _<_}
+use Prim.Native.Nat.{ℕ}
 use native.Mathlib.Omega.{arith}
 use borrow.Author.Needs.{needs}
-use borrow.Author.Tests.{not-true, not-false}
-use mathlib.Core.Path.{_≡_, refl, sym, _∙_, ap, subst}
-use mathlib.Core.List.{List, [], _∷_, _++_}
-use lib.ListN.{length}
-use Rattle.parts.specs.declared.function.This.{This}
-use Rattle.readers.specs.Fields.{same-mark, same-kids, same-answer, same-listed, same-params}
 use Rattle.parts.specs.Marks.{view, givenOf}
 use Rattle.parts.specs.Ring.{below}
 use Rattle.parts.specs.Answers.{says-as, says-stop}
 use Rattle.parts.specs.MarkLaws.{is-here, is-not-here}
 use Rattle.parts.specs.PostfixLaws.{infer-refused}
+use Rattle.readers.specs.Fields.{same-kids, same-answer}
 use Rattle.readers.specs.TrialLaws.{bare-put, trial-refused, trial-put}
 use Rattle.parts.proofs.infer.dropped.Reads as dropped-reads
 use Rattle.parts.proofs.infer.infer_head.Reads as infer-head-reads
@@ -33,18 +28,14 @@ R t = (infer-head-reads.Asked, infer-head-reads.Learnt, state-Answer-refused-rea
 module _ (t : ℕ) where
   pub infer-head-requires : lts.Need-infer-head-requires (R t) (infer-at t) infer.Post
   infer-head-requires c κs =
-      let good = c .before .before .before .before .before .good in
       let pre = c .before .before .before .before .before .pre in
-      (pre .1 .0, pre .1 .1, omega (arith, pre, good), omega (arith, pre, good))
+      (pre .1 .0, pre .1 .1, omega arith, omega arith)
 
   pub refused-requires : lts.Need-refused-requires (R t) (infer-at t) infer.Post
-  refused-requires c κs =
-      search needs
+  refused-requires c κs = search needs
 
   pub same-length : lts.Need-same-length (R t) (infer-at t) infer.Post
-  same-length c =
-      let infer-head = c .before .before .before .before .before .infer-head in
-      omega (arith, infer-head .kept)
+  same-length c = omega arith
 
   pub returns : lts.Need-returns (R t) (infer-at t) infer.Post
   returns c =
@@ -59,48 +50,29 @@ module _ (t : ℕ) where
             let T = below (args .given) g in
             says-as (refused .ensures)
             (says-stop (if1 .taken) (infer-refused g T (args .on) (view (args .m) (args .notes .now)) (infer-head .ensures .0 text (args .notes .now) (args .given) s .refused (if1 .taken)))),
-        (omega (arith, same-answer (refused .ensures), if1, infer-head .kept, pre, good), λ z. omega (arith, same-answer (refused .ensures), if1, infer-head .kept, pre, good, z)),
+        (omega (arith, same-answer (refused .ensures), pre, good), λ z. omega (arith, same-answer (refused .ensures))),
       )
 
   pub at-requires : lts.Need-at-requires (R t) (infer-at t) infer.Post
-  at-requires c κs =
-      let good = c .before .before .before .before .before .before .before .before .before .before .before .good in
-      let pre = c .before .before .before .before .before .before .before .before .before .before .before .pre in
-      let infer-head = c .before .before .before .before .before .infer-head in
-      let if1 = c .before .if1 in
-      (pre .1 .1, omega (arith, if1, infer-head .kept, pre, good))
+  at-requires c κs = search needs
 
   pub kind-at-requires : lts.Need-kind-at-requires (R t) (infer-at t) infer.Post
-  kind-at-requires c κs =
-      search needs
+  kind-at-requires c κs = search needs
 
   pub none-requires : lts.Need-none-requires (R t) (infer-at t) infer.Post
-  none-requires c κs =
-      search needs
+  none-requires c κs = search needs
 
   pub put-requires : lts.Need-put-requires (R t) (infer-at t) infer.Post
   put-requires c κs =
-      let good = c .before .before .before .before .before .before .before .before .before .before .before .before .before .before .before .before .good in
       let pre = c .before .before .before .before .before .before .before .before .before .before .before .before .before .before .before .before .pre in
-      let infer-head = c .before .before .before .before .before .before .before .before .before .before .infer-head in
-      let if1 = c .before .before .before .before .before .before .if1 in
-      let at = c .before .before .before .before .at in
-      let kind-at = c .before .before .before .kind-at in
-      let if2 = c .before .before .if2 in
       let none = c .none in
-      (pre .1 .1, omega (arith, same-kids (none .ensures), if2, kind-at .ensures .0, kind-at .ensures .1, at .ensures .0, at .ensures .1, if1, infer-head .kept, pre, good), omega (arith, same-kids (none .ensures), if2, kind-at .ensures .0, kind-at .ensures .1, at .ensures .0, at .ensures .1, if1, infer-head .kept, pre, good), omega (arith, same-kids (none .ensures), if2, kind-at .ensures .0, kind-at .ensures .1, at .ensures .0, at .ensures .1, if1, infer-head .kept, pre, good), omega (arith, same-kids (none .ensures), if2, kind-at .ensures .0, kind-at .ensures .1, at .ensures .0, at .ensures .1, if1, infer-head .kept, pre, good), omega (arith, same-kids (none .ensures), if2, kind-at .ensures .0, kind-at .ensures .1, at .ensures .0, at .ensures .1, if1, infer-head .kept, pre, good))
+      (pre .1 .1, omega arith, omega arith, omega (arith, same-kids (none .ensures)), omega arith, omega arith)
 
   pub same-length-2 : lts.Need-same-length-2 (R t) (infer-at t) infer.Post
-  same-length-2 c =
-      let infer-head = c .before .before .before .before .before .before .before .before .before .before .before .before .before .infer-head in
-      let put = c .before .before .put in
-      omega (arith, put .kept, infer-head .kept)
+  same-length-2 c = omega arith
 
   pub same-length-3 : lts.Need-same-length-3 (R t) (infer-at t) infer.Post
-  same-length-3 c =
-      let infer-head = c .before .before .before .before .before .before .before .before .before .before .before .before .before .infer-head in
-      let put = c .before .before .put in
-      omega (arith, put .kept, infer-head .kept)
+  same-length-3 c = omega arith
 
   pub returns-2 : lts.Need-returns-2 (R t) (infer-at t) infer.Post
   returns-2 c =
@@ -117,56 +89,35 @@ module _ (t : ℕ) where
         λ text s.
             let g = givenOf text (args .words .now) (args .given) in
             let T = below (args .given) g in
-            bare-put text (args .words .now) (args .given) T (args .on) (infer-head .ensures .0 text (args .notes .now) (args .given) s .done (if1 .left)) (args .nodes .now) (at .ensures .0 .0) (at .ensures .0 .1)
+            bare-put text (args .words .now) (args .given) T (args .on)
+            (infer-head .ensures .0 text (args .notes .now) (args .given) s .done (if1 .left)) (args .nodes .now) (at .ensures .0 .0)
+            (at .ensures .0 .1)
             (is-not-here (args .words .now) (infer-head .result .m) (kind-at .ensures .0) (if2 .taken)) (none .ensures) (put .ensures .0),
-        (omega (arith, put .ensures .1, put .kept, same-kids (none .ensures), if2, kind-at .ensures .0, kind-at .ensures .1, at .ensures .0, at .ensures .1, if1, infer-head .kept, pre, good), λ z. omega (arith, put .ensures .1, put .kept, same-kids (none .ensures), if2, kind-at .ensures .0, kind-at .ensures .1, at .ensures .0, at .ensures .1, if1, infer-head .kept, pre, good, z)),
+        (omega (arith, if1, pre, good), λ z. omega (arith, if1, pre, good, z)),
       )
 
   pub add-t19 : lts.Need-add-t19 (R t) (infer-at t) infer.Post
-  add-t19 c =
-      let good = c .before .before .before .before .before .before .before .before .before .before .before .before .before .before .before .good in
-      let pre = c .before .before .before .before .before .before .before .before .before .before .before .before .before .before .before .pre in
-      let infer-head = c .before .before .before .before .before .before .before .before .before .infer-head in
-      let if1 = c .before .before .before .before .before .if1 in
-      let at = c .before .before .before .at in
-      let kind-at = c .before .before .kind-at in
-      let if2 = c .before .if2 in
-      omega (arith, if2, kind-at .ensures .0, kind-at .ensures .1, at .ensures .0, at .ensures .1, if1, infer-head .kept, pre, good)
+  add-t19 c = omega arith
 
   pub ty-requires : lts.Need-ty-requires (R t) (infer-at t) infer.Post
   ty-requires c κs =
-      let good = c .before .before .before .before .before .before .before .before .before .before .before .before .before .before .before .before .before .before .good in
       let pre = c .before .before .before .before .before .before .before .before .before .before .before .before .before .before .before .before .before .before .pre in
-      let infer-head = c .before .before .before .before .before .before .before .before .before .before .before .before .infer-head in
-      let if1 = c .before .before .before .before .before .before .before .before .if1 in
-      let at = c .before .before .before .before .before .before .at in
-      let kind-at = c .before .before .before .before .before .kind-at in
-      let if2 = c .before .before .before .before .if2 in
-      (omega (arith, if2, kind-at .ensures .0, kind-at .ensures .1, at .ensures .0, at .ensures .1, if1, infer-head .kept, pre, good), (pre .1 .0, pre .1 .1, omega (arith, if2, kind-at .ensures .0, kind-at .ensures .1, at .ensures .0, at .ensures .1, if1, infer-head .kept, pre, good), omega (arith, if2, kind-at .ensures .0, kind-at .ensures .1, at .ensures .0, at .ensures .1, if1, infer-head .kept, pre, good)))
+      (omega arith, (pre .1 .0, pre .1 .1, omega arith, omega arith))
 
   pub same-length-4 : lts.Need-same-length-4 (R t) (infer-at t) infer.Post
-  same-length-4 c =
-      let infer-head = c .before .before .before .before .before .before .before .before .before .before .before .before .before .before .before .before .before .before .before .before .before .infer-head in
-      let ty = c .before .before .before .before .before .before .before .before .ty in
-      omega (arith, ty .kept, infer-head .kept)
+  same-length-4 c = omega arith
 
   pub same-length-5 : lts.Need-same-length-5 (R t) (infer-at t) infer.Post
   same-length-5 c =
       let infer-head = c .before .before .before .before .before .before .before .before .before .before .before .before .before .before .before .before .before .before .before .before .before .infer-head in
-      let ty = c .before .before .before .before .before .before .before .before .ty in
-      omega (arith, ty .kept, infer-head .kept)
+      omega (arith, infer-head .kept)
 
   pub same-length-6 : lts.Need-same-length-6 (R t) (infer-at t) infer.Post
-  same-length-6 c =
-      let infer-head = c .before .before .before .before .before .before .before .before .before .before .before .before .before .before .before .before .before .before .before .before .before .infer-head in
-      let ty = c .before .before .before .before .before .before .before .before .ty in
-      omega (arith, ty .kept, infer-head .kept)
+  same-length-6 c = omega arith
 
   pub returns-3 : lts.Need-returns-3 (R t) (infer-at t) infer.Post
   returns-3 c =
       let args = c .before .before .before .before .before .before .before .before .before .before .before .before .before .before .before .before .before .before .before .before .before .before .before .before .before .before .before .args in
-      let good = c .before .before .before .before .before .before .before .before .before .before .before .before .before .before .before .before .before .before .before .before .before .before .before .before .before .before .before .good in
-      let pre = c .before .before .before .before .before .before .before .before .before .before .before .before .before .before .before .before .before .before .before .before .before .before .before .before .before .before .before .pre in
       let infer-head = c .before .before .before .before .before .before .before .before .before .before .before .before .before .before .before .before .before .before .before .before .before .infer-head in
       let if1 = c .before .before .before .before .before .before .before .before .before .before .before .before .before .before .before .before .before .if1 in
       let at = c .before .before .before .before .before .before .before .before .before .before .before .before .before .before .before .at in
@@ -177,14 +128,15 @@ module _ (t : ℕ) where
         λ text s.
             let g = givenOf text (args .words .now) (args .given) in
             let T = below (args .given) g in
-            trial-refused text (args .words .now) (args .given) T (args .on) (infer-head .ensures .0 text (args .notes .now) (args .given) s .done (if1 .left)) (args .nodes .now) (at .ensures .0 .0) (at .ensures .0 .1)
+            trial-refused text (args .words .now) (args .given) T (args .on)
+            (infer-head .ensures .0 text (args .notes .now) (args .given) s .done (if1 .left)) (args .nodes .now) (at .ensures .0 .0)
+            (at .ensures .0 .1)
             (is-here (args .words .now) (infer-head .result .m) (kind-at .ensures .0) (if2 .left)) (ty .ensures .0 text s) (if3 .taken),
-        (omega (arith, if3, ty .ensures .1 .0, ty .kept, if2, kind-at .ensures .0, kind-at .ensures .1, at .ensures .0, at .ensures .1, if1, infer-head .kept, pre, good), λ z. omega (arith, if3, ty .ensures .1 .0, ty .kept, if2, kind-at .ensures .0, kind-at .ensures .1, at .ensures .0, at .ensures .1, if1, infer-head .kept, pre, good, z)),
+        (omega arith, λ z. omega arith),
       )
 
   pub dropped-requires : lts.Need-dropped-requires (R t) (infer-at t) infer.Post
-  dropped-requires c κs =
-      search needs
+  dropped-requires c κs = search needs
 
   pub infer-node-requires : lts.Need-infer-node-requires (R t) (infer-at t) infer.Post
   infer-node-requires c κs =
@@ -196,29 +148,28 @@ module _ (t : ℕ) where
       let kind-at = c .before .before .before .before .before .before .before .before .before .before .before .before .before .before .before .before .before .kind-at in
       let if2 = c .before .before .before .before .before .before .before .before .before .before .before .before .before .before .before .before .if2 in
       let ty = c .before .before .before .before .before .before .before .before .before .before .before .ty in
-      let if3 = c .before .before .before .if3 in
-      (pre .1 .1, omega (arith, if3, ty .ensures .1 .0, ty .kept, ty .ensures .1 .1 (if3 .left), if2, kind-at .ensures .0, kind-at .ensures .1, at .ensures .0, at .ensures .1, if1, infer-head .kept, pre, good), omega (arith, if3, ty .ensures .1 .0, ty .kept, ty .ensures .1 .1 (if3 .left), if2, kind-at .ensures .0, kind-at .ensures .1, at .ensures .0, at .ensures .1, if1, infer-head .kept, pre, good), omega (arith, if3, ty .ensures .1 .0, ty .kept, ty .ensures .1 .1 (if3 .left), if2, kind-at .ensures .0, kind-at .ensures .1, at .ensures .0, at .ensures .1, if1, infer-head .kept, pre, good), omega (arith, if3, ty .ensures .1 .0, ty .kept, ty .ensures .1 .1 (if3 .left), if2, kind-at .ensures .0, kind-at .ensures .1, at .ensures .0, at .ensures .1, if1, infer-head .kept, pre, good), omega (arith, if3, ty .ensures .1 .0, ty .kept, ty .ensures .1 .1 (if3 .left), if2, kind-at .ensures .0, kind-at .ensures .1, at .ensures .0, at .ensures .1, if1, infer-head .kept, pre, good), omega (arith, if3, ty .ensures .1 .0, ty .kept, ty .ensures .1 .1 (if3 .left), if2, kind-at .ensures .0, kind-at .ensures .1, at .ensures .0, at .ensures .1, if1, infer-head .kept, pre, good), omega (arith, if3, ty .ensures .1 .0, ty .kept, ty .ensures .1 .1 (if3 .left), if2, kind-at .ensures .0, kind-at .ensures .1, at .ensures .0, at .ensures .1, if1, infer-head .kept, pre, good), omega (arith, if3, ty .ensures .1 .0, ty .kept, ty .ensures .1 .1 (if3 .left), if2, kind-at .ensures .0, kind-at .ensures .1, at .ensures .0, at .ensures .1, if1, infer-head .kept, pre, good))
+      let if3 = c .before .before .before .if3 in (
+        pre .1 .1,
+        omega (arith, if3, ty .ensures .1 .0, ty .kept, ty .ensures .1 .1 (if3 .left), if2, kind-at .ensures .0, kind-at .ensures .1, at .ensures .0, at .ensures .1, if1, infer-head .kept, pre, good),
+        omega (arith, if3, ty .ensures .1 .0, ty .kept, ty .ensures .1 .1 (if3 .left), if2, kind-at .ensures .0, kind-at .ensures .1, at .ensures .0, at .ensures .1, if1, infer-head .kept, pre, good),
+        omega (arith, if3, ty .ensures .1 .0, ty .kept, ty .ensures .1 .1 (if3 .left), if2, kind-at .ensures .0, kind-at .ensures .1, at .ensures .0, at .ensures .1, if1, infer-head .kept, pre, good),
+        omega (arith, if3, ty .ensures .1 .0, ty .kept, ty .ensures .1 .1 (if3 .left), if2, kind-at .ensures .0, kind-at .ensures .1, at .ensures .0, at .ensures .1, if1, infer-head .kept, pre, good),
+        omega (arith, if3, ty .ensures .1 .0, ty .kept, ty .ensures .1 .1 (if3 .left), if2, kind-at .ensures .0, kind-at .ensures .1, at .ensures .0, at .ensures .1, if1, infer-head .kept, pre, good),
+        omega (arith, if3, ty .ensures .1 .0, ty .kept, ty .ensures .1 .1 (if3 .left), if2, kind-at .ensures .0, kind-at .ensures .1, at .ensures .0, at .ensures .1, if1, infer-head .kept, pre, good),
+        omega (arith, if3, ty .ensures .1 .0, ty .kept, ty .ensures .1 .1 (if3 .left), if2, kind-at .ensures .0, kind-at .ensures .1, at .ensures .0, at .ensures .1, if1, infer-head .kept, pre, good),
+        omega (arith, if3, ty .ensures .1 .0, ty .kept, ty .ensures .1 .1 (if3 .left), if2, kind-at .ensures .0, kind-at .ensures .1, at .ensures .0, at .ensures .1, if1, infer-head .kept, pre, good),
+      )
 
   pub same-length-7 : lts.Need-same-length-7 (R t) (infer-at t) infer.Post
-  same-length-7 c =
-      let infer-head = c .before .before .before .before .before .before .before .before .before .before .before .before .before .before .before .before .before .before .before .before .before .before .before .before .before .before .before .infer-head in
-      let ty = c .before .before .before .before .before .before .before .before .before .before .before .before .before .before .ty in
-      let infer-node = c .before .before .infer-node in
-      omega (arith, infer-node .kept, ty .kept, infer-head .kept)
+  same-length-7 c = omega arith
 
   pub same-length-8 : lts.Need-same-length-8 (R t) (infer-at t) infer.Post
   same-length-8 c =
       let infer-head = c .before .before .before .before .before .before .before .before .before .before .before .before .before .before .before .before .before .before .before .before .before .before .before .before .before .before .before .infer-head in
-      let ty = c .before .before .before .before .before .before .before .before .before .before .before .before .before .before .ty in
-      let infer-node = c .before .before .infer-node in
-      omega (arith, infer-node .kept, ty .kept, infer-head .kept)
+      omega (arith, infer-head .kept)
 
   pub same-length-9 : lts.Need-same-length-9 (R t) (infer-at t) infer.Post
-  same-length-9 c =
-      let infer-head = c .before .before .before .before .before .before .before .before .before .before .before .before .before .before .before .before .before .before .before .before .before .before .before .before .before .before .before .infer-head in
-      let ty = c .before .before .before .before .before .before .before .before .before .before .before .before .before .before .ty in
-      let infer-node = c .before .before .infer-node in
-      omega (arith, infer-node .kept, ty .kept, infer-head .kept)
+  same-length-9 c = omega arith
 
   pub returns-4 : lts.Need-returns-4 (R t) (infer-at t) infer.Post
   returns-4 c =
@@ -237,7 +188,10 @@ module _ (t : ℕ) where
         λ text s.
             let g = givenOf text (args .words .now) (args .given) in
             let T = below (args .given) g in
-            trial-put text (args .words .now) (args .given) T (args .on) (infer-head .ensures .0 text (args .notes .now) (args .given) s .done (if1 .left)) (args .nodes .now) (at .ensures .0 .0) (at .ensures .0 .1)
-            (is-here (args .words .now) (infer-head .result .m) (kind-at .ensures .0) (if2 .left)) (ty .ensures .0 text s) (if3 .left) (omega (arith, infer-head .ensures .1, pre)) (dropped .ensures) (infer-node .ensures .0),
-        (omega (arith, infer-node .ensures .1, infer-node .kept, if3, ty .ensures .1 .0, ty .kept, ty .ensures .1 .1 (if3 .left), if2, kind-at .ensures .0, kind-at .ensures .1, at .ensures .0, at .ensures .1, if1, infer-head .kept, pre, good), λ z. omega (arith, infer-node .ensures .1, infer-node .kept, if3, ty .ensures .1 .0, ty .kept, ty .ensures .1 .1 (if3 .left), if2, kind-at .ensures .0, kind-at .ensures .1, at .ensures .0, at .ensures .1, if1, infer-head .kept, pre, good, z)),
+            trial-put text (args .words .now) (args .given) T (args .on)
+            (infer-head .ensures .0 text (args .notes .now) (args .given) s .done (if1 .left)) (args .nodes .now) (at .ensures .0 .0)
+            (at .ensures .0 .1)
+            (is-here (args .words .now) (infer-head .result .m) (kind-at .ensures .0) (if2 .left)) (ty .ensures .0 text s) (if3 .left) (omega arith)
+            (dropped .ensures) (infer-node .ensures .0),
+        (omega arith, λ z. omega (arith, if2, if1, pre, good, z)),
       )

@@ -1,16 +1,13 @@
 -- The needs of `name_type`.
-use Prim.Native.Nat.{ℕ, suc, _+_, _-_, _*_, _^_, _≤_, _<_}
+use Prim.Native.Nat.{ℕ}
 use native.Mathlib.Omega.{arith}
 use borrow.Author.Needs.{needs}
-use borrow.Author.Tests.{not-true, not-false}
-use mathlib.Core.Path.{_≡_, refl, sym, _∙_, ap, subst}
-use mathlib.Core.List.{List, [], _∷_, _++_}
-use lib.ListN.{length}
-use Rattle.parts.specs.declared.function.This.{This}
+use mathlib.Core.Path.{_∙_}
 use Rattle.parts.specs.Answers.{then-refused, says-same, says-as, says-stop}
 use Rattle.parts.specs.MappingLaws.{behind-step, mappedContent}
-use Rattle.readers.specs.MappedLaws.{mapped-named, mapped-asked, mapped-typed, laid-moved, mapped-shaped}
-use Rattle.readers.specs.Fields.{same-mark, same-kids, same-answer, same-listed, same-params}
+use Rattle.readers.specs.Fields.{same-answer}
+use Rattle.readers.specs.MovedLaws.{laid-moved}
+use Rattle.readers.specs.MappedLaws.{mapped-named, mapped-asked, mapped-typed, mapped-shaped}
 use Rattle.parts.proofs.mapped.mapped_choices.Reads as mapped-choices-reads
 use Rattle.parts.proofs.mapped.mapped_middle.Reads as mapped-middle-reads
 use Rattle.parts.proofs.mapped.mapped_node.Reads as mapped-node-reads
@@ -28,36 +25,25 @@ R t = (opt-below t, opt.Post, link-opt-reads.Asked, link-opt-reads.Learnt, mappe
 module _ (t : ℕ) where
   pub opt-requires : lts.Need-opt-requires (R t) (name-type-at t) name-type.Post
   opt-requires c κs =
-      let good = c .before .before .before .before .before .before .before .good in
-      let fits = c .before .before .before .before .before .before .before .fits in
       let pre = c .before .before .before .before .before .before .before .pre in
-      (omega (arith, pre, fits, good), (pre .1 .0, pre .1 .1, omega (arith, pre, fits, good), omega (arith, pre, fits, good), omega (arith, pre, fits, good)))
+      (omega arith, (pre .1 .0, pre .1 .1, omega arith, omega arith, omega arith))
 
   pub same-length : lts.Need-same-length (R t) (name-type-at t) name-type.Post
-  same-length c =
-      let opt = c .before .before .before .before .before .before .before .before .opt in
-      omega (arith, opt .kept)
+  same-length c = omega arith
 
   pub same-length-2 : lts.Need-same-length-2 (R t) (name-type-at t) name-type.Post
-  same-length-2 c =
-      let opt = c .before .before .before .before .before .before .before .before .opt in
-      omega (arith, opt .kept)
+  same-length-2 c = omega arith
 
   pub same-length-3 : lts.Need-same-length-3 (R t) (name-type-at t) name-type.Post
-  same-length-3 c =
-      let opt = c .before .before .before .before .before .before .before .before .opt in
-      omega (arith, opt .kept)
+  same-length-3 c = omega arith
 
   pub returns : lts.Need-returns (R t) (name-type-at t) name-type.Post
   returns c =
-      let good = c .before .before .before .before .before .before .before .before .before .before .before .before .before .before .before .before .good in
-      let fits = c .before .before .before .before .before .before .before .before .before .before .before .before .before .before .before .before .fits in
-      let pre = c .before .before .before .before .before .before .before .before .before .before .before .before .before .before .before .before .pre in
       let opt = c .before .before .before .before .before .before .before .before .opt in
       let if1 = c .if1 in (
         λ text B key u s i b n.
             says-stop (if1 .taken) (behind-step _ _ _ _ _ _ _ ∙ then-refused _ (opt .ensures .0 text s .refused (if1 .taken))),
-        (omega (arith, if1, opt .ensures .1 .0, opt .kept, pre, fits, good), λ z. omega (arith, if1, opt .ensures .1 .0, opt .kept, pre, fits, good, z)),
+        (omega arith, λ z. omega arith),
       )
 
   pub link-opt-requires : lts.Need-link-opt-requires (R t) (name-type-at t) name-type.Post
@@ -67,49 +53,34 @@ module _ (t : ℕ) where
       let pre = c .before .before .before .before .before .before .before .before .before .before .before .before .before .before .before .before .before .before .pre in
       let opt = c .before .before .before .before .before .before .before .before .before .before .opt in
       let if1 = c .before .before .if1 in
-      omega (arith, if1, opt .ensures .1 .0, opt .kept, opt .ensures .1 .1 (if1 .left), pre, fits, good)
+      omega (arith, opt .ensures .1 .1 (if1 .left), pre, fits, good)
 
   pub mapped-middle-requires : lts.Need-mapped-middle-requires (R t) (name-type-at t) name-type.Post
   mapped-middle-requires c κs =
-      let good = c .before .before .before .before .before .before .before .before .before .before .before .before .before .before .before .before .before .before .before .before .before .good in
-      let fits = c .before .before .before .before .before .before .before .before .before .before .before .before .before .before .before .before .before .before .before .before .before .fits in
       let pre = c .before .before .before .before .before .before .before .before .before .before .before .before .before .before .before .before .before .before .before .before .before .pre in
-      let opt = c .before .before .before .before .before .before .before .before .before .before .before .before .before .opt in
-      let if1 = c .before .before .before .before .before .if1 in
-      let link-opt = c .before .before .link-opt in
-      (pre .1 .1, omega (arith, link-opt .ensures .1, link-opt .kept, if1, opt .ensures .1 .0, opt .kept, opt .ensures .1 .1 (if1 .left), pre, fits, good))
+      (pre .1 .1, omega arith)
 
   pub refused-requires : lts.Need-refused-requires (R t) (name-type-at t) name-type.Post
-  refused-requires c κs =
-      search needs
+  refused-requires c κs = search needs
 
   pub same-length-4 : lts.Need-same-length-4 (R t) (name-type-at t) name-type.Post
   same-length-4 c =
       let opt = c .before .before .before .before .before .before .before .before .before .before .before .before .before .before .before .before .before .opt in
-      let link-opt = c .before .before .before .before .before .before .link-opt in
-      omega (arith, link-opt .kept, opt .kept)
+      omega (arith, opt .kept)
 
   pub same-length-5 : lts.Need-same-length-5 (R t) (name-type-at t) name-type.Post
   same-length-5 c =
       let opt = c .before .before .before .before .before .before .before .before .before .before .before .before .before .before .before .before .before .opt in
-      let link-opt = c .before .before .before .before .before .before .link-opt in
-      omega (arith, link-opt .kept, opt .kept)
+      omega (arith, opt .kept)
 
   pub same-length-6 : lts.Need-same-length-6 (R t) (name-type-at t) name-type.Post
-  same-length-6 c =
-      let opt = c .before .before .before .before .before .before .before .before .before .before .before .before .before .before .before .before .before .opt in
-      let link-opt = c .before .before .before .before .before .before .link-opt in
-      omega (arith, link-opt .kept, opt .kept)
+  same-length-6 c = omega arith
 
   pub returns-2 : lts.Need-returns-2 (R t) (name-type-at t) name-type.Post
   returns-2 c =
       let args = c .before .before .before .before .before .before .before .before .before .before .before .before .before .before .before .before .before .before .before .before .before .before .before .before .before .args in
-      let good = c .before .before .before .before .before .before .before .before .before .before .before .before .before .before .before .before .before .before .before .before .before .before .before .before .before .good in
-      let fits = c .before .before .before .before .before .before .before .before .before .before .before .before .before .before .before .before .before .before .before .before .before .before .before .before .before .fits in
-      let pre = c .before .before .before .before .before .before .before .before .before .before .before .before .before .before .before .before .before .before .before .before .before .before .before .before .before .pre in
       let opt = c .before .before .before .before .before .before .before .before .before .before .before .before .before .before .before .before .before .opt in
       let if1 = c .before .before .before .before .before .before .before .before .before .if1 in
-      let link-opt = c .before .before .before .before .before .before .link-opt in
       let mapped-middle = c .before .before .before .mapped-middle in
       let if2 = c .before .if2 in
       let refused = c .refused in (
@@ -118,51 +89,39 @@ module _ (t : ℕ) where
             (says-stop (if2 .taken)
             (mapped-named _ _ _ _ _ _ _ (opt .ensures .0 text s .done (if1 .left) .is) ∙ then-refused _
             (mapped-middle .ensures .0 text _ (args .given) .refused (if2 .taken)))),
-        (omega (arith, same-answer (refused .ensures), if2, mapped-middle .ensures .1, link-opt .ensures .1, link-opt .kept, if1, opt .ensures .1 .0, opt .kept, opt .ensures .1 .1 (if1 .left), pre, fits, good), λ z. omega (arith, same-answer (refused .ensures), if2, mapped-middle .ensures .1, link-opt .ensures .1, link-opt .kept, if1, opt .ensures .1 .0, opt .kept, opt .ensures .1 .1 (if1 .left), pre, fits, good, z)),
+        (omega (arith, same-answer (refused .ensures)), λ z. omega (arith, same-answer (refused .ensures))),
       )
 
   pub opt-requires-2 : lts.Need-opt-requires-2 (R t) (name-type-at t) name-type.Post
   opt-requires-2 c κs =
-      let good = c .before .before .before .before .before .before .before .before .before .before .before .before .before .before .before .before .before .before .before .before .before .before .before .before .before .before .before .good in
-      let fits = c .before .before .before .before .before .before .before .before .before .before .before .before .before .before .before .before .before .before .before .before .before .before .before .before .before .before .before .fits in
       let pre = c .before .before .before .before .before .before .before .before .before .before .before .before .before .before .before .before .before .before .before .before .before .before .before .before .before .before .before .pre in
       let opt = c .before .before .before .before .before .before .before .before .before .before .before .before .before .before .before .before .before .before .before .opt in
-      let if1 = c .before .before .before .before .before .before .before .before .before .before .before .if1 in
-      let link-opt = c .before .before .before .before .before .before .before .before .link-opt in
-      let mapped-middle = c .before .before .before .before .before .mapped-middle in
-      let if2 = c .before .before .before .if2 in
-      (omega (arith, if2, mapped-middle .ensures .1, link-opt .ensures .1, link-opt .kept, if1, opt .ensures .1 .0, opt .kept, opt .ensures .1 .1 (if1 .left), pre, fits, good), (pre .1 .0, pre .1 .1, omega (arith, if2, mapped-middle .ensures .1, link-opt .ensures .1, link-opt .kept, if1, opt .ensures .1 .0, opt .kept, opt .ensures .1 .1 (if1 .left), pre, fits, good), omega (arith, if2, mapped-middle .ensures .1, link-opt .ensures .1, link-opt .kept, if1, opt .ensures .1 .0, opt .kept, opt .ensures .1 .1 (if1 .left), pre, fits, good), omega (arith, if2, mapped-middle .ensures .1, link-opt .ensures .1, link-opt .kept, if1, opt .ensures .1 .0, opt .kept, opt .ensures .1 .1 (if1 .left), pre, fits, good)))
+      let if1 = c .before .before .before .before .before .before .before .before .before .before .before .if1 in (
+        omega (arith, opt .ensures .1 .1 (if1 .left)),
+        (pre .1 .0, pre .1 .1, omega (arith, opt .ensures .1 .1 (if1 .left)), omega (arith, opt .ensures .1 .1 (if1 .left)), omega arith),
+      )
 
   pub same-length-7 : lts.Need-same-length-7 (R t) (name-type-at t) name-type.Post
   same-length-7 c =
       let opt = c .before .before .before .before .before .before .before .before .before .before .before .before .before .before .before .before .before .before .before .before .before .before .before .before .before .before .before .before .opt in
       let link-opt = c .before .before .before .before .before .before .before .before .before .before .before .before .before .before .before .before .before .link-opt in
-      let opt2 = c .before .before .before .before .before .before .before .before .opt2 in
-      omega (arith, opt2 .kept, link-opt .kept, opt .kept)
+      omega (arith, link-opt .kept, opt .kept)
 
   pub same-length-8 : lts.Need-same-length-8 (R t) (name-type-at t) name-type.Post
   same-length-8 c =
       let opt = c .before .before .before .before .before .before .before .before .before .before .before .before .before .before .before .before .before .before .before .before .before .before .before .before .before .before .before .before .opt in
-      let link-opt = c .before .before .before .before .before .before .before .before .before .before .before .before .before .before .before .before .before .link-opt in
-      let opt2 = c .before .before .before .before .before .before .before .before .opt2 in
-      omega (arith, opt2 .kept, link-opt .kept, opt .kept)
+      omega (arith, opt .kept)
 
   pub same-length-9 : lts.Need-same-length-9 (R t) (name-type-at t) name-type.Post
   same-length-9 c =
       let opt = c .before .before .before .before .before .before .before .before .before .before .before .before .before .before .before .before .before .before .before .before .before .before .before .before .before .before .before .before .opt in
-      let link-opt = c .before .before .before .before .before .before .before .before .before .before .before .before .before .before .before .before .before .link-opt in
-      let opt2 = c .before .before .before .before .before .before .before .before .opt2 in
-      omega (arith, opt2 .kept, link-opt .kept, opt .kept)
+      omega (arith, opt .kept)
 
   pub returns-3 : lts.Need-returns-3 (R t) (name-type-at t) name-type.Post
   returns-3 c =
       let args = c .before .before .before .before .before .before .before .before .before .before .before .before .before .before .before .before .before .before .before .before .before .before .before .before .before .before .before .before .before .before .before .before .before .before .before .before .args in
-      let good = c .before .before .before .before .before .before .before .before .before .before .before .before .before .before .before .before .before .before .before .before .before .before .before .before .before .before .before .before .before .before .before .before .before .before .before .before .good in
-      let fits = c .before .before .before .before .before .before .before .before .before .before .before .before .before .before .before .before .before .before .before .before .before .before .before .before .before .before .before .before .before .before .before .before .before .before .before .before .fits in
-      let pre = c .before .before .before .before .before .before .before .before .before .before .before .before .before .before .before .before .before .before .before .before .before .before .before .before .before .before .before .before .before .before .before .before .before .before .before .before .pre in
       let opt = c .before .before .before .before .before .before .before .before .before .before .before .before .before .before .before .before .before .before .before .before .before .before .before .before .before .before .before .before .opt in
       let if1 = c .before .before .before .before .before .before .before .before .before .before .before .before .before .before .before .before .before .before .before .before .if1 in
-      let link-opt = c .before .before .before .before .before .before .before .before .before .before .before .before .before .before .before .before .before .link-opt in
       let mapped-middle = c .before .before .before .before .before .before .before .before .before .before .before .before .before .before .mapped-middle in
       let if2 = c .before .before .before .before .before .before .before .before .before .before .before .before .if2 in
       let opt2 = c .before .before .before .before .before .before .before .before .opt2 in
@@ -171,7 +130,7 @@ module _ (t : ℕ) where
             says-stop (if3 .taken)
             (mapped-asked _ _ _ _ _ _ _ (opt .ensures .0 text s .done (if1 .left) .is) (mapped-middle .ensures .0 text _ (args .given) .done (if2 .left)) ∙ then-refused _
             (opt2 .ensures .0 text s .refused (if3 .taken))),
-        (omega (arith, if3, opt2 .ensures .1 .0, opt2 .kept, if2, mapped-middle .ensures .1, link-opt .ensures .1, link-opt .kept, if1, opt .ensures .1 .0, opt .kept, opt .ensures .1 .1 (if1 .left), pre, fits, good), λ z. omega (arith, if3, opt2 .ensures .1 .0, opt2 .kept, if2, mapped-middle .ensures .1, link-opt .ensures .1, link-opt .kept, if1, opt .ensures .1 .0, opt .kept, opt .ensures .1 .1 (if1 .left), pre, fits, good, z)),
+        (omega arith, λ z. omega arith),
       )
 
   pub link-opt-requires-2 : lts.Need-link-opt-requires-2 (R t) (name-type-at t) name-type.Post
@@ -186,15 +145,13 @@ module _ (t : ℕ) where
       let if2 = c .before .before .before .before .before .before .before .before .before .before .before .before .before .before .if2 in
       let opt2 = c .before .before .before .before .before .before .before .before .before .before .opt2 in
       let if3 = c .before .before .if3 in
-      omega (arith, if3, opt2 .ensures .1 .0, opt2 .kept, opt2 .ensures .1 .1 (if3 .left), if2, mapped-middle .ensures .1, link-opt .ensures .1, link-opt .kept, if1, opt .ensures .1 .0, opt .kept, opt .ensures .1 .1 (if1 .left), pre, fits, good)
+      omega (arith, opt2 .ensures .1 .1 (if3 .left), if2, mapped-middle .ensures .1, link-opt .ensures .1, if1, opt .ensures .1 .0, opt .ensures .1 .1 (if1 .left), pre, fits, good)
 
   pub opt-bit-requires : lts.Need-opt-bit-requires (R t) (name-type-at t) name-type.Post
-  opt-bit-requires c κs =
-      search needs
+  opt-bit-requires c κs = search needs
 
   pub opt-bit-requires-2 : lts.Need-opt-bit-requires-2 (R t) (name-type-at t) name-type.Post
-  opt-bit-requires-2 c κs =
-      search needs
+  opt-bit-requires-2 c κs = search needs
 
   pub mapped-choices-requires : lts.Need-mapped-choices-requires (R t) (name-type-at t) name-type.Post
   mapped-choices-requires c κs =
@@ -210,25 +167,26 @@ module _ (t : ℕ) where
       let if3 = c .before .before .before .before .before .before .before .if3 in
       let link-opt2 = c .before .before .before .before .link-opt2 in
       let opt-bit = c .before .opt-bit in
-      let opt-bit2 = c .opt-bit2 in
-      omega (arith, opt-bit2 .ensures .0, opt-bit2 .ensures .1, opt-bit .ensures .0, opt-bit .ensures .1, link-opt2 .ensures .1, link-opt2 .kept, if3, opt2 .ensures .1 .0, opt2 .kept, opt2 .ensures .1 .1 (if3 .left), if2, mapped-middle .ensures .1, link-opt .ensures .1, link-opt .kept, if1, opt .ensures .1 .0, opt .kept, opt .ensures .1 .1 (if1 .left), pre, fits, good)
+      omega (arith, opt-bit .ensures .0, opt-bit .ensures .1, link-opt2 .ensures .1, if3, opt2 .ensures .1 .0, opt2 .ensures .1 .1 (if3 .left), if2, mapped-middle .ensures .1, link-opt .ensures .1, if1, opt .ensures .1 .0, opt .ensures .1 .1 (if1 .left), pre, fits, good)
 
   pub mapped-node-requires : lts.Need-mapped-node-requires (R t) (name-type-at t) name-type.Post
   mapped-node-requires c κs =
-      let good = c .before .before .before .before .before .before .before .before .before .before .before .before .before .before .before .before .before .before .before .before .before .before .before .before .before .before .before .before .before .before .before .before .before .before .before .before .before .before .before .before .before .before .before .before .before .good in
-      let fits = c .before .before .before .before .before .before .before .before .before .before .before .before .before .before .before .before .before .before .before .before .before .before .before .before .before .before .before .before .before .before .before .before .before .before .before .before .before .before .before .before .before .before .before .before .before .fits in
       let pre = c .before .before .before .before .before .before .before .before .before .before .before .before .before .before .before .before .before .before .before .before .before .before .before .before .before .before .before .before .before .before .before .before .before .before .before .before .before .before .before .before .before .before .before .before .before .pre in
       let opt = c .before .before .before .before .before .before .before .before .before .before .before .before .before .before .before .before .before .before .before .before .before .before .before .before .before .before .before .before .before .before .before .before .before .before .before .before .before .opt in
       let if1 = c .before .before .before .before .before .before .before .before .before .before .before .before .before .before .before .before .before .before .before .before .before .before .before .before .before .before .before .before .before .if1 in
       let link-opt = c .before .before .before .before .before .before .before .before .before .before .before .before .before .before .before .before .before .before .before .before .before .before .before .before .before .before .link-opt in
       let mapped-middle = c .before .before .before .before .before .before .before .before .before .before .before .before .before .before .before .before .before .before .before .before .before .before .before .mapped-middle in
-      let if2 = c .before .before .before .before .before .before .before .before .before .before .before .before .before .before .before .before .before .before .before .before .before .if2 in
       let opt2 = c .before .before .before .before .before .before .before .before .before .before .before .before .before .before .before .before .before .opt2 in
       let if3 = c .before .before .before .before .before .before .before .before .before .if3 in
       let link-opt2 = c .before .before .before .before .before .before .link-opt2 in
-      let opt-bit = c .before .before .before .opt-bit in
-      let opt-bit2 = c .before .before .opt-bit2 in
-      (pre .1 .1, omega (arith, opt-bit2 .ensures .0, opt-bit2 .ensures .1, opt-bit .ensures .0, opt-bit .ensures .1, link-opt2 .ensures .1, link-opt2 .kept, if3, opt2 .ensures .1 .0, opt2 .kept, opt2 .ensures .1 .1 (if3 .left), if2, mapped-middle .ensures .1, link-opt .ensures .1, link-opt .kept, if1, opt .ensures .1 .0, opt .kept, opt .ensures .1 .1 (if1 .left), pre, fits, good), omega (arith, opt-bit2 .ensures .0, opt-bit2 .ensures .1, opt-bit .ensures .0, opt-bit .ensures .1, link-opt2 .ensures .1, link-opt2 .kept, if3, opt2 .ensures .1 .0, opt2 .kept, opt2 .ensures .1 .1 (if3 .left), if2, mapped-middle .ensures .1, link-opt .ensures .1, link-opt .kept, if1, opt .ensures .1 .0, opt .kept, opt .ensures .1 .1 (if1 .left), pre, fits, good), omega (arith, opt-bit2 .ensures .0, opt-bit2 .ensures .1, opt-bit .ensures .0, opt-bit .ensures .1, link-opt2 .ensures .1, link-opt2 .kept, if3, opt2 .ensures .1 .0, opt2 .kept, opt2 .ensures .1 .1 (if3 .left), if2, mapped-middle .ensures .1, link-opt .ensures .1, link-opt .kept, if1, opt .ensures .1 .0, opt .kept, opt .ensures .1 .1 (if1 .left), pre, fits, good), omega (arith, opt-bit2 .ensures .0, opt-bit2 .ensures .1, opt-bit .ensures .0, opt-bit .ensures .1, link-opt2 .ensures .1, link-opt2 .kept, if3, opt2 .ensures .1 .0, opt2 .kept, opt2 .ensures .1 .1 (if3 .left), if2, mapped-middle .ensures .1, link-opt .ensures .1, link-opt .kept, if1, opt .ensures .1 .0, opt .kept, opt .ensures .1 .1 (if1 .left), pre, fits, good), omega (arith, opt-bit2 .ensures .0, opt-bit2 .ensures .1, opt-bit .ensures .0, opt-bit .ensures .1, link-opt2 .ensures .1, link-opt2 .kept, if3, opt2 .ensures .1 .0, opt2 .kept, opt2 .ensures .1 .1 (if3 .left), if2, mapped-middle .ensures .1, link-opt .ensures .1, link-opt .kept, if1, opt .ensures .1 .0, opt .kept, opt .ensures .1 .1 (if1 .left), pre, fits, good))
+      let opt-bit = c .before .before .before .opt-bit in (
+        pre .1 .1,
+        omega (arith, opt-bit .ensures .0, opt-bit .ensures .1, link-opt2 .ensures .1, opt2 .ensures .1 .0, opt2 .ensures .1 .1 (if3 .left), mapped-middle .ensures .1, link-opt .ensures .1, opt .ensures .1 .0, opt .ensures .1 .1 (if1 .left)),
+        omega arith,
+        omega (arith, opt-bit .ensures .0, opt-bit .ensures .1, link-opt2 .ensures .1, opt2 .ensures .1 .0, opt2 .ensures .1 .1 (if3 .left), mapped-middle .ensures .1, link-opt .ensures .1, opt .ensures .1 .0, opt .ensures .1 .1 (if1 .left)),
+        omega arith,
+        omega arith,
+      )
 
   pub same-length-10 : lts.Need-same-length-10 (R t) (name-type-at t) name-type.Post
   same-length-10 c =
@@ -236,34 +194,24 @@ module _ (t : ℕ) where
       let link-opt = c .before .before .before .before .before .before .before .before .before .before .before .before .before .before .before .before .before .before .before .before .before .before .before .before .before .before .before .before .before .link-opt in
       let opt2 = c .before .before .before .before .before .before .before .before .before .before .before .before .before .before .before .before .before .before .before .before .opt2 in
       let link-opt2 = c .before .before .before .before .before .before .before .before .before .link-opt2 in
-      let mapped-node = c .before .before .mapped-node in
-      omega (arith, mapped-node .kept, link-opt2 .kept, opt2 .kept, link-opt .kept, opt .kept)
+      omega (arith, link-opt2 .kept, opt2 .kept, link-opt .kept, opt .kept)
 
   pub same-length-11 : lts.Need-same-length-11 (R t) (name-type-at t) name-type.Post
   same-length-11 c =
       let opt = c .before .before .before .before .before .before .before .before .before .before .before .before .before .before .before .before .before .before .before .before .before .before .before .before .before .before .before .before .before .before .before .before .before .before .before .before .before .before .before .before .opt in
-      let link-opt = c .before .before .before .before .before .before .before .before .before .before .before .before .before .before .before .before .before .before .before .before .before .before .before .before .before .before .before .before .before .link-opt in
       let opt2 = c .before .before .before .before .before .before .before .before .before .before .before .before .before .before .before .before .before .before .before .before .opt2 in
-      let link-opt2 = c .before .before .before .before .before .before .before .before .before .link-opt2 in
-      let mapped-node = c .before .before .mapped-node in
-      omega (arith, mapped-node .kept, link-opt2 .kept, opt2 .kept, link-opt .kept, opt .kept)
+      omega (arith, opt2 .kept, opt .kept)
 
   pub same-length-12 : lts.Need-same-length-12 (R t) (name-type-at t) name-type.Post
   same-length-12 c =
       let opt = c .before .before .before .before .before .before .before .before .before .before .before .before .before .before .before .before .before .before .before .before .before .before .before .before .before .before .before .before .before .before .before .before .before .before .before .before .before .before .before .before .opt in
-      let link-opt = c .before .before .before .before .before .before .before .before .before .before .before .before .before .before .before .before .before .before .before .before .before .before .before .before .before .before .before .before .before .link-opt in
       let opt2 = c .before .before .before .before .before .before .before .before .before .before .before .before .before .before .before .before .before .before .before .before .opt2 in
-      let link-opt2 = c .before .before .before .before .before .before .before .before .before .link-opt2 in
-      let mapped-node = c .before .before .mapped-node in
-      omega (arith, mapped-node .kept, link-opt2 .kept, opt2 .kept, link-opt .kept, opt .kept)
+      omega (arith, opt2 .kept, opt .kept)
 
   pub returns-4 : lts.Need-returns-4 (R t) (name-type-at t) name-type.Post
   returns-4 c =
       let args = c .before .before .before .before .before .before .before .before .before .before .before .before .before .before .before .before .before .before .before .before .before .before .before .before .before .before .before .before .before .before .before .before .before .before .before .before .before .before .before .before .before .before .before .before .before .before .before .before .args in
       let mapped-choices = c .before .before .before .before .mapped-choices in
-      let good = c .before .before .before .before .before .before .before .before .before .before .before .before .before .before .before .before .before .before .before .before .before .before .before .before .before .before .before .before .before .before .before .before .before .before .before .before .before .before .before .before .before .before .before .before .before .before .before .before .good in
-      let fits = c .before .before .before .before .before .before .before .before .before .before .before .before .before .before .before .before .before .before .before .before .before .before .before .before .before .before .before .before .before .before .before .before .before .before .before .before .before .before .before .before .before .before .before .before .before .before .before .before .fits in
-      let pre = c .before .before .before .before .before .before .before .before .before .before .before .before .before .before .before .before .before .before .before .before .before .before .before .before .before .before .before .before .before .before .before .before .before .before .before .before .before .before .before .before .before .before .before .before .before .before .before .before .pre in
       let opt = c .before .before .before .before .before .before .before .before .before .before .before .before .before .before .before .before .before .before .before .before .before .before .before .before .before .before .before .before .before .before .before .before .before .before .before .before .before .before .before .before .opt in
       let if1 = c .before .before .before .before .before .before .before .before .before .before .before .before .before .before .before .before .before .before .before .before .before .before .before .before .before .before .before .before .before .before .before .before .if1 in
       let link-opt = c .before .before .before .before .before .before .before .before .before .before .before .before .before .before .before .before .before .before .before .before .before .before .before .before .before .before .before .before .before .link-opt in
@@ -286,5 +234,8 @@ module _ (t : ℕ) where
             n
             (mapped-shaped (args .readonly) key (x .tree) _ (y .tree) i (x .is-opt) (y .is-opt) (mapped-choices .ensures) (opt-bit .ensures .0) (opt-bit2 .ensures .0)
             (x .high-is) (y .high-is))),
-        (omega (arith, mapped-node .ensures .1, mapped-node .kept, opt-bit2 .ensures .0, opt-bit2 .ensures .1, opt-bit .ensures .0, opt-bit .ensures .1, link-opt2 .ensures .1, link-opt2 .kept, if3, opt2 .ensures .1 .0, opt2 .kept, opt2 .ensures .1 .1 (if3 .left), if2, mapped-middle .ensures .1, link-opt .ensures .1, link-opt .kept, if1, opt .ensures .1 .0, opt .kept, opt .ensures .1 .1 (if1 .left), pre, fits, good), λ z. omega (arith, mapped-node .ensures .1, mapped-node .kept, opt-bit2 .ensures .0, opt-bit2 .ensures .1, opt-bit .ensures .0, opt-bit .ensures .1, link-opt2 .ensures .1, link-opt2 .kept, if3, opt2 .ensures .1 .0, opt2 .kept, opt2 .ensures .1 .1 (if3 .left), if2, mapped-middle .ensures .1, link-opt .ensures .1, link-opt .kept, if1, opt .ensures .1 .0, opt .kept, opt .ensures .1 .1 (if1 .left), pre, fits, good, z)),
+        (
+          omega arith,
+          λ z. omega (arith, opt-bit2 .ensures .0, opt-bit2 .ensures .1, opt-bit .ensures .0, opt-bit .ensures .1, link-opt2 .ensures .1, opt2 .ensures .1 .0, opt2 .ensures .1 .1 (if3 .left), mapped-middle .ensures .1, link-opt .ensures .1, opt .ensures .1 .0, opt .ensures .1 .1 (if1 .left)),
+        ),
       )

@@ -1,18 +1,15 @@
 -- The needs of `named`.
-use Prim.Native.Nat.{ℕ, suc, _+_, _-_, _*_, _^_, _≤_, _<_}
+use Prim.Native.Nat.{ℕ}
 use native.Mathlib.Omega.{arith}
 use borrow.Author.Needs.{needs}
-use borrow.Author.Tests.{not-true, not-false}
-use mathlib.Core.Path.{_≡_, refl, sym, _∙_, ap, subst}
-use mathlib.Core.List.{List, [], _∷_, _++_}
-use lib.ListN.{length}
-use Rattle.parts.specs.declared.function.This.{This}
+use mathlib.Core.Path.{_∙_}
 use Rattle.parts.specs.Naming.{namesOf}
 use Rattle.parts.specs.Answers.{then-read, then-refused, says-same, says-as, says-stop}
 use Rattle.parts.specs.NamingLaws.{name-at}
 use Rattle.parts.specs.BuiltLaws.{laid-spoken}
-use Rattle.readers.specs.NamedLaws.{named-read, built-behind}
-use Rattle.readers.specs.Fields.{same-mark, same-kids, same-answer, same-listed, same-params}
+use Rattle.readers.specs.Fields.{same-answer}
+use Rattle.readers.specs.ChildLaws.{built-behind}
+use Rattle.readers.specs.NamedLaws.{named-read}
 use Rattle.parts.proofs.arguments.named_head.Reads as named-head-reads
 use Rattle.parts.proofs.arguments.named_node.Reads as named-node-reads
 use Rattle.parts.proofs.state.Answer.refused.Reads as state-Answer-refused-reads
@@ -28,18 +25,14 @@ R t = (named-head-reads.Asked, named-head-reads.Learnt, state-Answer-refused-rea
 module _ (t : ℕ) where
   pub named-head-requires : lts.Need-named-head-requires (R t) (named-at t) named.Post
   named-head-requires c κs =
-      let good = c .before .before .before .before .before .good in
       let pre = c .before .before .before .before .before .pre in
-      (pre .1 .0, pre .1 .1, omega (arith, pre, good), omega (arith, pre, good))
+      (pre .1 .0, pre .1 .1, omega arith, omega arith)
 
   pub refused-requires : lts.Need-refused-requires (R t) (named-at t) named.Post
-  refused-requires c κs =
-      search needs
+  refused-requires c κs = search needs
 
   pub same-length : lts.Need-same-length (R t) (named-at t) named.Post
-  same-length c =
-      let named-head = c .before .before .before .before .before .named-head in
-      omega (arith, named-head .kept)
+  same-length c = omega arith
 
   pub returns : lts.Need-returns (R t) (named-at t) named.Post
   returns c =
@@ -50,45 +43,31 @@ module _ (t : ℕ) where
       let if1 = c .before .if1 in
       let refused = c .refused in (
         λ text s.
-            says-as (refused .ensures) (says-stop (if1 .taken) (name-at _ _ _ ∙ then-refused _ (named-head .ensures .0 text _ (args .given) s .refused (if1 .taken)))),
-        (omega (arith, same-answer (refused .ensures), if1, named-head .ensures .1, named-head .kept, pre, good), λ z. omega (arith, same-answer (refused .ensures), if1, named-head .ensures .1, named-head .kept, pre, good, z)),
+            says-as (refused .ensures)
+            (says-stop (if1 .taken) (name-at _ _ _ ∙ then-refused _ (named-head .ensures .0 text _ (args .given) s .refused (if1 .taken)))),
+        (omega (arith, same-answer (refused .ensures), pre, good), λ z. omega (arith, same-answer (refused .ensures))),
       )
 
   pub arguments-requires : lts.Need-arguments-requires (R t) (named-at t) named.Post
   arguments-requires c κs =
-      let good = c .before .before .before .before .before .before .before .before .before .before .before .before .before .good in
       let pre = c .before .before .before .before .before .before .before .before .before .before .before .before .before .pre in
-      let named-head = c .before .before .before .before .before .before .before .named-head in
-      let if1 = c .before .before .before .if1 in
-      (omega (arith, if1, named-head .ensures .1, named-head .kept, pre, good), (pre .1 .0, pre .1 .1, omega (arith, if1, named-head .ensures .1, named-head .kept, pre, good), omega (arith, if1, named-head .ensures .1, named-head .kept, pre, good)))
+      (omega arith, (pre .1 .0, pre .1 .1, omega arith, omega arith))
 
   pub refused-requires-2 : lts.Need-refused-requires-2 (R t) (named-at t) named.Post
-  refused-requires-2 c κs =
-      search needs
+  refused-requires-2 c κs = search needs
 
   pub same-length-2 : lts.Need-same-length-2 (R t) (named-at t) named.Post
-  same-length-2 c =
-      let named-head = c .before .before .before .before .before .before .before .before .before .before .before .before .before .before .before .before .before .named-head in
-      let arguments = c .before .before .before .before .before .before .before .before .before .arguments in
-      omega (arith, arguments .kept, named-head .kept)
+  same-length-2 c = omega arith
 
   pub same-length-3 : lts.Need-same-length-3 (R t) (named-at t) named.Post
-  same-length-3 c =
-      let named-head = c .before .before .before .before .before .before .before .before .before .before .before .before .before .before .before .before .before .named-head in
-      let arguments = c .before .before .before .before .before .before .before .before .before .arguments in
-      omega (arith, arguments .kept, named-head .kept)
+  same-length-3 c = omega arith
 
   pub same-length-4 : lts.Need-same-length-4 (R t) (named-at t) named.Post
-  same-length-4 c =
-      let named-head = c .before .before .before .before .before .before .before .before .before .before .before .before .before .before .before .before .before .named-head in
-      let arguments = c .before .before .before .before .before .before .before .before .before .arguments in
-      omega (arith, arguments .kept, named-head .kept)
+  same-length-4 c = omega arith
 
   pub returns-2 : lts.Need-returns-2 (R t) (named-at t) named.Post
   returns-2 c =
       let args = c .before .before .before .before .before .before .before .before .before .before .before .before .before .before .before .before .before .before .before .before .before .before .before .args in
-      let good = c .before .before .before .before .before .before .before .before .before .before .before .before .before .before .before .before .before .before .before .before .before .before .before .good in
-      let pre = c .before .before .before .before .before .before .before .before .before .before .before .before .before .before .before .before .before .before .before .before .before .before .before .pre in
       let named-head = c .before .before .before .before .before .before .before .before .before .before .before .before .before .before .before .before .before .named-head in
       let if1 = c .before .before .before .before .before .before .before .before .before .before .before .before .before .if1 in
       let arguments = c .before .before .before .before .before .before .before .before .before .arguments in
@@ -99,50 +78,39 @@ module _ (t : ℕ) where
             (says-stop (if2 .taken)
             (name-at _ _ _ ∙ then-read _ (named-head .ensures .0 text _ (args .given) s .done (if1 .left) .is) ∙ then-refused _
             (arguments .ensures .0 text s .refused (if2 .taken)))),
-        (omega (arith, same-answer (refused2 .ensures), if2, arguments .ensures .1 .0, arguments .kept, if1, named-head .ensures .1, named-head .kept, pre, good), λ z. omega (arith, same-answer (refused2 .ensures), if2, arguments .ensures .1 .0, arguments .kept, if1, named-head .ensures .1, named-head .kept, pre, good, z)),
+        (omega (arith, same-answer (refused2 .ensures)), λ z. omega (arith, same-answer (refused2 .ensures))),
       )
 
   pub at-requires : lts.Need-at-requires (R t) (named-at t) named.Post
   at-requires c κs =
-      let good = c .before .before .before .before .before .before .before .before .before .before .before .before .before .before .before .before .before .before .before .before .before .before .before .good in
       let pre = c .before .before .before .before .before .before .before .before .before .before .before .before .before .before .before .before .before .before .before .before .before .before .before .pre in
-      let named-head = c .before .before .before .before .before .before .before .before .before .before .before .before .before .before .before .before .before .named-head in
-      let if1 = c .before .before .before .before .before .before .before .before .before .before .before .before .before .if1 in
-      let arguments = c .before .before .before .before .before .before .before .before .before .arguments in
-      let if2 = c .before .if2 in
-      (pre .1 .1, omega (arith, if2, arguments .ensures .1 .0, arguments .kept, arguments .ensures .1 .1 (if2 .left), if1, named-head .ensures .1, named-head .kept, pre, good))
+      (pre .1 .1, omega arith)
 
   pub named-node-requires : lts.Need-named-node-requires (R t) (named-at t) named.Post
   named-node-requires c κs =
-      let good = c .before .before .before .before .before .before .before .before .before .before .before .before .before .before .before .before .before .before .before .before .before .before .before .before .good in
       let pre = c .before .before .before .before .before .before .before .before .before .before .before .before .before .before .before .before .before .before .before .before .before .before .before .before .pre in
       let named-head = c .before .before .before .before .before .before .before .before .before .before .before .before .before .before .before .before .before .before .named-head in
-      let if1 = c .before .before .before .before .before .before .before .before .before .before .before .before .before .before .if1 in
       let arguments = c .before .before .before .before .before .before .before .before .before .before .arguments in
-      let if2 = c .before .before .if2 in
-      let at = c .at in
-      (pre .1 .1, omega (arith, at .ensures .0, at .ensures .1, if2, arguments .ensures .1 .0, arguments .kept, arguments .ensures .1 .1 (if2 .left), if1, named-head .ensures .1, named-head .kept, pre, good), omega (arith, at .ensures .0, at .ensures .1, if2, arguments .ensures .1 .0, arguments .kept, arguments .ensures .1 .1 (if2 .left), if1, named-head .ensures .1, named-head .kept, pre, good), omega (arith, at .ensures .0, at .ensures .1, if2, arguments .ensures .1 .0, arguments .kept, arguments .ensures .1 .1 (if2 .left), if1, named-head .ensures .1, named-head .kept, pre, good), omega (arith, at .ensures .0, at .ensures .1, if2, arguments .ensures .1 .0, arguments .kept, arguments .ensures .1 .1 (if2 .left), if1, named-head .ensures .1, named-head .kept, pre, good), omega (arith, at .ensures .0, at .ensures .1, if2, arguments .ensures .1 .0, arguments .kept, arguments .ensures .1 .1 (if2 .left), if1, named-head .ensures .1, named-head .kept, pre, good), omega (arith, at .ensures .0, at .ensures .1, if2, arguments .ensures .1 .0, arguments .kept, arguments .ensures .1 .1 (if2 .left), if1, named-head .ensures .1, named-head .kept, pre, good))
+      let if2 = c .before .before .if2 in (
+        pre .1 .1,
+        omega arith,
+        omega arith,
+        omega arith,
+        omega arith,
+        omega arith,
+        omega (arith, arguments .ensures .1 .0, arguments .ensures .1 .1 (if2 .left), named-head .ensures .1),
+      )
 
   pub same-length-5 : lts.Need-same-length-5 (R t) (named-at t) named.Post
-  same-length-5 c =
-      let named-head = c .before .before .before .before .before .before .before .before .before .before .before .before .before .before .before .before .before .before .before .before .before .named-head in
-      let arguments = c .before .before .before .before .before .before .before .before .before .before .before .before .before .arguments in
-      let named-node = c .before .before .named-node in
-      omega (arith, named-node .kept, arguments .kept, named-head .kept)
+  same-length-5 c = omega arith
 
   pub same-length-6 : lts.Need-same-length-6 (R t) (named-at t) named.Post
   same-length-6 c =
       let named-head = c .before .before .before .before .before .before .before .before .before .before .before .before .before .before .before .before .before .before .before .before .before .named-head in
-      let arguments = c .before .before .before .before .before .before .before .before .before .before .before .before .before .arguments in
-      let named-node = c .before .before .named-node in
-      omega (arith, named-node .kept, arguments .kept, named-head .kept)
+      omega (arith, named-head .kept)
 
   pub same-length-7 : lts.Need-same-length-7 (R t) (named-at t) named.Post
-  same-length-7 c =
-      let named-head = c .before .before .before .before .before .before .before .before .before .before .before .before .before .before .before .before .before .before .before .before .before .named-head in
-      let arguments = c .before .before .before .before .before .before .before .before .before .before .before .before .before .arguments in
-      let named-node = c .before .before .named-node in
-      omega (arith, named-node .kept, arguments .kept, named-head .kept)
+  same-length-7 c = omega arith
 
   pub returns-3 : lts.Need-returns-3 (R t) (named-at t) named.Post
   returns-3 c =
@@ -161,5 +129,5 @@ module _ (t : ℕ) where
             says-same (named-read _ _ _ (at .ensures .0 .0) (head .is) (got .is))
             (named-node .ensures .0 text _ (head .what) (got .list) _ _ (built-behind (namesOf (head .what)) (laid-spoken _ _ (head .spoken)) (got .built))
             (at .ensures .0 .1) (head .such) (got .there-is) (got .count-is) (got .each)),
-        (omega (arith, named-node .ensures .1, named-node .kept, at .ensures .0, at .ensures .1, if2, arguments .ensures .1 .0, arguments .kept, arguments .ensures .1 .1 (if2 .left), if1, named-head .ensures .1, named-head .kept, pre, good), λ z. omega (arith, named-node .ensures .1, named-node .kept, at .ensures .0, at .ensures .1, if2, arguments .ensures .1 .0, arguments .kept, arguments .ensures .1 .1 (if2 .left), if1, named-head .ensures .1, named-head .kept, pre, good, z)),
+        (omega arith, λ z. omega (arith, arguments .ensures .1 .1 (if2 .left), if1, pre, good, z)),
       )

@@ -1,13 +1,7 @@
 -- The needs of `operator`.
-use Prim.Native.Nat.{ℕ, suc, _+_, _-_, _*_, _^_, _≤_, _<_}
+use Prim.Native.Nat.{ℕ}
 use native.Mathlib.Omega.{arith}
 use borrow.Author.Needs.{needs}
-use borrow.Author.Tests.{not-true, not-false}
-use mathlib.Core.Path.{_≡_, refl, sym, _∙_, ap, subst}
-use mathlib.Core.List.{List, [], _∷_, _++_}
-use lib.ListN.{length}
-use Rattle.parts.specs.declared.function.This.{This}
-use Rattle.readers.specs.Fields.{same-mark, same-kids, same-answer, same-listed, same-params}
 use Rattle.parts.specs.Marks.{view, givenOf}
 use Rattle.parts.specs.Ring.{below}
 use Rattle.parts.specs.MarkLaws.{is-here, is-not-here}
@@ -28,43 +22,29 @@ R t = (past-operators-reads.Asked, past-operators-reads.Learnt, kind-at-reads.As
 module _ (t : ℕ) where
   pub past-operators-requires : lts.Need-past-operators-requires (R t) (operator-at t) operator.Post
   past-operators-requires c κs =
-      let good = c .before .before .before .before .good in
       let pre = c .before .before .before .before .pre in
-      (pre .1 .1, omega (arith, pre, good))
+      (pre .1 .1, omega arith)
 
   pub kind-at-requires : lts.Need-kind-at-requires (R t) (operator-at t) operator.Post
-  kind-at-requires c κs =
-      search needs
+  kind-at-requires c κs = search needs
 
   pub infer-requires : lts.Need-infer-requires (R t) (operator-at t) operator.Post
   infer-requires c κs =
-      let good = c .before .before .before .before .before .before .before .before .before .before .good in
       let pre = c .before .before .before .before .before .before .before .before .before .before .pre in
-      let past-operators = c .before .before .before .before .before .past-operators in
-      let kind-at = c .before .before .before .before .kind-at in
-      let if1 = c .before .before .before .if1 in
-      (omega (arith, if1, kind-at .ensures .0, kind-at .ensures .1, past-operators .ensures .1, pre, good), (pre .1 .0, pre .1 .1, omega (arith, if1, kind-at .ensures .0, kind-at .ensures .1, past-operators .ensures .1, pre, good), omega (arith, if1, kind-at .ensures .0, kind-at .ensures .1, past-operators .ensures .1, pre, good), omega (arith, if1, kind-at .ensures .0, kind-at .ensures .1, past-operators .ensures .1, pre, good)))
+      (omega arith, (pre .1 .0, pre .1 .1, omega arith, omega arith, omega arith))
 
   pub same-length : lts.Need-same-length (R t) (operator-at t) operator.Post
-  same-length c =
-      let infer = c .before .before .before .before .before .before .before .before .infer in
-      omega (arith, infer .kept)
+  same-length c = omega arith
 
   pub same-length-2 : lts.Need-same-length-2 (R t) (operator-at t) operator.Post
-  same-length-2 c =
-      let infer = c .before .before .before .before .before .before .before .before .infer in
-      omega (arith, infer .kept)
+  same-length-2 c = omega arith
 
   pub same-length-3 : lts.Need-same-length-3 (R t) (operator-at t) operator.Post
-  same-length-3 c =
-      let infer = c .before .before .before .before .before .before .before .before .infer in
-      omega (arith, infer .kept)
+  same-length-3 c = omega arith
 
   pub returns : lts.Need-returns (R t) (operator-at t) operator.Post
   returns c =
       let args = c .before .before .before .before .before .before .before .before .before .before .before .before .before .before .before .before .before .before .before .args in
-      let good = c .before .before .before .before .before .before .before .before .before .before .before .before .before .before .before .before .before .before .before .good in
-      let pre = c .before .before .before .before .before .before .before .before .before .before .before .before .before .before .before .before .before .before .before .pre in
       let past-operators = c .before .before .before .before .before .before .before .before .before .before .before .before .before .before .past-operators in
       let kind-at = c .before .before .before .before .before .before .before .before .before .before .before .before .before .kind-at in
       let if1 = c .before .before .before .before .before .before .before .before .before .before .before .before .if1 in
@@ -73,45 +53,42 @@ module _ (t : ℕ) where
         λ text s.
             let g = givenOf text (args .words .now) (args .given) in
             let T = below (args .given) g in
-            operand-refused text (args .words .now) (args .given) (args .m) (past-operators .result) (args .nodes .now) (args .names .now) (args .notes .now) (past-operators .ensures .0 text (args .notes .now) (args .given) T (args .on))
-            (operand-infer g T (args .on) (view (past-operators .result) (args .notes .now)) (is-here (args .words .now) (past-operators .result) (kind-at .ensures .0) (if1 .taken))) (past-operators .ensures .1 .0) (infer .ensures .0 text s) (if2 .taken),
-        (omega (arith, if2, infer .ensures .1 .0, infer .kept, if1, kind-at .ensures .0, kind-at .ensures .1, past-operators .ensures .1, pre, good), λ z. omega (arith, if2, infer .ensures .1 .0, infer .kept, if1, kind-at .ensures .0, kind-at .ensures .1, past-operators .ensures .1, pre, good, z)),
+            operand-refused text (args .words .now) (args .given) (args .m) (past-operators .result) (args .nodes .now) (args .names .now)
+            (args .notes .now) (past-operators .ensures .0 text (args .notes .now) (args .given) T (args .on))
+            (operand-infer g T (args .on) (view (past-operators .result) (args .notes .now)) (is-here (args .words .now) (past-operators .result) (kind-at .ensures .0) (if1 .taken)))
+            (past-operators .ensures .1 .0) (infer .ensures .0 text s) (if2 .taken),
+        (omega arith, λ z. omega arith),
       )
 
   pub put-operators-requires : lts.Need-put-operators-requires (R t) (operator-at t) operator.Post
   put-operators-requires c κs =
-      let good = c .before .before .before .before .before .before .before .before .before .before .before .before .before .before .before .before .before .before .before .before .good in
       let pre = c .before .before .before .before .before .before .before .before .before .before .before .before .before .before .before .before .before .before .before .before .pre in
       let past-operators = c .before .before .before .before .before .before .before .before .before .before .before .before .before .before .before .past-operators in
       let kind-at = c .before .before .before .before .before .before .before .before .before .before .before .before .before .before .kind-at in
-      let if1 = c .before .before .before .before .before .before .before .before .before .before .before .before .before .if1 in
       let infer = c .before .before .before .before .before .before .before .before .before .infer in
-      let if2 = c .before .if2 in
-      (pre .1 .1, omega (arith, if2, infer .ensures .1 .0, infer .kept, infer .ensures .1 .1 (if2 .left), if1, kind-at .ensures .0, kind-at .ensures .1, past-operators .ensures .1, pre, good), omega (arith, if2, infer .ensures .1 .0, infer .kept, infer .ensures .1 .1 (if2 .left), if1, kind-at .ensures .0, kind-at .ensures .1, past-operators .ensures .1, pre, good), omega (arith, if2, infer .ensures .1 .0, infer .kept, infer .ensures .1 .1 (if2 .left), if1, kind-at .ensures .0, kind-at .ensures .1, past-operators .ensures .1, pre, good), omega (arith, if2, infer .ensures .1 .0, infer .kept, infer .ensures .1 .1 (if2 .left), if1, kind-at .ensures .0, kind-at .ensures .1, past-operators .ensures .1, pre, good), omega (arith, if2, infer .ensures .1 .0, infer .kept, infer .ensures .1 .1 (if2 .left), if1, kind-at .ensures .0, kind-at .ensures .1, past-operators .ensures .1, pre, good), omega (arith, if2, infer .ensures .1 .0, infer .kept, infer .ensures .1 .1 (if2 .left), if1, kind-at .ensures .0, kind-at .ensures .1, past-operators .ensures .1, pre, good), omega (arith, if2, infer .ensures .1 .0, infer .kept, infer .ensures .1 .1 (if2 .left), if1, kind-at .ensures .0, kind-at .ensures .1, past-operators .ensures .1, pre, good))
+      let if2 = c .before .if2 in (
+        pre .1 .1,
+        omega arith,
+        omega arith,
+        omega (arith, kind-at .ensures .0, kind-at .ensures .1, past-operators .ensures .1),
+        omega arith,
+        omega (arith, infer .ensures .1 .1 (if2 .left)),
+        omega arith,
+        omega arith,
+      )
 
   pub same-length-4 : lts.Need-same-length-4 (R t) (operator-at t) operator.Post
-  same-length-4 c =
-      let infer = c .before .before .before .before .before .before .before .before .before .before .before .before .infer in
-      let put-operators = c .before .before .put-operators in
-      omega (arith, put-operators .kept, infer .kept)
+  same-length-4 c = omega arith
 
   pub same-length-5 : lts.Need-same-length-5 (R t) (operator-at t) operator.Post
-  same-length-5 c =
-      let infer = c .before .before .before .before .before .before .before .before .before .before .before .before .infer in
-      let put-operators = c .before .before .put-operators in
-      omega (arith, put-operators .kept, infer .kept)
+  same-length-5 c = omega arith
 
   pub same-length-6 : lts.Need-same-length-6 (R t) (operator-at t) operator.Post
-  same-length-6 c =
-      let infer = c .before .before .before .before .before .before .before .before .before .before .before .before .infer in
-      let put-operators = c .before .before .put-operators in
-      omega (arith, put-operators .kept, infer .kept)
+  same-length-6 c = omega arith
 
   pub returns-2 : lts.Need-returns-2 (R t) (operator-at t) operator.Post
   returns-2 c =
       let args = c .before .before .before .before .before .before .before .before .before .before .before .before .before .before .before .before .before .before .before .before .before .before .before .args in
-      let good = c .before .before .before .before .before .before .before .before .before .before .before .before .before .before .before .before .before .before .before .before .before .before .before .good in
-      let pre = c .before .before .before .before .before .before .before .before .before .before .before .before .before .before .before .before .before .before .before .before .before .before .before .pre in
       let past-operators = c .before .before .before .before .before .before .before .before .before .before .before .before .before .before .before .before .before .before .past-operators in
       let kind-at = c .before .before .before .before .before .before .before .before .before .before .before .before .before .before .before .before .before .kind-at in
       let if1 = c .before .before .before .before .before .before .before .before .before .before .before .before .before .before .before .before .if1 in
@@ -121,41 +98,31 @@ module _ (t : ℕ) where
         λ text s.
             let g = givenOf text (args .words .now) (args .given) in
             let T = below (args .given) g in
-            operand-about text (args .words .now) (args .given) (args .m) (past-operators .result) (args .nodes .now) (args .names .now) (args .notes .now) (past-operators .ensures .0 text (args .notes .now) (args .given) T (args .on))
-            (operand-infer g T (args .on) (view (past-operators .result) (args .notes .now)) (is-here (args .words .now) (past-operators .result) (kind-at .ensures .0) (if1 .taken))) (past-operators .ensures .1 .0) (infer .ensures .0 text s)
+            operand-about text (args .words .now) (args .given) (args .m) (past-operators .result) (args .nodes .now) (args .names .now)
+            (args .notes .now) (past-operators .ensures .0 text (args .notes .now) (args .given) T (args .on))
+            (operand-infer g T (args .on) (view (past-operators .result) (args .notes .now)) (is-here (args .words .now) (past-operators .result) (kind-at .ensures .0) (if1 .taken)))
+            (past-operators .ensures .1 .0) (infer .ensures .0 text s)
             (if2 .left) (λ B u h n. put-operators .ensures .0 text B u _ _ h n),
-        (omega (arith, put-operators .ensures .1, put-operators .kept, if2, infer .ensures .1 .0, infer .kept, infer .ensures .1 .1 (if2 .left), if1, kind-at .ensures .0, kind-at .ensures .1, past-operators .ensures .1, pre, good), λ z. omega (arith, put-operators .ensures .1, put-operators .kept, if2, infer .ensures .1 .0, infer .kept, infer .ensures .1 .1 (if2 .left), if1, kind-at .ensures .0, kind-at .ensures .1, past-operators .ensures .1, pre, good, z)),
+        (omega arith, λ z. omega (arith, infer .ensures .1 .1 (if2 .left))),
       )
 
   pub postfix-requires : lts.Need-postfix-requires (R t) (operator-at t) operator.Post
   postfix-requires c κs =
-      let good = c .before .before .before .before .before .before .before .before .before .before .good in
       let pre = c .before .before .before .before .before .before .before .before .before .before .pre in
-      let past-operators = c .before .before .before .before .before .past-operators in
-      let kind-at = c .before .before .before .before .kind-at in
-      let if1 = c .before .before .before .if1 in
-      (omega (arith, if1, kind-at .ensures .0, kind-at .ensures .1, past-operators .ensures .1, pre, good), (pre .1 .0, pre .1 .1, omega (arith, if1, kind-at .ensures .0, kind-at .ensures .1, past-operators .ensures .1, pre, good), omega (arith, if1, kind-at .ensures .0, kind-at .ensures .1, past-operators .ensures .1, pre, good)))
+      (omega arith, (pre .1 .0, pre .1 .1, omega arith, omega arith))
 
   pub same-length-7 : lts.Need-same-length-7 (R t) (operator-at t) operator.Post
-  same-length-7 c =
-      let postfix = c .before .before .before .before .before .before .before .before .postfix in
-      omega (arith, postfix .kept)
+  same-length-7 c = omega arith
 
   pub same-length-8 : lts.Need-same-length-8 (R t) (operator-at t) operator.Post
-  same-length-8 c =
-      let postfix = c .before .before .before .before .before .before .before .before .postfix in
-      omega (arith, postfix .kept)
+  same-length-8 c = omega arith
 
   pub same-length-9 : lts.Need-same-length-9 (R t) (operator-at t) operator.Post
-  same-length-9 c =
-      let postfix = c .before .before .before .before .before .before .before .before .postfix in
-      omega (arith, postfix .kept)
+  same-length-9 c = omega arith
 
   pub returns-3 : lts.Need-returns-3 (R t) (operator-at t) operator.Post
   returns-3 c =
       let args = c .before .before .before .before .before .before .before .before .before .before .before .before .before .before .before .before .before .before .before .args in
-      let good = c .before .before .before .before .before .before .before .before .before .before .before .before .before .before .before .before .before .before .before .good in
-      let pre = c .before .before .before .before .before .before .before .before .before .before .before .before .before .before .before .before .before .before .before .pre in
       let past-operators = c .before .before .before .before .before .before .before .before .before .before .before .before .before .before .past-operators in
       let kind-at = c .before .before .before .before .before .before .before .before .before .before .before .before .before .kind-at in
       let if1 = c .before .before .before .before .before .before .before .before .before .before .before .before .if1 in
@@ -164,45 +131,42 @@ module _ (t : ℕ) where
         λ text s.
             let g = givenOf text (args .words .now) (args .given) in
             let T = below (args .given) g in
-            operand-refused text (args .words .now) (args .given) (args .m) (past-operators .result) (args .nodes .now) (args .names .now) (args .notes .now) (past-operators .ensures .0 text (args .notes .now) (args .given) T (args .on))
-            (operand-postfix g T (args .on) (view (past-operators .result) (args .notes .now)) (is-not-here (args .words .now) (past-operators .result) (kind-at .ensures .0) (if1 .left))) (past-operators .ensures .1 .0) (postfix .ensures .0 text s) (if3 .taken),
-        (omega (arith, if3, postfix .ensures .1 .0, postfix .kept, if1, kind-at .ensures .0, kind-at .ensures .1, past-operators .ensures .1, pre, good), λ z. omega (arith, if3, postfix .ensures .1 .0, postfix .kept, if1, kind-at .ensures .0, kind-at .ensures .1, past-operators .ensures .1, pre, good, z)),
+            operand-refused text (args .words .now) (args .given) (args .m) (past-operators .result) (args .nodes .now) (args .names .now)
+            (args .notes .now) (past-operators .ensures .0 text (args .notes .now) (args .given) T (args .on))
+            (operand-postfix g T (args .on) (view (past-operators .result) (args .notes .now)) (is-not-here (args .words .now) (past-operators .result) (kind-at .ensures .0) (if1 .left)))
+            (past-operators .ensures .1 .0) (postfix .ensures .0 text s) (if3 .taken),
+        (omega arith, λ z. omega arith),
       )
 
   pub put-operators-requires-2 : lts.Need-put-operators-requires-2 (R t) (operator-at t) operator.Post
   put-operators-requires-2 c κs =
-      let good = c .before .before .before .before .before .before .before .before .before .before .before .before .before .before .before .before .before .before .before .before .good in
       let pre = c .before .before .before .before .before .before .before .before .before .before .before .before .before .before .before .before .before .before .before .before .pre in
       let past-operators = c .before .before .before .before .before .before .before .before .before .before .before .before .before .before .before .past-operators in
       let kind-at = c .before .before .before .before .before .before .before .before .before .before .before .before .before .before .kind-at in
-      let if1 = c .before .before .before .before .before .before .before .before .before .before .before .before .before .if1 in
       let postfix = c .before .before .before .before .before .before .before .before .before .postfix in
-      let if3 = c .before .if3 in
-      (pre .1 .1, omega (arith, if3, postfix .ensures .1 .0, postfix .kept, postfix .ensures .1 .1 (if3 .left), if1, kind-at .ensures .0, kind-at .ensures .1, past-operators .ensures .1, pre, good), omega (arith, if3, postfix .ensures .1 .0, postfix .kept, postfix .ensures .1 .1 (if3 .left), if1, kind-at .ensures .0, kind-at .ensures .1, past-operators .ensures .1, pre, good), omega (arith, if3, postfix .ensures .1 .0, postfix .kept, postfix .ensures .1 .1 (if3 .left), if1, kind-at .ensures .0, kind-at .ensures .1, past-operators .ensures .1, pre, good), omega (arith, if3, postfix .ensures .1 .0, postfix .kept, postfix .ensures .1 .1 (if3 .left), if1, kind-at .ensures .0, kind-at .ensures .1, past-operators .ensures .1, pre, good), omega (arith, if3, postfix .ensures .1 .0, postfix .kept, postfix .ensures .1 .1 (if3 .left), if1, kind-at .ensures .0, kind-at .ensures .1, past-operators .ensures .1, pre, good), omega (arith, if3, postfix .ensures .1 .0, postfix .kept, postfix .ensures .1 .1 (if3 .left), if1, kind-at .ensures .0, kind-at .ensures .1, past-operators .ensures .1, pre, good), omega (arith, if3, postfix .ensures .1 .0, postfix .kept, postfix .ensures .1 .1 (if3 .left), if1, kind-at .ensures .0, kind-at .ensures .1, past-operators .ensures .1, pre, good))
+      let if3 = c .before .if3 in (
+        pre .1 .1,
+        omega arith,
+        omega arith,
+        omega (arith, kind-at .ensures .0, kind-at .ensures .1, past-operators .ensures .1),
+        omega arith,
+        omega (arith, postfix .ensures .1 .1 (if3 .left)),
+        omega arith,
+        omega arith,
+      )
 
   pub same-length-10 : lts.Need-same-length-10 (R t) (operator-at t) operator.Post
-  same-length-10 c =
-      let postfix = c .before .before .before .before .before .before .before .before .before .before .before .before .postfix in
-      let put-operators2 = c .before .before .put-operators2 in
-      omega (arith, put-operators2 .kept, postfix .kept)
+  same-length-10 c = omega arith
 
   pub same-length-11 : lts.Need-same-length-11 (R t) (operator-at t) operator.Post
-  same-length-11 c =
-      let postfix = c .before .before .before .before .before .before .before .before .before .before .before .before .postfix in
-      let put-operators2 = c .before .before .put-operators2 in
-      omega (arith, put-operators2 .kept, postfix .kept)
+  same-length-11 c = omega arith
 
   pub same-length-12 : lts.Need-same-length-12 (R t) (operator-at t) operator.Post
-  same-length-12 c =
-      let postfix = c .before .before .before .before .before .before .before .before .before .before .before .before .postfix in
-      let put-operators2 = c .before .before .put-operators2 in
-      omega (arith, put-operators2 .kept, postfix .kept)
+  same-length-12 c = omega arith
 
   pub returns-4 : lts.Need-returns-4 (R t) (operator-at t) operator.Post
   returns-4 c =
       let args = c .before .before .before .before .before .before .before .before .before .before .before .before .before .before .before .before .before .before .before .before .before .before .before .args in
-      let good = c .before .before .before .before .before .before .before .before .before .before .before .before .before .before .before .before .before .before .before .before .before .before .before .good in
-      let pre = c .before .before .before .before .before .before .before .before .before .before .before .before .before .before .before .before .before .before .before .before .before .before .before .pre in
       let past-operators = c .before .before .before .before .before .before .before .before .before .before .before .before .before .before .before .before .before .before .past-operators in
       let kind-at = c .before .before .before .before .before .before .before .before .before .before .before .before .before .before .before .before .before .kind-at in
       let if1 = c .before .before .before .before .before .before .before .before .before .before .before .before .before .before .before .before .if1 in
@@ -212,8 +176,10 @@ module _ (t : ℕ) where
         λ text s.
             let g = givenOf text (args .words .now) (args .given) in
             let T = below (args .given) g in
-            operand-about text (args .words .now) (args .given) (args .m) (past-operators .result) (args .nodes .now) (args .names .now) (args .notes .now) (past-operators .ensures .0 text (args .notes .now) (args .given) T (args .on))
-            (operand-postfix g T (args .on) (view (past-operators .result) (args .notes .now)) (is-not-here (args .words .now) (past-operators .result) (kind-at .ensures .0) (if1 .left))) (past-operators .ensures .1 .0) (postfix .ensures .0 text s)
+            operand-about text (args .words .now) (args .given) (args .m) (past-operators .result) (args .nodes .now) (args .names .now)
+            (args .notes .now) (past-operators .ensures .0 text (args .notes .now) (args .given) T (args .on))
+            (operand-postfix g T (args .on) (view (past-operators .result) (args .notes .now)) (is-not-here (args .words .now) (past-operators .result) (kind-at .ensures .0) (if1 .left)))
+            (past-operators .ensures .1 .0) (postfix .ensures .0 text s)
             (if3 .left) (λ B u h n. put-operators2 .ensures .0 text B u _ _ h n),
-        (omega (arith, put-operators2 .ensures .1, put-operators2 .kept, if3, postfix .ensures .1 .0, postfix .kept, postfix .ensures .1 .1 (if3 .left), if1, kind-at .ensures .0, kind-at .ensures .1, past-operators .ensures .1, pre, good), λ z. omega (arith, put-operators2 .ensures .1, put-operators2 .kept, if3, postfix .ensures .1 .0, postfix .kept, postfix .ensures .1 .1 (if3 .left), if1, kind-at .ensures .0, kind-at .ensures .1, past-operators .ensures .1, pre, good, z)),
+        (omega arith, λ z. omega (arith, postfix .ensures .1 .1 (if3 .left))),
       )

@@ -1,20 +1,16 @@
 -- The needs of `param`.
-use Prim.Native.Nat.{ℕ, suc, _+_, _-_, _*_, _^_, _≤_, _<_}
+use Prim.Native.Nat.{ℕ}
 use native.Mathlib.Omega.{arith}
 use borrow.Author.Needs.{needs}
-use borrow.Author.Tests.{not-true, not-false}
-use mathlib.Core.Path.{_≡_, refl, sym, _∙_, ap, subst}
-use mathlib.Core.List.{List, [], _∷_, _++_}
-use lib.ListN.{length}
+use mathlib.Core.Path.{_∙_, ap}
 use Rattle.words.specs.Kind.{Dot3}
 use Rattle.parts.specs.Nodes.{optBit}
 use Rattle.parts.specs.Lists.{here}
 use Rattle.parts.specs.Answers.{says-as, says-same, says-stop, then-read, then-refused}
 use Rattle.parts.specs.RingLaws.{parameter-is}
 use Rattle.parts.specs.ParameterLaws.{shape-parameter}
-use Rattle.readers.specs.OptionLaws.{built-spoken, built-option, shape-as, make-first}
-use Rattle.parts.specs.declared.function.This.{This}
-use Rattle.readers.specs.Fields.{same-mark, same-kids, same-answer, same-listed, same-params}
+use Rattle.readers.specs.Fields.{same-kids, same-answer}
+use Rattle.readers.specs.ChildLaws.{built-spoken, built-option, shape-as, make-first}
 use Rattle.parts.proofs.function.param_head.Reads as param-head-reads
 use Rattle.parts.proofs.node.link_opt.Reads as link-opt-reads
 use Rattle.parts.proofs.node.opt_bit.Reads as opt-bit-reads
@@ -33,18 +29,14 @@ R t = (param-head-reads.Asked, param-head-reads.Learnt, state-Answer-refused-rea
 module _ (t : ℕ) where
   pub param-head-requires : lts.Need-param-head-requires (R t) (param-at t) param.Post
   param-head-requires c κs =
-      let good = c .before .before .before .before .before .good in
       let pre = c .before .before .before .before .before .pre in
-      (pre .1 .0, pre .1 .1, omega (arith, pre, good), omega (arith, pre, good))
+      (pre .1 .0, pre .1 .1, omega arith, omega arith)
 
   pub refused-requires : lts.Need-refused-requires (R t) (param-at t) param.Post
-  refused-requires c κs =
-      search needs
+  refused-requires c κs = search needs
 
   pub same-length : lts.Need-same-length (R t) (param-at t) param.Post
-  same-length c =
-      let param-head = c .before .before .before .before .before .param-head in
-      omega (arith, param-head .kept)
+  same-length c = omega arith
 
   pub returns : lts.Need-returns (R t) (param-at t) param.Post
   returns c =
@@ -57,40 +49,26 @@ module _ (t : ℕ) where
         λ text s.
             says-as (refused .ensures)
             (says-stop (if1 .taken) (parameter-is _ _ _ ∙ then-refused _ (param-head .ensures .0 text (args .notes .now) (args .given) s .refused (if1 .taken)))),
-        (omega (arith, same-answer (refused .ensures), if1, param-head .ensures .1, param-head .kept, pre, good), λ z. omega (arith, same-answer (refused .ensures), if1, param-head .ensures .1, param-head .kept, pre, good, z)),
+        (omega (arith, same-answer (refused .ensures), pre, good), λ z. omega (arith, same-answer (refused .ensures))),
       )
 
   pub opt-requires : lts.Need-opt-requires (R t) (param-at t) param.Post
   opt-requires c κs =
-      let good = c .before .before .before .before .before .before .before .before .before .before .before .before .before .before .good in
       let pre = c .before .before .before .before .before .before .before .before .before .before .before .before .before .before .pre in
-      let param-head = c .before .before .before .before .before .before .before .before .param-head in
-      let if1 = c .before .before .before .before .if1 in
-      (omega (arith, if1, param-head .ensures .1, param-head .kept, pre, good), (pre .1 .0, pre .1 .1, omega (arith, if1, param-head .ensures .1, param-head .kept, pre, good), omega (arith, if1, param-head .ensures .1, param-head .kept, pre, good), omega (arith, if1, param-head .ensures .1, param-head .kept, pre, good)))
+      (omega arith, (pre .1 .0, pre .1 .1, omega arith, omega arith, omega arith))
 
   pub same-length-2 : lts.Need-same-length-2 (R t) (param-at t) param.Post
-  same-length-2 c =
-      let param-head = c .before .before .before .before .before .before .before .before .before .before .before .before .before .before .before .before .before .param-head in
-      let opt = c .before .before .before .before .before .before .before .before .opt in
-      omega (arith, opt .kept, param-head .kept)
+  same-length-2 c = omega arith
 
   pub same-length-3 : lts.Need-same-length-3 (R t) (param-at t) param.Post
-  same-length-3 c =
-      let param-head = c .before .before .before .before .before .before .before .before .before .before .before .before .before .before .before .before .before .param-head in
-      let opt = c .before .before .before .before .before .before .before .before .opt in
-      omega (arith, opt .kept, param-head .kept)
+  same-length-3 c = omega arith
 
   pub same-length-4 : lts.Need-same-length-4 (R t) (param-at t) param.Post
-  same-length-4 c =
-      let param-head = c .before .before .before .before .before .before .before .before .before .before .before .before .before .before .before .before .before .param-head in
-      let opt = c .before .before .before .before .before .before .before .before .opt in
-      omega (arith, opt .kept, param-head .kept)
+  same-length-4 c = omega arith
 
   pub returns-2 : lts.Need-returns-2 (R t) (param-at t) param.Post
   returns-2 c =
       let args = c .before .before .before .before .before .before .before .before .before .before .before .before .before .before .before .before .before .before .before .before .before .before .before .args in
-      let good = c .before .before .before .before .before .before .before .before .before .before .before .before .before .before .before .before .before .before .before .before .before .before .before .good in
-      let pre = c .before .before .before .before .before .before .before .before .before .before .before .before .before .before .before .before .before .before .before .before .before .before .before .pre in
       let param-head = c .before .before .before .before .before .before .before .before .before .before .before .before .before .before .before .before .before .param-head in
       let if1 = c .before .before .before .before .before .before .before .before .before .before .before .before .before .if1 in
       let opt = c .before .before .before .before .before .before .before .before .opt in
@@ -98,104 +76,65 @@ module _ (t : ℕ) where
         λ text s.
             let head = param-head .ensures .0 text (args .notes .now) (args .given) s .done (if1 .left) in
             says-stop (if2 .taken) (parameter-is _ _ _ ∙ then-read _ (head .is) ∙ then-refused _ (opt .ensures .0 text s .refused (if2 .taken))),
-        (omega (arith, if2, opt .ensures .1 .0, opt .kept, if1, param-head .ensures .1, param-head .kept, pre, good), λ z. omega (arith, if2, opt .ensures .1 .0, opt .kept, if1, param-head .ensures .1, param-head .kept, pre, good, z)),
+        (omega arith, λ z. omega arith),
       )
 
   pub none-requires : lts.Need-none-requires (R t) (param-at t) param.Post
-  none-requires c κs =
-      search needs
+  none-requires c κs = search needs
 
   pub link-opt-requires : lts.Need-link-opt-requires (R t) (param-at t) param.Post
   link-opt-requires c κs =
       let good = c .before .before .before .before .before .before .before .before .before .before .before .before .before .before .before .before .before .before .before .before .before .before .before .before .before .before .good in
       let pre = c .before .before .before .before .before .before .before .before .before .before .before .before .before .before .before .before .before .before .before .before .before .before .before .before .before .before .pre in
-      let param-head = c .before .before .before .before .before .before .before .before .before .before .before .before .before .before .before .before .before .before .before .before .param-head in
       let if1 = c .before .before .before .before .before .before .before .before .before .before .before .before .before .before .before .before .if1 in
       let opt = c .before .before .before .before .before .before .before .before .before .before .before .opt in
       let if2 = c .before .before .before .if2 in
       let none = c .none in
-      omega (arith, same-kids (none .ensures), if2, opt .ensures .1 .0, opt .kept, opt .ensures .1 .1 (if2 .left), if1, param-head .ensures .1, param-head .kept, pre, good)
+      omega (arith, same-kids (none .ensures), opt .ensures .1 .1 (if2 .left), if1, pre, good)
 
   pub opt-bit-requires : lts.Need-opt-bit-requires (R t) (param-at t) param.Post
-  opt-bit-requires c κs =
-      search needs
+  opt-bit-requires c κs = search needs
 
   pub mul-choices : lts.Need-mul-choices (R t) (param-at t) param.Post
-  mul-choices c =
-      let good = c .before .before .before .before .before .before .before .before .before .before .before .before .before .before .before .before .before .before .before .before .before .before .before .before .before .before .before .before .before .before .good in
-      let pre = c .before .before .before .before .before .before .before .before .before .before .before .before .before .before .before .before .before .before .before .before .before .before .before .before .before .before .before .before .before .before .pre in
-      let param-head = c .before .before .before .before .before .before .before .before .before .before .before .before .before .before .before .before .before .before .before .before .before .before .before .before .param-head in
-      let if1 = c .before .before .before .before .before .before .before .before .before .before .before .before .before .before .before .before .before .before .before .before .if1 in
-      let opt = c .before .before .before .before .before .before .before .before .before .before .before .before .before .before .before .opt in
-      let if2 = c .before .before .before .before .before .before .before .if2 in
-      let none = c .before .before .before .before .none in
-      let link-opt = c .before .before .before .link-opt in
-      let opt-bit = c .opt-bit in
-      omega (arith, opt-bit .ensures .0, opt-bit .ensures .1, link-opt .ensures .1, link-opt .kept, same-kids (none .ensures), if2, opt .ensures .1 .0, opt .kept, opt .ensures .1 .1 (if2 .left), if1, param-head .ensures .1, param-head .kept, pre, good)
+  mul-choices c = omega arith
 
   pub add-choices : lts.Need-add-choices (R t) (param-at t) param.Post
   add-choices c =
-      let good = c .before .before .before .before .before .before .before .before .before .before .before .before .before .before .before .before .before .before .before .before .before .before .before .before .before .before .before .before .before .before .before .good in
-      let pre = c .before .before .before .before .before .before .before .before .before .before .before .before .before .before .before .before .before .before .before .before .before .before .before .before .before .before .before .before .before .before .before .pre in
       let param-head = c .before .before .before .before .before .before .before .before .before .before .before .before .before .before .before .before .before .before .before .before .before .before .before .before .before .param-head in
-      let if1 = c .before .before .before .before .before .before .before .before .before .before .before .before .before .before .before .before .before .before .before .before .before .if1 in
       let opt = c .before .before .before .before .before .before .before .before .before .before .before .before .before .before .before .before .opt in
       let if2 = c .before .before .before .before .before .before .before .before .if2 in
       let none = c .before .before .before .before .before .none in
       let link-opt = c .before .before .before .before .link-opt in
-      let opt-bit = c .before .opt-bit in
-      omega (arith, opt-bit .ensures .0, opt-bit .ensures .1, link-opt .ensures .1, link-opt .kept, same-kids (none .ensures), if2, opt .ensures .1 .0, opt .kept, opt .ensures .1 .1 (if2 .left), if1, param-head .ensures .1, param-head .kept, pre, good)
+      omega (arith, link-opt .ensures .1, same-kids (none .ensures), opt .ensures .1 .0, opt .ensures .1 .1 (if2 .left), param-head .ensures .1)
 
   pub at-requires : lts.Need-at-requires (R t) (param-at t) param.Post
   at-requires c κs =
-      let good = c .before .before .before .before .before .before .before .before .before .before .before .before .before .before .before .before .before .before .before .before .before .before .before .before .before .before .before .before .before .before .before .before .good in
       let pre = c .before .before .before .before .before .before .before .before .before .before .before .before .before .before .before .before .before .before .before .before .before .before .before .before .before .before .before .before .before .before .before .before .pre in
-      let param-head = c .before .before .before .before .before .before .before .before .before .before .before .before .before .before .before .before .before .before .before .before .before .before .before .before .before .before .param-head in
-      let if1 = c .before .before .before .before .before .before .before .before .before .before .before .before .before .before .before .before .before .before .before .before .before .before .if1 in
-      let opt = c .before .before .before .before .before .before .before .before .before .before .before .before .before .before .before .before .before .opt in
-      let if2 = c .before .before .before .before .before .before .before .before .before .if2 in
-      let none = c .before .before .before .before .before .before .none in
-      let link-opt = c .before .before .before .before .before .link-opt in
-      let opt-bit = c .before .before .opt-bit in
-      (pre .1 .1, omega (arith, opt-bit .ensures .0, opt-bit .ensures .1, link-opt .ensures .1, link-opt .kept, same-kids (none .ensures), if2, opt .ensures .1 .0, opt .kept, opt .ensures .1 .1 (if2 .left), if1, param-head .ensures .1, param-head .kept, pre, good))
+      (pre .1 .1, omega arith)
 
   pub put-requires : lts.Need-put-requires (R t) (param-at t) param.Post
   put-requires c κs =
-      let good = c .before .before .before .before .before .before .before .before .before .before .before .before .before .before .before .before .before .before .before .before .before .before .before .before .before .before .before .before .before .before .before .before .before .good in
       let pre = c .before .before .before .before .before .before .before .before .before .before .before .before .before .before .before .before .before .before .before .before .before .before .before .before .before .before .before .before .before .before .before .before .before .pre in
-      let param-head = c .before .before .before .before .before .before .before .before .before .before .before .before .before .before .before .before .before .before .before .before .before .before .before .before .before .before .before .param-head in
-      let if1 = c .before .before .before .before .before .before .before .before .before .before .before .before .before .before .before .before .before .before .before .before .before .before .before .if1 in
       let opt = c .before .before .before .before .before .before .before .before .before .before .before .before .before .before .before .before .before .before .opt in
       let if2 = c .before .before .before .before .before .before .before .before .before .before .if2 in
-      let none = c .before .before .before .before .before .before .before .none in
-      let link-opt = c .before .before .before .before .before .before .link-opt in
-      let opt-bit = c .before .before .before .opt-bit in
-      let at = c .at in
-      (pre .1 .1, omega (arith, at .ensures .0, at .ensures .1, opt-bit .ensures .0, opt-bit .ensures .1, link-opt .ensures .1, link-opt .kept, same-kids (none .ensures), if2, opt .ensures .1 .0, opt .kept, opt .ensures .1 .1 (if2 .left), if1, param-head .ensures .1, param-head .kept, pre, good), omega (arith, at .ensures .0, at .ensures .1, opt-bit .ensures .0, opt-bit .ensures .1, link-opt .ensures .1, link-opt .kept, same-kids (none .ensures), if2, opt .ensures .1 .0, opt .kept, opt .ensures .1 .1 (if2 .left), if1, param-head .ensures .1, param-head .kept, pre, good), omega (arith, at .ensures .0, at .ensures .1, opt-bit .ensures .0, opt-bit .ensures .1, link-opt .ensures .1, link-opt .kept, same-kids (none .ensures), if2, opt .ensures .1 .0, opt .kept, opt .ensures .1 .1 (if2 .left), if1, param-head .ensures .1, param-head .kept, pre, good), omega (arith, at .ensures .0, at .ensures .1, opt-bit .ensures .0, opt-bit .ensures .1, link-opt .ensures .1, link-opt .kept, same-kids (none .ensures), if2, opt .ensures .1 .0, opt .kept, opt .ensures .1 .1 (if2 .left), if1, param-head .ensures .1, param-head .kept, pre, good), omega (arith, at .ensures .0, at .ensures .1, opt-bit .ensures .0, opt-bit .ensures .1, link-opt .ensures .1, link-opt .kept, same-kids (none .ensures), if2, opt .ensures .1 .0, opt .kept, opt .ensures .1 .1 (if2 .left), if1, param-head .ensures .1, param-head .kept, pre, good))
+      (pre .1 .1, omega arith, omega (arith, opt .ensures .1 .1 (if2 .left)), omega arith, omega arith, omega arith)
 
   pub same-length-5 : lts.Need-same-length-5 (R t) (param-at t) param.Post
   same-length-5 c =
-      let param-head = c .before .before .before .before .before .before .before .before .before .before .before .before .before .before .before .before .before .before .before .before .before .before .before .before .before .before .before .before .before .before .param-head in
       let opt = c .before .before .before .before .before .before .before .before .before .before .before .before .before .before .before .before .before .before .before .before .before .opt in
       let link-opt = c .before .before .before .before .before .before .before .before .before .link-opt in
-      let put = c .before .before .put in
-      omega (arith, put .kept, link-opt .kept, opt .kept, param-head .kept)
+      omega (arith, link-opt .kept, opt .kept)
 
   pub same-length-6 : lts.Need-same-length-6 (R t) (param-at t) param.Post
   same-length-6 c =
       let param-head = c .before .before .before .before .before .before .before .before .before .before .before .before .before .before .before .before .before .before .before .before .before .before .before .before .before .before .before .before .before .before .param-head in
       let opt = c .before .before .before .before .before .before .before .before .before .before .before .before .before .before .before .before .before .before .before .before .before .opt in
-      let link-opt = c .before .before .before .before .before .before .before .before .before .link-opt in
-      let put = c .before .before .put in
-      omega (arith, put .kept, link-opt .kept, opt .kept, param-head .kept)
+      omega (arith, opt .kept, param-head .kept)
 
   pub same-length-7 : lts.Need-same-length-7 (R t) (param-at t) param.Post
   same-length-7 c =
-      let param-head = c .before .before .before .before .before .before .before .before .before .before .before .before .before .before .before .before .before .before .before .before .before .before .before .before .before .before .before .before .before .before .param-head in
       let opt = c .before .before .before .before .before .before .before .before .before .before .before .before .before .before .before .before .before .before .before .before .before .opt in
-      let link-opt = c .before .before .before .before .before .before .before .before .before .link-opt in
-      let put = c .before .before .put in
-      omega (arith, put .kept, link-opt .kept, opt .kept, param-head .kept)
+      omega (arith, opt .kept)
 
   pub returns-3 : lts.Need-returns-3 (R t) (param-at t) param.Post
   returns-3 c =
@@ -220,9 +159,12 @@ module _ (t : ℕ) where
             ∙ make-first _ _ _ _ _ (at .ensures .0 .0))
             (put .ensures .0 text 5 _ _ 0 _ _ _
             (built-option (param-head .result .m) (opt .result .m) (built-spoken (none .ensures) (head .spoken))
-            x (omega (arith, opt .kept)) (link-opt .ensures .0))
+            x (omega arith) (link-opt .ensures .0))
             (at .ensures .0 .1)
-            (shape-as (omega (arith, head .such, opt-bit .ensures .0, ap optBit (x .high-is)))
+            (shape-as (omega (arith, ap optBit (x .high-is)))
             (shape-parameter rest (head .what .0) (head .what .1) (x .tree) (x .is-opt)))),
-        (omega (arith, put .ensures .1, put .kept, at .ensures .0, at .ensures .1, opt-bit .ensures .0, opt-bit .ensures .1, link-opt .ensures .1, link-opt .kept, same-kids (none .ensures), if2, opt .ensures .1 .0, opt .kept, opt .ensures .1 .1 (if2 .left), if1, param-head .ensures .1, param-head .kept, pre, good), λ z. omega (arith, put .ensures .1, put .kept, at .ensures .0, at .ensures .1, opt-bit .ensures .0, opt-bit .ensures .1, link-opt .ensures .1, link-opt .kept, same-kids (none .ensures), if2, opt .ensures .1 .0, opt .kept, opt .ensures .1 .1 (if2 .left), if1, param-head .ensures .1, param-head .kept, pre, good, z)),
+        (
+          omega (arith, at .ensures .0, at .ensures .1, opt-bit .ensures .0, opt-bit .ensures .1, link-opt .ensures .1, same-kids (none .ensures), opt .ensures .1 .0, opt .ensures .1 .1 (if2 .left), param-head .ensures .1),
+          λ z. omega (arith, if2, opt .ensures .1 .1 (if2 .left), if1, pre, good, z),
+        ),
       )

@@ -1,16 +1,14 @@
 -- The needs of `params`.
-use Prim.Native.Nat.{ℕ, suc, _+_, _-_, _*_, _^_, _≤_, _<_}
+use Prim.Native.Nat.{ℕ}
 use native.Mathlib.Omega.{arith}
 use borrow.Author.Needs.{needs}
-use borrow.Author.Tests.{not-true, not-false}
-use mathlib.Core.Path.{_≡_, refl, sym, _∙_, ap, subst}
-use mathlib.Core.List.{List, [], _∷_, _++_}
-use lib.ListN.{length}
-use Rattle.readers.specs.ParamsLaws.{freed-low, freed-high, bit-low, built-moved, params-refused, this-none, params-plain, params-this-refused, params-this-stops, params-this}
+use mathlib.Core.Path.{ap}
 use Rattle.parts.specs.ParameterListLaws.{opens-refused, opens-plain}
 use Rattle.keys.specs.Placed.{absent}
 use Rattle.parts.specs.declared.function.This.{This}
-use Rattle.readers.specs.Fields.{same-mark, same-kids, same-answer, same-listed, same-params}
+use Rattle.readers.specs.Fields.{same-params}
+use Rattle.readers.specs.MovedLaws.{built-moved}
+use Rattle.readers.specs.ParamsLaws.{freed-low, freed-high, bit-low, params-refused, this-none, params-plain, params-this-refused, params-this-stops, params-this}
 use Rattle.parts.proofs.function.Params.refused.Reads as function-Params-refused-reads
 use Rattle.parts.proofs.function.This.none.Reads as function-This-none-reads
 use Rattle.parts.proofs.function.freed.Reads as freed-reads
@@ -30,13 +28,11 @@ R t = (params-head-reads.Asked, params-head-reads.Learnt, function-Params-refuse
 module _ (t : ℕ) where
   pub params-head-requires : lts.Need-params-head-requires (R t) (params-at t) params.Post
   params-head-requires c κs =
-      let good = c .before .before .before .before .good in
       let pre = c .before .before .before .before .pre in
-      (pre .1 .1, omega (arith, pre, good))
+      (pre .1 .1, omega arith)
 
   pub refused-requires : lts.Need-refused-requires (R t) (params-at t) params.Post
-  refused-requires c κs =
-      search needs
+  refused-requires c κs = search needs
 
   pub returns : lts.Need-returns (R t) (params-at t) params.Post
   returns c =
@@ -44,43 +40,32 @@ module _ (t : ℕ) where
       let pre = c .before .before .before .before .before .before .before .before .pre in
       let params-head = c .before .before .before .params-head in
       let if1 = c .before .if1 in
-      let refused = c .refused in
-      (λ text B r s b. params-refused (refused .ensures) (if1 .taken) (opens-refused _ _ _ _ _ (params-head .ensures .0) (if1 .taken)), (omega (arith, same-params (refused .ensures), if1, params-head .ensures .1, pre, good), λ z. omega (arith, same-params (refused .ensures), if1, params-head .ensures .1, pre, good, z)))
+      let refused = c .refused in (
+        λ text B r s b. params-refused (refused .ensures) (if1 .taken) (opens-refused _ _ _ _ _ (params-head .ensures .0) (if1 .taken)),
+        (omega (arith, same-params (refused .ensures), pre, good), λ z. omega (arith, same-params (refused .ensures))),
+      )
 
   pub none-requires : lts.Need-none-requires (R t) (params-at t) params.Post
-  none-requires c κs =
-      search needs
+  none-requires c κs = search needs
 
   pub param-list-requires : lts.Need-param-list-requires (R t) (params-at t) params.Post
   param-list-requires c κs =
-      let good = c .before .before .before .before .before .before .before .before .before .before .before .before .before .good in
       let pre = c .before .before .before .before .before .before .before .before .before .before .before .before .before .pre in
-      let params-head = c .before .before .before .before .before .before .before .before .params-head in
-      let if1 = c .before .before .before .before .before .before .if1 in
-      let if2 = c .before .before .before .before .if2 in
       let none = c .before .before .before .none in
-      (omega (arith, ap (λ (x : This). x .bits) (none .ensures), if2, if1, params-head .ensures .1, pre, good), (pre .1 .0, pre .1 .1, omega (arith, ap (λ (x : This). x .bits) (none .ensures), if2, if1, params-head .ensures .1, pre, good), omega (arith, ap (λ (x : This). x .bits) (none .ensures), if2, if1, params-head .ensures .1, pre, good), omega (arith, ap (λ (x : This). x .bits) (none .ensures), if2, if1, params-head .ensures .1, pre, good), omega (arith, ap (λ (x : This). x .bits) (none .ensures), if2, if1, params-head .ensures .1, pre, good)))
+      (omega arith, (pre .1 .0, pre .1 .1, omega arith, omega arith, omega arith, omega (arith, ap (λ (x : This). x .bits) (none .ensures))))
 
   pub same-length : lts.Need-same-length (R t) (params-at t) params.Post
-  same-length c =
-      let param-list = c .before .before .before .before .before .before .param-list in
-      omega (arith, param-list .kept)
+  same-length c = omega arith
 
   pub same-length-2 : lts.Need-same-length-2 (R t) (params-at t) params.Post
-  same-length-2 c =
-      let param-list = c .before .before .before .before .before .before .param-list in
-      omega (arith, param-list .kept)
+  same-length-2 c = omega arith
 
   pub same-length-3 : lts.Need-same-length-3 (R t) (params-at t) params.Post
-  same-length-3 c =
-      let param-list = c .before .before .before .before .before .before .param-list in
-      omega (arith, param-list .kept)
+  same-length-3 c = omega arith
 
   pub returns-2 : lts.Need-returns-2 (R t) (params-at t) params.Post
   returns-2 c =
       let args = c .before .before .before .before .before .before .before .before .before .before .before .before .before .before .before .before .before .before .before .before .args in
-      let good = c .before .before .before .before .before .before .before .before .before .before .before .before .before .before .before .before .before .before .before .before .good in
-      let pre = c .before .before .before .before .before .before .before .before .before .before .before .before .before .before .before .before .before .before .before .before .pre in
       let params-head = c .before .before .before .before .before .before .before .before .before .before .before .before .before .before .before .params-head in
       let if1 = c .before .before .before .before .before .before .before .before .before .before .before .before .before .if1 in
       let if2 = c .before .before .before .before .before .before .before .before .before .before .before .if2 in
@@ -89,48 +74,39 @@ module _ (t : ℕ) where
         λ text B r s b.
             params-plain (args .is-new) (opens-plain _ _ _ _ _ (params-head .ensures .0) (if1 .left) (if2 .taken))
             (param-list .ensures .0 text B r absent s (built-moved (params-head .ensures .1 .0) b) (this-none (none .ensures))),
-        (omega (arith, param-list .ensures .1 .0, param-list .kept, ap (λ (x : This). x .bits) (none .ensures), if2, if1, params-head .ensures .1, pre, good), λ z. omega (arith, param-list .ensures .1 .0, param-list .kept, ap (λ (x : This). x .bits) (none .ensures), if2, if1, params-head .ensures .1, pre, good, z, param-list .ensures .1 .1 z)),
+        (omega arith, λ z. omega (arith, param-list .ensures .1 .1 z)),
       )
 
   pub opt-requires : lts.Need-opt-requires (R t) (params-at t) params.Post
   opt-requires c κs =
-      let good = c .before .before .before .before .before .before .before .before .before .before .before .before .good in
       let pre = c .before .before .before .before .before .before .before .before .before .before .before .before .pre in
-      let params-head = c .before .before .before .before .before .before .before .params-head in
-      let if1 = c .before .before .before .before .before .if1 in
-      let if2 = c .before .before .before .if2 in
-      (omega (arith, if2, if1, params-head .ensures .1, pre, good), (pre .1 .0, pre .1 .1, omega (arith, if2, if1, params-head .ensures .1, pre, good), omega (arith, if2, if1, params-head .ensures .1, pre, good), omega (arith, if2, if1, params-head .ensures .1, pre, good)))
+      (omega arith, (pre .1 .0, pre .1 .1, omega arith, omega arith, omega arith))
 
   pub refused-requires-2 : lts.Need-refused-requires-2 (R t) (params-at t) params.Post
-  refused-requires-2 c κs =
-      search needs
+  refused-requires-2 c κs = search needs
 
   pub same-length-4 : lts.Need-same-length-4 (R t) (params-at t) params.Post
-  same-length-4 c =
-      let opt = c .before .before .before .before .before .before .before .before .before .opt in
-      omega (arith, opt .kept)
+  same-length-4 c = omega arith
 
   pub same-length-5 : lts.Need-same-length-5 (R t) (params-at t) params.Post
-  same-length-5 c =
-      let opt = c .before .before .before .before .before .before .before .before .before .opt in
-      omega (arith, opt .kept)
+  same-length-5 c = omega arith
 
   pub same-length-6 : lts.Need-same-length-6 (R t) (params-at t) params.Post
-  same-length-6 c =
-      let opt = c .before .before .before .before .before .before .before .before .before .opt in
-      omega (arith, opt .kept)
+  same-length-6 c = omega arith
 
   pub returns-3 : lts.Need-returns-3 (R t) (params-at t) params.Post
   returns-3 c =
-      let good = c .before .before .before .before .before .before .before .before .before .before .before .before .before .before .before .before .before .before .before .before .before .before .good in
-      let pre = c .before .before .before .before .before .before .before .before .before .before .before .before .before .before .before .before .before .before .before .before .before .before .pre in
       let params-head = c .before .before .before .before .before .before .before .before .before .before .before .before .before .before .before .before .before .params-head in
       let if1 = c .before .before .before .before .before .before .before .before .before .before .before .before .before .before .before .if1 in
       let if2 = c .before .before .before .before .before .before .before .before .before .before .before .before .before .if2 in
       let opt = c .before .before .before .before .before .before .before .before .before .opt in
       let if3 = c .before .if3 in
-      let refused2 = c .refused2 in
-      (λ text B r s b. params-refused (refused2 .ensures) (if3 .taken) (params-this-refused _ _ _ _ _ _ (params-head .ensures .0) (if1 .left) (if2 .left) (opt .ensures .0 text s) (if3 .taken)), (omega (arith, same-params (refused2 .ensures), if3, opt .ensures .1 .0, opt .kept, if2, if1, params-head .ensures .1, pre, good), λ z. omega (arith, same-params (refused2 .ensures), if3, opt .ensures .1 .0, opt .kept, if2, if1, params-head .ensures .1, pre, good, z)))
+      let refused2 = c .refused2 in (
+        λ text B r s b.
+            params-refused (refused2 .ensures) (if3 .taken)
+            (params-this-refused _ _ _ _ _ _ (params-head .ensures .0) (if1 .left) (if2 .left) (opt .ensures .0 text s) (if3 .taken)),
+        (omega (arith, same-params (refused2 .ensures)), λ z. omega (arith, same-params (refused2 .ensures))),
+      )
 
   pub this-kids-requires : lts.Need-this-kids-requires (R t) (params-at t) params.Post
   this-kids-requires c κs =
@@ -141,46 +117,35 @@ module _ (t : ℕ) where
       let if2 = c .before .before .before .before .before .before .before .before .before .before .before .before .before .if2 in
       let opt = c .before .before .before .before .before .before .before .before .before .opt in
       let if3 = c .before .if3 in
-      omega (arith, if3, opt .ensures .1 .0, opt .kept, opt .ensures .1 .1 (if3 .left), if2, if1, params-head .ensures .1, pre, good)
+      omega (arith, opt .ensures .1 .1 (if3 .left), if2, if1, params-head .ensures .1, pre, good)
 
   pub freed-requires : lts.Need-freed-requires (R t) (params-at t) params.Post
-  freed-requires c κs =
-      search needs
+  freed-requires c κs = search needs
 
   pub separated-requires : lts.Need-separated-requires (R t) (params-at t) params.Post
   separated-requires c κs =
-      let good = c .before .before .before .before .before .before .before .before .before .before .before .before .before .before .before .before .before .before .before .before .before .before .before .before .before .before .good in
       let pre = c .before .before .before .before .before .before .before .before .before .before .before .before .before .before .before .before .before .before .before .before .before .before .before .before .before .before .pre in
-      let params-head = c .before .before .before .before .before .before .before .before .before .before .before .before .before .before .before .before .before .before .before .before .before .params-head in
-      let if1 = c .before .before .before .before .before .before .before .before .before .before .before .before .before .before .before .before .before .before .before .if1 in
-      let if2 = c .before .before .before .before .before .before .before .before .before .before .before .before .before .before .before .before .before .if2 in
       let opt = c .before .before .before .before .before .before .before .before .before .before .before .before .before .opt in
       let if3 = c .before .before .before .before .before .if3 in
-      let this-kids = c .before .before .before .this-kids in
-      let freed = c .freed in
-      (pre .1 .1, omega (arith, freed .ensures .1, this-kids .ensures .1, this-kids .kept, if3, opt .ensures .1 .0, opt .kept, opt .ensures .1 .1 (if3 .left), if2, if1, params-head .ensures .1, pre, good))
+      (pre .1 .1, omega (arith, opt .ensures .1 .1 (if3 .left)))
 
   pub refused-requires-3 : lts.Need-refused-requires-3 (R t) (params-at t) params.Post
-  refused-requires-3 c κs =
-      search needs
+  refused-requires-3 c κs = search needs
 
   pub same-length-7 : lts.Need-same-length-7 (R t) (params-at t) params.Post
   same-length-7 c =
       let opt = c .before .before .before .before .before .before .before .before .before .before .before .before .before .before .before .before .before .opt in
-      let this-kids = c .before .before .before .before .before .before .before .this-kids in
-      omega (arith, this-kids .kept, opt .kept)
+      omega (arith, opt .kept)
 
   pub same-length-8 : lts.Need-same-length-8 (R t) (params-at t) params.Post
   same-length-8 c =
       let opt = c .before .before .before .before .before .before .before .before .before .before .before .before .before .before .before .before .before .opt in
-      let this-kids = c .before .before .before .before .before .before .before .this-kids in
-      omega (arith, this-kids .kept, opt .kept)
+      omega (arith, opt .kept)
 
   pub same-length-9 : lts.Need-same-length-9 (R t) (params-at t) params.Post
   same-length-9 c =
       let opt = c .before .before .before .before .before .before .before .before .before .before .before .before .before .before .before .before .before .opt in
-      let this-kids = c .before .before .before .before .before .before .before .this-kids in
-      omega (arith, this-kids .kept, opt .kept)
+      omega (arith, opt .kept)
 
   pub returns-4 : lts.Need-returns-4 (R t) (params-at t) params.Post
   returns-4 c =
@@ -203,23 +168,18 @@ module _ (t : ℕ) where
         λ text B r s b.
             params-refused (refused3 .ensures) (if4 .taken)
             (params-this-stops _ _ _ _ _ _ (params-head .ensures .0) (if1 .left) (if2 .left) (opt .ensures .0 text s) (if3 .left) (freed .ensures .0) (separated .ensures .0) (if4 .taken)),
-        (omega (arith, low, few, same-params (refused3 .ensures), if4, separated .ensures .1, freed .ensures .1, this-kids .ensures .1, this-kids .kept, if3, opt .ensures .1 .0, opt .kept, opt .ensures .1 .1 (if3 .left), if2, if1, params-head .ensures .1, pre, good), λ z. omega (arith, low, few, same-params (refused3 .ensures), if4, separated .ensures .1, freed .ensures .1, this-kids .ensures .1, this-kids .kept, if3, opt .ensures .1 .0, opt .kept, opt .ensures .1 .1 (if3 .left), if2, if1, params-head .ensures .1, pre, good, z)),
+        (
+          omega (arith, low, few, same-params (refused3 .ensures), if4, separated .ensures .1, freed .ensures .1, this-kids .ensures .1, this-kids .kept, if3, opt .ensures .1 .0, opt .kept, opt .ensures .1 .1 (if3 .left), if2, if1, params-head .ensures .1, pre, good),
+          λ z. omega (arith, low, few, same-params (refused3 .ensures), if4, separated .ensures .1, freed .ensures .1, this-kids .ensures .1, this-kids .kept, if3, opt .ensures .1 .0, opt .kept, opt .ensures .1 .1 (if3 .left), if2, if1, params-head .ensures .1, pre, good, z),
+        ),
       )
 
   pub this-of-requires : lts.Need-this-of-requires (R t) (params-at t) params.Post
   this-of-requires c κs =
-      let good = c .before .before .before .before .before .before .before .before .before .before .before .before .before .before .before .before .before .before .before .before .before .before .before .before .before .before .before .before .before .good in
       let pre = c .before .before .before .before .before .before .before .before .before .before .before .before .before .before .before .before .before .before .before .before .before .before .before .before .before .before .before .before .before .pre in
-      let params-head = c .before .before .before .before .before .before .before .before .before .before .before .before .before .before .before .before .before .before .before .before .before .before .before .before .params-head in
-      let if1 = c .before .before .before .before .before .before .before .before .before .before .before .before .before .before .before .before .before .before .before .before .before .before .if1 in
-      let if2 = c .before .before .before .before .before .before .before .before .before .before .before .before .before .before .before .before .before .before .before .before .if2 in
       let opt = c .before .before .before .before .before .before .before .before .before .before .before .before .before .before .before .before .opt in
       let if3 = c .before .before .before .before .before .before .before .before .if3 in
-      let this-kids = c .before .before .before .before .before .before .this-kids in
-      let freed = c .before .before .before .freed in
-      let separated = c .before .before .separated in
-      let if4 = c .if4 in
-      (pre .1 .1, omega (arith, if4, separated .ensures .1, freed .ensures .1, this-kids .ensures .1, this-kids .kept, if3, opt .ensures .1 .0, opt .kept, opt .ensures .1 .1 (if3 .left), if2, if1, params-head .ensures .1, pre, good), omega (arith, if4, separated .ensures .1, freed .ensures .1, this-kids .ensures .1, this-kids .kept, if3, opt .ensures .1 .0, opt .kept, opt .ensures .1 .1 (if3 .left), if2, if1, params-head .ensures .1, pre, good))
+      (pre .1 .1, omega arith, omega (arith, opt .ensures .1 .1 (if3 .left)))
 
   pub param-list-requires-2 : lts.Need-param-list-requires-2 (R t) (params-at t) params.Post
   param-list-requires-2 c κs =
@@ -241,29 +201,33 @@ module _ (t : ℕ) where
       (omega (arith, opt .ensures .1 .0, opt .ensures .1 .1 (if3 .left), params-head .ensures .1, pre)) (omega (arith, opt .ensures .1 .0)) in
       let high = freed-high (args .is-new) (args .m .used) (opt .result .m .used) (args .m .used) (omega arith)
       (omega (arith, opt .ensures .1 .1 (if3 .left), params-head .ensures .1)) in
-      let bit = bit-low (opt .result .high) in
-      (omega (arith, low, few, high, bit, this-of .ensures .0, if4, separated .ensures .1, freed .ensures .1, this-kids .ensures .1, this-kids .kept, if3, opt .ensures .1 .0, opt .kept, opt .ensures .1 .1 (if3 .left), if2, if1, params-head .ensures .1, pre, good), (pre .1 .0, pre .1 .1, omega (arith, low, few, high, bit, this-of .ensures .0, if4, separated .ensures .1, freed .ensures .1, this-kids .ensures .1, this-kids .kept, if3, opt .ensures .1 .0, opt .kept, opt .ensures .1 .1 (if3 .left), if2, if1, params-head .ensures .1, pre, good), omega (arith, low, few, high, bit, this-of .ensures .0, if4, separated .ensures .1, freed .ensures .1, this-kids .ensures .1, this-kids .kept, if3, opt .ensures .1 .0, opt .kept, opt .ensures .1 .1 (if3 .left), if2, if1, params-head .ensures .1, pre, good), omega (arith, low, few, high, bit, this-of .ensures .0, if4, separated .ensures .1, freed .ensures .1, this-kids .ensures .1, this-kids .kept, if3, opt .ensures .1 .0, opt .kept, opt .ensures .1 .1 (if3 .left), if2, if1, params-head .ensures .1, pre, good), omega (arith, low, few, high, bit, this-of .ensures .0, if4, separated .ensures .1, freed .ensures .1, this-kids .ensures .1, this-kids .kept, if3, opt .ensures .1 .0, opt .kept, opt .ensures .1 .1 (if3 .left), if2, if1, params-head .ensures .1, pre, good)))
+      let bit = bit-low (opt .result .high) in (
+        omega (arith, low, few, high, bit, this-of .ensures .0, if4, separated .ensures .1, freed .ensures .1, this-kids .ensures .1, this-kids .kept, if3, opt .ensures .1 .0, opt .kept, opt .ensures .1 .1 (if3 .left), if2, if1, params-head .ensures .1, pre, good),
+        (
+          pre .1 .0,
+          pre .1 .1,
+          omega (arith, low, few, high, bit, this-of .ensures .0, if4, separated .ensures .1, freed .ensures .1, this-kids .ensures .1, this-kids .kept, if3, opt .ensures .1 .0, opt .kept, opt .ensures .1 .1 (if3 .left), if2, if1, params-head .ensures .1, pre, good),
+          omega (arith, low, few, high, bit, this-of .ensures .0, if4, separated .ensures .1, freed .ensures .1, this-kids .ensures .1, this-kids .kept, if3, opt .ensures .1 .0, opt .kept, opt .ensures .1 .1 (if3 .left), if2, if1, params-head .ensures .1, pre, good),
+          omega (arith, low, few, high, bit, this-of .ensures .0, if4, separated .ensures .1, freed .ensures .1, this-kids .ensures .1, this-kids .kept, if3, opt .ensures .1 .0, opt .kept, opt .ensures .1 .1 (if3 .left), if2, if1, params-head .ensures .1, pre, good),
+          omega (arith, low, few, high, bit, this-of .ensures .0, if4, separated .ensures .1, freed .ensures .1, this-kids .ensures .1, this-kids .kept, if3, opt .ensures .1 .0, opt .kept, opt .ensures .1 .1 (if3 .left), if2, if1, params-head .ensures .1, pre, good),
+        ),
+      )
 
   pub same-length-10 : lts.Need-same-length-10 (R t) (params-at t) params.Post
   same-length-10 c =
       let opt = c .before .before .before .before .before .before .before .before .before .before .before .before .before .before .before .before .before .before .before .before .before .before .before .before .before .before .before .opt in
       let this-kids = c .before .before .before .before .before .before .before .before .before .before .before .before .before .before .before .before .before .this-kids in
-      let param-list2 = c .before .before .before .before .before .before .param-list2 in
-      omega (arith, param-list2 .kept, this-kids .kept, opt .kept)
+      omega (arith, this-kids .kept, opt .kept)
 
   pub same-length-11 : lts.Need-same-length-11 (R t) (params-at t) params.Post
   same-length-11 c =
       let opt = c .before .before .before .before .before .before .before .before .before .before .before .before .before .before .before .before .before .before .before .before .before .before .before .before .before .before .before .opt in
-      let this-kids = c .before .before .before .before .before .before .before .before .before .before .before .before .before .before .before .before .before .this-kids in
-      let param-list2 = c .before .before .before .before .before .before .param-list2 in
-      omega (arith, param-list2 .kept, this-kids .kept, opt .kept)
+      omega (arith, opt .kept)
 
   pub same-length-12 : lts.Need-same-length-12 (R t) (params-at t) params.Post
   same-length-12 c =
       let opt = c .before .before .before .before .before .before .before .before .before .before .before .before .before .before .before .before .before .before .before .before .before .before .before .before .before .before .before .opt in
-      let this-kids = c .before .before .before .before .before .before .before .before .before .before .before .before .before .before .before .before .before .this-kids in
-      let param-list2 = c .before .before .before .before .before .before .param-list2 in
-      omega (arith, param-list2 .kept, this-kids .kept, opt .kept)
+      omega (arith, opt .kept)
 
   pub returns-5 : lts.Need-returns-5 (R t) (params-at t) params.Post
   returns-5 c =
@@ -288,8 +252,12 @@ module _ (t : ℕ) where
       (omega (arith, opt .ensures .1 .1 (if3 .left), params-head .ensures .1)) in
       let bit = bit-low (opt .result .high) in (
         λ text B r s b.
-            params-this _ _ _ _ _ _ (params-head .ensures .0) (if1 .left) (if2 .left) (opt .ensures .0 text s) (if3 .left) (freed .ensures .0) (separated .ensures .0)
+            params-this _ _ _ _ _ _ (params-head .ensures .0) (if1 .left) (if2 .left) (opt .ensures .0 text s) (if3 .left) (freed .ensures .0)
+            (separated .ensures .0)
             (if4 .left) (separated .ensures .1) (this-kids .ensures .0) b (omega (arith, opt .kept)) (omega (arith, pre)) (this-of .ensures)
             (λ run th built i. param-list2 .ensures .0 text B run th s built i),
-        (omega (arith, low, few, high, bit, param-list2 .ensures .1 .0, param-list2 .kept, this-of .ensures .0, if4, separated .ensures .1, freed .ensures .1, this-kids .ensures .1, this-kids .kept, if3, opt .ensures .1 .0, opt .kept, opt .ensures .1 .1 (if3 .left), if2, if1, params-head .ensures .1, pre, good), λ z. omega (arith, low, few, high, bit, param-list2 .ensures .1 .0, param-list2 .kept, this-of .ensures .0, if4, separated .ensures .1, freed .ensures .1, this-kids .ensures .1, this-kids .kept, if3, opt .ensures .1 .0, opt .kept, opt .ensures .1 .1 (if3 .left), if2, if1, params-head .ensures .1, pre, good, z, param-list2 .ensures .1 .1 z)),
+        (
+          omega (arith, low, few, high, bit, param-list2 .ensures .1 .0, param-list2 .kept, this-of .ensures .0, if4, separated .ensures .1, freed .ensures .1, this-kids .ensures .1, this-kids .kept, if3, opt .ensures .1 .0, opt .kept, opt .ensures .1 .1 (if3 .left), if2, if1, params-head .ensures .1, pre, good),
+          λ z. omega (arith, low, few, high, bit, param-list2 .ensures .1 .0, param-list2 .kept, this-of .ensures .0, if4, separated .ensures .1, freed .ensures .1, this-kids .ensures .1, this-kids .kept, if3, opt .ensures .1 .0, opt .kept, opt .ensures .1 .1 (if3 .left), if2, if1, params-head .ensures .1, pre, good, z, param-list2 .ensures .1 .1 z),
+        ),
       )

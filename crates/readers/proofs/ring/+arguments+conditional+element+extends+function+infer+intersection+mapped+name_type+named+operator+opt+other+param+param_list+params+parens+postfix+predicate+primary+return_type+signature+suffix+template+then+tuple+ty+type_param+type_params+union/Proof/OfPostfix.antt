@@ -1,29 +1,18 @@
 -- The needs of `postfix`.
-use Prim.Native.Nat.{ℕ, suc, _+_, _-_, _*_, _^_, _≤_, _<_}
+use Prim.Native.Nat.{ℕ, _-_, _*_, _≤_}
 use native.Mathlib.Omega.{arith}
 use borrow.Author.Needs.{needs}
-use borrow.Author.Tests.{not-true, not-false}
-use mathlib.Core.Path.{_≡_, refl, sym, _∙_, ap, subst}
-use mathlib.Core.List.{List, [], _∷_, _++_}
+use mathlib.Core.Path.{_≡_, sym, _∙_}
+use mathlib.Core.List.{List, []}
 use lib.ListN.{length}
-use Rattle.parts.specs.declared.function.This.{This}
-use Rattle.readers.specs.Fields.{same-mark, same-kids, same-answer, same-listed, same-params}
 use Rattle.words.specs.Limits.{tallest}
-use Rattle.words.specs.Kind.{Pipe, Amp, LBrack, TemplateHead}
-use Rattle.words.specs.Cursor.{kindAt}
-use Rattle.keys.specs.Placed as node
-use Rattle.keys.specs.Placed.{Placed, Opt}
-use Rattle.keys.specs.Store.{Run}
-use Rattle.rules.specs.State.{spelling}
-use Rattle.rules.specs.Function.{ThisParameter}
-use Rattle.rules.specs.Union as unions
-use Rattle.rules.specs.Operator as operators
-use Rattle.parts.specs.Marks.{view, givenOf, Spelt, Fine, Under, placeOf}
-use Rattle.parts.specs.Laid.{runIn, nameRun, IsNode, Was, was, Laid, BuiltAt, Stands}
+use Rattle.keys.specs.Placed.{Placed}
+use Rattle.parts.specs.Marks.{view, givenOf, Spelt, placeOf}
+use Rattle.parts.specs.Laid.{Was, was, Stands}
 use Rattle.parts.specs.Ring.{below}
-use Rattle.readers.specs.Kept.{Kept}
-use Rattle.readers.specs.Loops.{TypesTurn, ArgumentsTurn, ParametersTurn, PartsTurn, SuffixTurn, TupleTurn, PiecesTurn}
 use Rattle.parts.specs.Answers.{says-stops}
+use Rattle.readers.specs.Kept.{Kept}
+use Rattle.readers.specs.Loops.{SuffixTurn}
 use Rattle.readers.specs.SuffixLaws.{suffixed-inside, postfix-is, marks-begin, marks-turn, marks-end, mark-refused, marks-again}
 use Rattle.parts.proofs.postfix.suffixed.Reads as suffixed-reads
 use Rattle.parts.proofs.state.Begin.at.Reads as at-reads
@@ -39,7 +28,8 @@ R t = (primary-below t, primary.Post, at-reads.Asked, at-reads.Learnt, suffixed-
 abbrev pub Inv-loop : lts.InvT-loop
 Inv-loop words classes nodes₀ names₀ notes₀ given p₀ high₀ b nodes names notes p high =
     Kept (length words) given nodes₀ names₀ notes₀ p₀ nodes names notes p × ((1 ≤ p .used) × (high ≤ tallest))
-    × ((text : List ℕ) (B : Was) (u : Placed) → Spelt text words → Stands 0 B u high₀ p₀ nodes₀ names₀ notes₀ → b .name ≡ B .named → SuffixTurn (givenOf text words given) (below given (givenOf text words given)) (b .first) u (view p₀ notes₀) B high p nodes names notes)
+    ×
+    ((text : List ℕ) (B : Was) (u : Placed) → Spelt text words → Stands 0 B u high₀ p₀ nodes₀ names₀ notes₀ → b .name ≡ B .named → SuffixTurn (givenOf text words given) (below given (givenOf text words given)) (b .first) u (view p₀ notes₀) B high p nodes names notes)
 
 abbrev pub μ-loop : lts.MeasureT-loop
 μ-loop words classes nodes₀ names₀ notes₀ given p₀ high₀ b nodes names notes p high =
@@ -48,57 +38,42 @@ abbrev pub μ-loop : lts.MeasureT-loop
 module _ (t : ℕ) where
   pub primary-requires : lts.Need-primary-requires (R t) (postfix-at t) postfix.Post Inv-loop μ-loop
   primary-requires c κs =
-      let good = c .before .before .before .before .before .before .before .good in
       let pre = c .before .before .before .before .before .before .before .pre in
-      (omega (arith, pre, good), (pre .1 .0, pre .1 .1, omega (arith, pre, good), omega (arith, pre, good)))
+      (omega arith, (pre .1 .0, pre .1 .1, omega arith, omega arith))
 
   pub same-length : lts.Need-same-length (R t) (postfix-at t) postfix.Post Inv-loop μ-loop
-  same-length c =
-      let primary = c .before .before .before .before .before .before .before .before .primary in
-      omega (arith, primary .kept)
+  same-length c = omega arith
 
   pub same-length-2 : lts.Need-same-length-2 (R t) (postfix-at t) postfix.Post Inv-loop μ-loop
-  same-length-2 c =
-      let primary = c .before .before .before .before .before .before .before .before .primary in
-      omega (arith, primary .kept)
+  same-length-2 c = omega arith
 
   pub same-length-3 : lts.Need-same-length-3 (R t) (postfix-at t) postfix.Post Inv-loop μ-loop
-  same-length-3 c =
-      let primary = c .before .before .before .before .before .before .before .before .primary in
-      omega (arith, primary .kept)
+  same-length-3 c = omega arith
 
   pub returns : lts.Need-returns (R t) (postfix-at t) postfix.Post Inv-loop μ-loop
   returns c =
       let args = c .before .before .before .before .before .before .before .before .before .before .before .before .before .before .before .before .args in
-      let good = c .before .before .before .before .before .before .before .before .before .before .before .before .before .before .before .before .good in
-      let pre = c .before .before .before .before .before .before .before .before .before .before .before .before .before .before .before .before .pre in
       let primary = c .before .before .before .before .before .before .before .before .primary in
       let if1 = c .if1 in (
         λ text s.
             let g = givenOf text (args .words .now) (args .given) in
             let T = below (args .given) g in
-            says-stops _ (primary .ensures .0 text s) (if1 .taken) (postfix-is text (args .words .now) (args .given) T (view (args .m) (args .notes .now))),
-        (omega (arith, if1, primary .ensures .1 .0, primary .kept, pre, good), λ z. omega (arith, if1, primary .ensures .1 .0, primary .kept, pre, good, z)),
+            says-stops _ (primary .ensures .0 text s) (if1 .taken)
+            (postfix-is text (args .words .now) (args .given) T (view (args .m) (args .notes .now))),
+        (omega arith, λ z. omega arith),
       )
 
   pub at-requires : lts.Need-at-requires (R t) (postfix-at t) postfix.Post Inv-loop μ-loop
-  at-requires c κs =
-      let good = c .before .before .before .before .before .before .before .before .before .before .before .before .before .before .before .before .before .good in
-      let pre = c .before .before .before .before .before .before .before .before .before .before .before .before .before .before .before .before .before .pre in
-      let primary = c .before .before .before .before .before .before .before .before .before .primary in
-      let if1 = c .before .if1 in
-      (pre .1 .1, omega (arith, if1, primary .ensures .1 .0, primary .kept, primary .ensures .1 .1 (if1 .left), pre, good))
+  at-requires c κs = search needs
 
   pub loop-holds : lts.Need-loop-holds (R t) (postfix-at t) postfix.Post Inv-loop μ-loop
   loop-holds c =
       let args = c .before .before .before .before .before .before .before .before .before .before .before .before .before .before .before .before .before .before .args in
-      let good = c .before .before .before .before .before .before .before .before .before .before .before .before .before .before .before .before .before .before .good in
-      let pre = c .before .before .before .before .before .before .before .before .before .before .before .before .before .before .before .before .before .before .pre in
       let primary = c .before .before .before .before .before .before .before .before .before .before .primary in
       let if1 = c .before .before .if1 in
       let at = c .at in (
-        omega (arith, at .ensures .0, at .ensures .1, if1, primary .ensures .1 .0, primary .kept, primary .ensures .1 .1 (if1 .left), pre, good),
-        omega (arith, at .ensures .0, at .ensures .1, if1, primary .ensures .1 .0, primary .kept, primary .ensures .1 .1 (if1 .left), pre, good),
+        omega arith,
+        omega (arith, primary .ensures .1 .1 (if1 .left)),
         λ text B u s h n.
             let g = givenOf text (args .words .now) (args .given) in
             let T = below (args .given) g in
@@ -107,55 +82,55 @@ module _ (t : ℕ) where
 
   pub suffixed-requires : lts.Need-suffixed-requires (R t) (postfix-at t) postfix.Post Inv-loop μ-loop
   suffixed-requires c κs =
-      let good = c .before .before .before .before .before .before .before .before .before .before .before .before .before .before .before .before .before .before .before .good in
       let pre = c .before .before .before .before .before .before .before .before .before .before .before .before .before .before .before .before .before .before .before .pre in
-      let primary = c .before .before .before .before .before .before .before .before .before .before .before .primary in
-      let if1 = c .before .before .before .if1 in
-      let at = c .before .at in
-      let loop = c .loop in
-      (pre .1 .0, omega (arith, loop .inv .0, loop .inv .1, at .ensures .0, at .ensures .1, if1, primary .ensures .1 .0, primary .kept, primary .ensures .1 .1 (if1 .left), pre, good))
+      (pre .1 .0, omega arith)
 
   pub suffix-requires : lts.Need-suffix-requires (R t) (postfix-at t) postfix.Post Inv-loop μ-loop
   suffix-requires c κs =
       let args = c .before .before .before .before .before .before .before .before .before .before .before .before .before .before .before .before .before .before .before .before .before .before .before .before .args in
       let suffixed = c .before .before .before .before .suffixed in
       let if2 = c .before .before .before .if2 in
-      let good = c .before .before .before .before .before .before .before .before .before .before .before .before .before .before .before .before .before .before .before .before .before .before .before .before .good in
       let pre = c .before .before .before .before .before .before .before .before .before .before .before .before .before .before .before .before .before .before .before .before .before .before .before .before .pre in
       let primary = c .before .before .before .before .before .before .before .before .before .before .before .before .before .before .before .before .primary in
       let if1 = c .before .before .before .before .before .before .before .before .if1 in
-      let at = c .before .before .before .before .before .before .at in
-      let loop = c .before .before .before .before .before .loop in
-      (omega (arith, loop .inv .0, loop .inv .1, at .ensures .0, at .ensures .1, if1, primary .ensures .1 .0, primary .kept, primary .ensures .1 .1 (if1 .left), pre, good), (pre .1 .0, pre .1 .1, omega (arith, loop .inv .0, loop .inv .1, at .ensures .0, at .ensures .1, if1, primary .ensures .1 .0, primary .kept, primary .ensures .1 .1 (if1 .left), pre, good), omega (arith, loop .inv .0, loop .inv .1, at .ensures .0, at .ensures .1, if1, primary .ensures .1 .0, primary .kept, primary .ensures .1 .1 (if1 .left), pre, good), suffixed-inside (givenOf [] (args .words .now) (args .given)) (view (loop .p) []) (sym (suffixed .ensures [] [] (args .given)) ∙ if2 .taken), omega (arith, loop .inv .0, loop .inv .1, at .ensures .0, at .ensures .1, if1, primary .ensures .1 .0, primary .kept, primary .ensures .1 .1 (if1 .left), pre, good), omega (arith, loop .inv .0, loop .inv .1, at .ensures .0, at .ensures .1, if1, primary .ensures .1 .0, primary .kept, primary .ensures .1 .1 (if1 .left), pre, good), omega (arith, loop .inv .0, loop .inv .1, at .ensures .0, at .ensures .1, if1, primary .ensures .1 .0, primary .kept, primary .ensures .1 .1 (if1 .left), pre, good), omega (arith, loop .inv .0, loop .inv .1, at .ensures .0, at .ensures .1, if1, primary .ensures .1 .0, primary .kept, primary .ensures .1 .1 (if1 .left), pre, good)))
+      let loop = c .before .before .before .before .before .loop in (
+        omega (arith, primary .ensures .1 .1 (if1 .left)),
+        (
+          pre .1 .0,
+          pre .1 .1,
+          omega arith,
+          omega arith,
+          suffixed-inside (givenOf [] (args .words .now) (args .given)) (view (loop .p) []) (sym (suffixed .ensures [] [] (args .given)) ∙ if2 .taken),
+          omega arith,
+          omega arith,
+          omega arith,
+          omega arith,
+        ),
+      )
 
   pub same-length-4 : lts.Need-same-length-4 (R t) (postfix-at t) postfix.Post Inv-loop μ-loop
   same-length-4 c =
       let primary = c .before .before .before .before .before .before .before .before .before .before .before .before .before .before .before .before .before .before .before .before .before .before .before .before .before .primary in
       let loop = c .before .before .before .before .before .before .before .before .before .before .before .before .before .before .loop in
-      let suffix = c .before .before .before .before .before .before .before .before .suffix in
-      omega (arith, suffix .kept, loop .inv .0, primary .kept)
+      omega (arith, loop .inv .0, primary .kept)
 
   pub same-length-5 : lts.Need-same-length-5 (R t) (postfix-at t) postfix.Post Inv-loop μ-loop
   same-length-5 c =
       let primary = c .before .before .before .before .before .before .before .before .before .before .before .before .before .before .before .before .before .before .before .before .before .before .before .before .before .primary in
       let loop = c .before .before .before .before .before .before .before .before .before .before .before .before .before .before .loop in
-      let suffix = c .before .before .before .before .before .before .before .before .suffix in
-      omega (arith, suffix .kept, loop .inv .0, primary .kept)
+      omega (arith, loop .inv .0, primary .kept)
 
   pub same-length-6 : lts.Need-same-length-6 (R t) (postfix-at t) postfix.Post Inv-loop μ-loop
   same-length-6 c =
       let primary = c .before .before .before .before .before .before .before .before .before .before .before .before .before .before .before .before .before .before .before .before .before .before .before .before .before .primary in
       let loop = c .before .before .before .before .before .before .before .before .before .before .before .before .before .before .loop in
-      let suffix = c .before .before .before .before .before .before .before .before .suffix in
-      omega (arith, suffix .kept, loop .inv .0, primary .kept)
+      omega (arith, loop .inv .0, primary .kept)
 
   pub returns-2 : lts.Need-returns-2 (R t) (postfix-at t) postfix.Post Inv-loop μ-loop
   returns-2 c =
       let args = c .before .before .before .before .before .before .before .before .before .before .before .before .before .before .before .before .before .before .before .before .before .before .before .before .before .before .before .before .before .before .before .before .before .args in
       let suffixed = c .before .before .before .before .before .before .before .before .before .before .before .before .before .suffixed in
       let if2 = c .before .before .before .before .before .before .before .before .before .before .before .before .if2 in
-      let good = c .before .before .before .before .before .before .before .before .before .before .before .before .before .before .before .before .before .before .before .before .before .before .before .before .before .before .before .before .before .before .before .before .before .good in
-      let pre = c .before .before .before .before .before .before .before .before .before .before .before .before .before .before .before .before .before .before .before .before .before .before .before .before .before .before .before .before .before .before .before .before .before .pre in
       let primary = c .before .before .before .before .before .before .before .before .before .before .before .before .before .before .before .before .before .before .before .before .before .before .before .before .before .primary in
       let if1 = c .before .before .before .before .before .before .before .before .before .before .before .before .before .before .before .before .before .if1 in
       let at = c .before .before .before .before .before .before .before .before .before .before .before .before .before .before .before .at in
@@ -167,71 +142,57 @@ module _ (t : ℕ) where
             let T = below (args .given) g in
             let w = marks-turn text (args .words .now) (args .given) T (args .m) (args .nodes .now) (args .names .now) (args .notes .now) {b = at .result} (primary .ensures .0 text s) (if1 .left) (at .ensures .0 .0) (at .ensures .0 .1)
             (λ B u h n. loop .inv .2 text B u s h n) in
-            mark-refused text (args .words .now) (args .given) T (at .result .first) w (sym (suffixed .ensures text (loop .notes) (args .given)) ∙ if2 .taken)
-            (suffix .ensures .0 text (was (args .m) (args .nodes .now) (args .names .now) (args .notes .now)) (w .tree) s (w .stands) (at .ensures .0 .1)) (if3 .taken),
-        (omega (arith, if3, suffix .ensures .1 .0, suffix .kept, loop .inv .0, loop .inv .1, at .ensures .0, at .ensures .1, if1, primary .ensures .1 .0, primary .kept, primary .ensures .1 .1 (if1 .left), pre, good), λ z. omega (arith, if3, suffix .ensures .1 .0, suffix .kept, loop .inv .0, loop .inv .1, at .ensures .0, at .ensures .1, if1, primary .ensures .1 .0, primary .kept, primary .ensures .1 .1 (if1 .left), pre, good, z)),
+            mark-refused text (args .words .now) (args .given) T (at .result .first) w
+            (sym (suffixed .ensures text (loop .notes) (args .given)) ∙ if2 .taken)
+            (suffix .ensures .0 text (was (args .m) (args .nodes .now) (args .names .now) (args .notes .now)) (w .tree) s (w .stands) (at .ensures .0 .1))
+            (if3 .taken),
+        (omega arith, λ z. omega arith),
       )
 
   pub loop-less : lts.Need-loop-less (R t) (postfix-at t) postfix.Post Inv-loop μ-loop
   loop-less c =
-      let good = c .before .before .before .before .before .before .before .before .before .before .before .before .before .before .before .before .before .before .before .before .before .before .before .before .before .before .before .before .before .before .before .before .before .before .good in
-      let pre = c .before .before .before .before .before .before .before .before .before .before .before .before .before .before .before .before .before .before .before .before .before .before .before .before .before .before .before .before .before .before .before .before .before .before .pre in
       let primary = c .before .before .before .before .before .before .before .before .before .before .before .before .before .before .before .before .before .before .before .before .before .before .before .before .before .before .primary in
       let if1 = c .before .before .before .before .before .before .before .before .before .before .before .before .before .before .before .before .before .before .if1 in
       let at = c .before .before .before .before .before .before .before .before .before .before .before .before .before .before .before .before .at in
       let loop = c .before .before .before .before .before .before .before .before .before .before .before .before .before .before .before .loop in
       let suffix = c .before .before .before .before .before .before .before .before .before .suffix in
       let if3 = c .before .if3 in
-      omega (arith, if3, suffix .ensures .1 .0, suffix .kept, suffix .ensures .1 .1 (if3 .left), loop .inv .0, loop .inv .1, at .ensures .0, at .ensures .1, if1, primary .ensures .1 .0, primary .kept, primary .ensures .1 .1 (if1 .left), pre, good)
+      omega (arith, suffix .ensures .1 .1 (if3 .left), loop .inv .0, loop .inv .1, at .ensures .0, at .ensures .1, primary .ensures .1 .0, primary .ensures .1 .1 (if1 .left))
 
   pub loop-again : lts.Need-loop-again (R t) (postfix-at t) postfix.Post Inv-loop μ-loop
   loop-again c =
       let args = c .before .before .before .before .before .before .before .before .before .before .before .before .before .before .before .before .before .before .before .before .before .before .before .before .before .before .before .before .before .before .before .before .before .before .args in
       let suffixed = c .before .before .before .before .before .before .before .before .before .before .before .before .before .before .suffixed in
       let if2 = c .before .before .before .before .before .before .before .before .before .before .before .before .before .if2 in
-      let good = c .before .before .before .before .before .before .before .before .before .before .before .before .before .before .before .before .before .before .before .before .before .before .before .before .before .before .before .before .before .before .before .before .before .before .good in
-      let pre = c .before .before .before .before .before .before .before .before .before .before .before .before .before .before .before .before .before .before .before .before .before .before .before .before .before .before .before .before .before .before .before .before .before .before .pre in
-      let primary = c .before .before .before .before .before .before .before .before .before .before .before .before .before .before .before .before .before .before .before .before .before .before .before .before .before .before .primary in
-      let if1 = c .before .before .before .before .before .before .before .before .before .before .before .before .before .before .before .before .before .before .if1 in
       let at = c .before .before .before .before .before .before .before .before .before .before .before .before .before .before .before .before .at in
       let loop = c .before .before .before .before .before .before .before .before .before .before .before .before .before .before .before .loop in
       let suffix = c .before .before .before .before .before .before .before .before .before .suffix in
       let if3 = c .before .if3 in (
-        omega (arith, if3, suffix .ensures .1 .0, suffix .kept, suffix .ensures .1 .1 (if3 .left), loop .inv .0, loop .inv .1, at .ensures .0, at .ensures .1, if1, primary .ensures .1 .0, primary .kept, primary .ensures .1 .1 (if1 .left), pre, good),
-        omega (arith, if3, suffix .ensures .1 .0, suffix .kept, suffix .ensures .1 .1 (if3 .left), loop .inv .0, loop .inv .1, at .ensures .0, at .ensures .1, if1, primary .ensures .1 .0, primary .kept, primary .ensures .1 .1 (if1 .left), pre, good),
+        omega (arith, suffix .ensures .1 .1 (if3 .left)),
+        omega (arith, suffix .ensures .1 .1 (if3 .left)),
         λ text B u s h n.
             let g = givenOf text (args .words .now) (args .given) in
             let T = below (args .given) g in
             let w = loop .inv .2 text B u s h n in
-            marks-again text (args .words .now) (args .given) T (at .result .first) w (sym (suffixed .ensures text (loop .notes) (args .given)) ∙ if2 .taken)
-            (suffix .ensures .0 text B (w .tree) s (w .stands) n) (if3 .left) (omega (arith, suffix .ensures .1 .0, suffix .ensures .1 .1 (if3 .left))),
+            marks-again text (args .words .now) (args .given) T (at .result .first) w
+            (sym (suffixed .ensures text (loop .notes) (args .given)) ∙ if2 .taken)
+            (suffix .ensures .0 text B (w .tree) s (w .stands) n) (if3 .left) (omega (arith, suffix .ensures .1 .1 (if3 .left))),
       )
 
   pub same-length-7 : lts.Need-same-length-7 (R t) (postfix-at t) postfix.Post Inv-loop μ-loop
-  same-length-7 c =
-      let primary = c .before .before .before .before .before .before .before .before .before .before .before .before .before .primary in
-      let loop = c .before .before .loop in
-      omega (arith, loop .inv .0, primary .kept)
+  same-length-7 c = omega arith
 
   pub same-length-8 : lts.Need-same-length-8 (R t) (postfix-at t) postfix.Post Inv-loop μ-loop
-  same-length-8 c =
-      let primary = c .before .before .before .before .before .before .before .before .before .before .before .before .before .primary in
-      let loop = c .before .before .loop in
-      omega (arith, loop .inv .0, primary .kept)
+  same-length-8 c = omega arith
 
   pub same-length-9 : lts.Need-same-length-9 (R t) (postfix-at t) postfix.Post Inv-loop μ-loop
-  same-length-9 c =
-      let primary = c .before .before .before .before .before .before .before .before .before .before .before .before .before .primary in
-      let loop = c .before .before .loop in
-      omega (arith, loop .inv .0, primary .kept)
+  same-length-9 c = omega arith
 
   pub returns-3 : lts.Need-returns-3 (R t) (postfix-at t) postfix.Post Inv-loop μ-loop
   returns-3 c =
       let args = c .before .before .before .before .before .before .before .before .before .before .before .before .before .before .before .before .before .before .before .before .before .args in
       let suffixed = c .before .suffixed in
       let if2 = c .if2 in
-      let good = c .before .before .before .before .before .before .before .before .before .before .before .before .before .before .before .before .before .before .before .before .before .good in
-      let pre = c .before .before .before .before .before .before .before .before .before .before .before .before .before .before .before .before .before .before .before .before .before .pre in
       let primary = c .before .before .before .before .before .before .before .before .before .before .before .before .before .primary in
       let if1 = c .before .before .before .before .before .if1 in
       let at = c .before .before .before .at in
@@ -241,6 +202,7 @@ module _ (t : ℕ) where
             let T = below (args .given) g in
             let w = marks-turn text (args .words .now) (args .given) T (args .m) (args .nodes .now) (args .names .now) (args .notes .now) {b = at .result} (primary .ensures .0 text s) (if1 .left) (at .ensures .0 .0) (at .ensures .0 .1)
             (λ B u h n. loop .inv .2 text B u s h n) in
-            marks-end text (args .words .now) (args .given) T (at .result .first) w (sym (suffixed .ensures text (loop .notes) (args .given)) ∙ if2 .left),
-        (omega (arith, loop .inv .0, loop .inv .1, at .ensures .0, at .ensures .1, if1, primary .ensures .1 .0, primary .kept, primary .ensures .1 .1 (if1 .left), pre, good), λ z. omega (arith, loop .inv .0, loop .inv .1, at .ensures .0, at .ensures .1, if1, primary .ensures .1 .0, primary .kept, primary .ensures .1 .1 (if1 .left), pre, good, z)),
+            marks-end text (args .words .now) (args .given) T (at .result .first) w
+            (sym (suffixed .ensures text (loop .notes) (args .given)) ∙ if2 .left),
+        (omega arith, λ z. omega (arith, primary .ensures .1 .1 (if1 .left))),
       )

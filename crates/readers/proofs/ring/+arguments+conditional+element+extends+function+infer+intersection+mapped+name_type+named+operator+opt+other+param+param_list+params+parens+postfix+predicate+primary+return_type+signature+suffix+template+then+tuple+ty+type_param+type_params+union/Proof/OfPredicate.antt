@@ -1,11 +1,8 @@
 -- The needs of `predicate`.
-use Prim.Native.Nat.{ℕ, suc, _+_, _-_, _*_, _^_, _≤_, _<_}
+use Prim.Native.Nat.{ℕ}
 use native.Mathlib.Omega.{arith}
 use borrow.Author.Needs.{needs}
-use borrow.Author.Tests.{not-true, not-false}
-use mathlib.Core.Path.{_≡_, refl, sym, _∙_, ap, subst}
-use mathlib.Core.List.{List, [], _∷_, _++_}
-use lib.ListN.{length}
+use mathlib.Core.Path.{_∙_, ap}
 use Rattle.words.specs.Kind as kind
 use Rattle.rules.specs.Function as function
 use Rattle.parts.specs.Marks.{view, givenOf}
@@ -15,9 +12,10 @@ use Rattle.parts.specs.Onward.{subjectAt, subjectMark}
 use Rattle.parts.specs.Primaries.{predicateChoices}
 use Rattle.parts.specs.Answers.{says-same, says-stop, then-read, then-refused}
 use Rattle.parts.specs.RingShapes.{shape-predicate}
-use Rattle.readers.specs.OptionLaws.{built-spoken, built-option, shape-as, make-first, predicate-small, predicate-starts, subject-this}
 use Rattle.parts.specs.declared.function.This.{This}
-use Rattle.readers.specs.Fields.{same-mark, same-kids, same-answer, same-listed, same-params}
+use Rattle.readers.specs.Fields.{same-kids}
+use Rattle.readers.specs.ChildLaws.{built-spoken, built-option, shape-as, make-first}
+use Rattle.readers.specs.PredicateLaws.{predicate-small, predicate-starts, subject-this}
 use Rattle.parts.proofs.node.link_opt.Reads as link-opt-reads
 use Rattle.parts.proofs.node.opt_bit.Reads as opt-bit-reads
 use Rattle.parts.proofs.node.put.Reads as put-reads
@@ -35,151 +33,95 @@ R t = (subject-reads.Asked, subject-reads.Learnt, opt-below t, opt.Post, state-K
 module _ (t : ℕ) where
   pub subject-requires : lts.Need-subject-requires (R t) (predicate-at t) predicate.Post
   subject-requires c κs =
-      let good = c .before .before .before .before .before .good in
       let pre = c .before .before .before .before .before .pre in
-      (pre .1 .1, omega (arith, pre, good), omega (arith, pre, good))
+      (pre .1 .1, omega arith, omega arith)
 
   pub opt-requires : lts.Need-opt-requires (R t) (predicate-at t) predicate.Post
   opt-requires c κs =
-      let good = c .before .before .before .before .before .before .before .before .before .before .before .before .good in
       let pre = c .before .before .before .before .before .before .before .before .before .before .before .before .pre in
-      let subject = c .before .before .before .before .before .before .subject in
-      (omega (arith, subject .ensures .1 .1, subject .kept, pre, good), (pre .1 .0, pre .1 .1, omega (arith, subject .ensures .1 .1, subject .kept, pre, good), omega (arith, subject .ensures .1 .1, subject .kept, pre, good), omega (arith, subject .ensures .1 .1, subject .kept, pre, good)))
+      (omega arith, (pre .1 .0, pre .1 .1, omega arith, omega arith, omega arith))
 
   pub same-length : lts.Need-same-length (R t) (predicate-at t) predicate.Post
-  same-length c =
-      let subject = c .before .before .before .before .before .before .before .before .before .before .before .before .before .before .before .subject in
-      let opt = c .before .before .before .before .before .before .before .before .opt in
-      omega (arith, opt .kept, subject .kept)
+  same-length c = omega arith
 
   pub same-length-2 : lts.Need-same-length-2 (R t) (predicate-at t) predicate.Post
-  same-length-2 c =
-      let subject = c .before .before .before .before .before .before .before .before .before .before .before .before .before .before .before .subject in
-      let opt = c .before .before .before .before .before .before .before .before .opt in
-      omega (arith, opt .kept, subject .kept)
+  same-length-2 c = omega arith
 
   pub same-length-3 : lts.Need-same-length-3 (R t) (predicate-at t) predicate.Post
-  same-length-3 c =
-      let subject = c .before .before .before .before .before .before .before .before .before .before .before .before .before .before .before .subject in
-      let opt = c .before .before .before .before .before .before .before .before .opt in
-      omega (arith, opt .kept, subject .kept)
+  same-length-3 c = omega arith
 
   pub returns : lts.Need-returns (R t) (predicate-at t) predicate.Post
   returns c =
       let args = c .before .before .before .before .before .before .before .before .before .before .before .before .before .before .before .before .before .before .before .before .before .args in
-      let good = c .before .before .before .before .before .before .before .before .before .before .before .before .before .before .before .before .before .before .before .before .before .good in
-      let pre = c .before .before .before .before .before .before .before .before .before .before .before .before .before .before .before .before .before .before .before .before .before .pre in
       let subject = c .before .before .before .before .before .before .before .before .before .before .before .before .before .before .before .subject in
       let opt = c .before .before .before .before .before .before .before .before .opt in
       let if1 = c .if1 in (
         λ text s.
             let begins = predicate-starts _ _ (args .asserts) (args .m) (subject .result .m) (args .notes .now) (subject .ensures .1 .1) in
             says-stop (if1 .taken) (begins ∙ then-refused _ (opt .ensures .0 text s .refused (if1 .taken))),
-        (omega (arith, if1, opt .ensures .1 .0, opt .kept, subject .ensures .1 .1, subject .kept, pre, good), λ z. omega (arith, if1, opt .ensures .1 .0, opt .kept, subject .ensures .1 .1, subject .kept, pre, good, z)),
+        (omega arith, λ z. omega arith),
       )
 
   pub none-requires : lts.Need-none-requires (R t) (predicate-at t) predicate.Post
-  none-requires c κs =
-      search needs
+  none-requires c κs = search needs
 
   pub link-opt-requires : lts.Need-link-opt-requires (R t) (predicate-at t) predicate.Post
   link-opt-requires c κs =
       let good = c .before .before .before .before .before .before .before .before .before .before .before .before .before .before .before .before .before .before .before .before .before .before .before .before .good in
       let pre = c .before .before .before .before .before .before .before .before .before .before .before .before .before .before .before .before .before .before .before .before .before .before .before .before .pre in
-      let subject = c .before .before .before .before .before .before .before .before .before .before .before .before .before .before .before .before .before .before .subject in
       let opt = c .before .before .before .before .before .before .before .before .before .before .before .opt in
       let if1 = c .before .before .before .if1 in
       let none = c .none in
-      omega (arith, same-kids (none .ensures), if1, opt .ensures .1 .0, opt .kept, opt .ensures .1 .1 (if1 .left), subject .ensures .1 .1, subject .kept, pre, good)
+      omega (arith, same-kids (none .ensures), opt .ensures .1 .1 (if1 .left), pre, good)
 
   pub mul-choices : lts.Need-mul-choices (R t) (predicate-at t) predicate.Post
-  mul-choices c =
-      let good = c .before .before .before .before .before .before .before .before .before .before .before .before .before .before .before .before .before .before .before .before .before .before .before .before .before .before .before .good in
-      let pre = c .before .before .before .before .before .before .before .before .before .before .before .before .before .before .before .before .before .before .before .before .before .before .before .before .before .before .before .pre in
-      let subject = c .before .before .before .before .before .before .before .before .before .before .before .before .before .before .before .before .before .before .before .before .before .subject in
-      let opt = c .before .before .before .before .before .before .before .before .before .before .before .before .before .before .opt in
-      let if1 = c .before .before .before .before .before .before .if1 in
-      let none = c .before .before .before .none in
-      let link-opt = c .before .before .link-opt in
-      omega (arith, link-opt .ensures .1, link-opt .kept, same-kids (none .ensures), if1, opt .ensures .1 .0, opt .kept, opt .ensures .1 .1 (if1 .left), subject .ensures .1 .1, subject .kept, pre, good)
+  mul-choices c = omega arith
 
   pub opt-bit-requires : lts.Need-opt-bit-requires (R t) (predicate-at t) predicate.Post
-  opt-bit-requires c κs =
-      search needs
+  opt-bit-requires c κs = search needs
 
   pub mul-choices-2 : lts.Need-mul-choices-2 (R t) (predicate-at t) predicate.Post
-  mul-choices-2 c =
-      let good = c .before .before .before .before .before .before .before .before .before .before .before .before .before .before .before .before .before .before .before .before .before .before .before .before .before .before .before .before .good in
-      let pre = c .before .before .before .before .before .before .before .before .before .before .before .before .before .before .before .before .before .before .before .before .before .before .before .before .before .before .before .before .pre in
-      let subject = c .before .before .before .before .before .before .before .before .before .before .before .before .before .before .before .before .before .before .before .before .before .before .subject in
-      let opt = c .before .before .before .before .before .before .before .before .before .before .before .before .before .before .before .opt in
-      let if1 = c .before .before .before .before .before .before .before .if1 in
-      let none = c .before .before .before .before .none in
-      let link-opt = c .before .before .before .link-opt in
-      let opt-bit = c .opt-bit in
-      omega (arith, opt-bit .ensures .0, opt-bit .ensures .1, link-opt .ensures .1, link-opt .kept, same-kids (none .ensures), if1, opt .ensures .1 .0, opt .kept, opt .ensures .1 .1 (if1 .left), subject .ensures .1 .1, subject .kept, pre, good)
+  mul-choices-2 c = omega arith
 
   pub add-choices : lts.Need-add-choices (R t) (predicate-at t) predicate.Post
   add-choices c =
       let args = c .before .before .before .before .before .before .before .before .before .before .before .before .before .before .before .before .before .before .before .before .before .before .before .before .before .before .before .before .before .args in
-      let good = c .before .before .before .before .before .before .before .before .before .before .before .before .before .before .before .before .before .before .before .before .before .before .before .before .before .before .before .before .before .good in
-      let pre = c .before .before .before .before .before .before .before .before .before .before .before .before .before .before .before .before .before .before .before .before .before .before .before .before .before .before .before .before .before .pre in
       let subject = c .before .before .before .before .before .before .before .before .before .before .before .before .before .before .before .before .before .before .before .before .before .before .before .subject in
       let opt = c .before .before .before .before .before .before .before .before .before .before .before .before .before .before .before .before .opt in
       let if1 = c .before .before .before .before .before .before .before .before .if1 in
       let none = c .before .before .before .before .before .none in
       let link-opt = c .before .before .before .before .link-opt in
       let opt-bit = c .before .opt-bit in
-      omega (arith, subject .ensures .1 .0, predicate-small (args .asserts) (here (args .words .now) kind.This (subjectMark (args .asserts) (args .m))), opt-bit .ensures .0, opt-bit .ensures .1, link-opt .ensures .1, link-opt .kept, same-kids (none .ensures), if1, opt .ensures .1 .0, opt .kept, opt .ensures .1 .1 (if1 .left), subject .ensures .1 .1, subject .kept, pre, good)
+      omega (arith, predicate-small (args .asserts) (here (args .words .now) kind.This (subjectMark (args .asserts) (args .m))), opt-bit .ensures .0, opt-bit .ensures .1, link-opt .ensures .1, same-kids (none .ensures), opt .ensures .1 .0, opt .ensures .1 .1 (if1 .left), subject .ensures .1 .1)
 
   pub at-requires : lts.Need-at-requires (R t) (predicate-at t) predicate.Post
   at-requires c κs =
-      let good = c .before .before .before .before .before .before .before .before .before .before .before .before .before .before .before .before .before .before .before .before .before .before .before .before .before .before .before .before .before .before .good in
       let pre = c .before .before .before .before .before .before .before .before .before .before .before .before .before .before .before .before .before .before .before .before .before .before .before .before .before .before .before .before .before .before .pre in
-      let subject = c .before .before .before .before .before .before .before .before .before .before .before .before .before .before .before .before .before .before .before .before .before .before .before .before .subject in
-      let opt = c .before .before .before .before .before .before .before .before .before .before .before .before .before .before .before .before .before .opt in
-      let if1 = c .before .before .before .before .before .before .before .before .before .if1 in
-      let none = c .before .before .before .before .before .before .none in
-      let link-opt = c .before .before .before .before .before .link-opt in
-      let opt-bit = c .before .before .opt-bit in
-      (pre .1 .1, omega (arith, opt-bit .ensures .0, opt-bit .ensures .1, link-opt .ensures .1, link-opt .kept, same-kids (none .ensures), if1, opt .ensures .1 .0, opt .kept, opt .ensures .1 .1 (if1 .left), subject .ensures .1 .1, subject .kept, pre, good))
+      (pre .1 .1, omega arith)
 
   pub put-requires : lts.Need-put-requires (R t) (predicate-at t) predicate.Post
   put-requires c κs =
-      let good = c .before .before .before .before .before .before .before .before .before .before .before .before .before .before .before .before .before .before .before .before .before .before .before .before .before .before .before .before .before .before .before .good in
       let pre = c .before .before .before .before .before .before .before .before .before .before .before .before .before .before .before .before .before .before .before .before .before .before .before .before .before .before .before .before .before .before .before .pre in
-      let subject = c .before .before .before .before .before .before .before .before .before .before .before .before .before .before .before .before .before .before .before .before .before .before .before .before .before .subject in
       let opt = c .before .before .before .before .before .before .before .before .before .before .before .before .before .before .before .before .before .before .opt in
       let if1 = c .before .before .before .before .before .before .before .before .before .before .if1 in
-      let none = c .before .before .before .before .before .before .before .none in
-      let link-opt = c .before .before .before .before .before .before .link-opt in
-      let opt-bit = c .before .before .before .opt-bit in
-      let at = c .at in
-      (pre .1 .1, omega (arith, at .ensures .0, at .ensures .1, opt-bit .ensures .0, opt-bit .ensures .1, link-opt .ensures .1, link-opt .kept, same-kids (none .ensures), if1, opt .ensures .1 .0, opt .kept, opt .ensures .1 .1 (if1 .left), subject .ensures .1 .1, subject .kept, pre, good), omega (arith, at .ensures .0, at .ensures .1, opt-bit .ensures .0, opt-bit .ensures .1, link-opt .ensures .1, link-opt .kept, same-kids (none .ensures), if1, opt .ensures .1 .0, opt .kept, opt .ensures .1 .1 (if1 .left), subject .ensures .1 .1, subject .kept, pre, good), omega (arith, at .ensures .0, at .ensures .1, opt-bit .ensures .0, opt-bit .ensures .1, link-opt .ensures .1, link-opt .kept, same-kids (none .ensures), if1, opt .ensures .1 .0, opt .kept, opt .ensures .1 .1 (if1 .left), subject .ensures .1 .1, subject .kept, pre, good), omega (arith, at .ensures .0, at .ensures .1, opt-bit .ensures .0, opt-bit .ensures .1, link-opt .ensures .1, link-opt .kept, same-kids (none .ensures), if1, opt .ensures .1 .0, opt .kept, opt .ensures .1 .1 (if1 .left), subject .ensures .1 .1, subject .kept, pre, good), omega (arith, at .ensures .0, at .ensures .1, opt-bit .ensures .0, opt-bit .ensures .1, link-opt .ensures .1, link-opt .kept, same-kids (none .ensures), if1, opt .ensures .1 .0, opt .kept, opt .ensures .1 .1 (if1 .left), subject .ensures .1 .1, subject .kept, pre, good))
+      (pre .1 .1, omega arith, omega (arith, opt .ensures .1 .1 (if1 .left)), omega arith, omega arith, omega arith)
 
   pub same-length-4 : lts.Need-same-length-4 (R t) (predicate-at t) predicate.Post
   same-length-4 c =
-      let subject = c .before .before .before .before .before .before .before .before .before .before .before .before .before .before .before .before .before .before .before .before .before .before .before .before .before .before .before .before .subject in
       let opt = c .before .before .before .before .before .before .before .before .before .before .before .before .before .before .before .before .before .before .before .before .before .opt in
       let link-opt = c .before .before .before .before .before .before .before .before .before .link-opt in
-      let put = c .before .before .put in
-      omega (arith, put .kept, link-opt .kept, opt .kept, subject .kept)
+      omega (arith, link-opt .kept, opt .kept)
 
   pub same-length-5 : lts.Need-same-length-5 (R t) (predicate-at t) predicate.Post
   same-length-5 c =
       let subject = c .before .before .before .before .before .before .before .before .before .before .before .before .before .before .before .before .before .before .before .before .before .before .before .before .before .before .before .before .subject in
       let opt = c .before .before .before .before .before .before .before .before .before .before .before .before .before .before .before .before .before .before .before .before .before .opt in
-      let link-opt = c .before .before .before .before .before .before .before .before .before .link-opt in
-      let put = c .before .before .put in
-      omega (arith, put .kept, link-opt .kept, opt .kept, subject .kept)
+      omega (arith, opt .kept, subject .kept)
 
   pub same-length-6 : lts.Need-same-length-6 (R t) (predicate-at t) predicate.Post
   same-length-6 c =
-      let subject = c .before .before .before .before .before .before .before .before .before .before .before .before .before .before .before .before .before .before .before .before .before .before .before .before .before .before .before .before .subject in
       let opt = c .before .before .before .before .before .before .before .before .before .before .before .before .before .before .before .before .before .before .before .before .before .opt in
-      let link-opt = c .before .before .before .before .before .before .before .before .before .link-opt in
-      let put = c .before .before .put in
-      omega (arith, put .kept, link-opt .kept, opt .kept, subject .kept)
+      omega (arith, opt .kept)
 
   pub returns-2 : lts.Need-returns-2 (R t) (predicate-at t) predicate.Post
   returns-2 c =
@@ -204,9 +146,12 @@ module _ (t : ℕ) where
             ∙ make-first _ _ _ _ _ (at .ensures .0 .0))
             (put .ensures .0 text 0 _ _ 16 _ _ _
             (built-option (subject .result .m) (opt .result .m) (built-spoken (none .ensures) (subject .ensures .0 text (args .notes .now) (args .given) s))
-            x (omega (arith, opt .kept)) (link-opt .ensures .0))
+            x (omega arith) (link-opt .ensures .0))
             (at .ensures .0 .1)
-            (shape-as (omega (arith, subject .ensures .1 .0, ap (predicateChoices (args .asserts)) this-is, opt-bit .ensures .0, ap optBit (x .high-is)))
+            (shape-as (omega (arith, ap (predicateChoices (args .asserts)) this-is, ap optBit (x .high-is)))
             (shape-predicate (args .asserts) about (x .tree) (x .is-opt)))),
-        (omega (arith, put .ensures .1, put .kept, at .ensures .0, at .ensures .1, opt-bit .ensures .0, opt-bit .ensures .1, link-opt .ensures .1, link-opt .kept, same-kids (none .ensures), if1, opt .ensures .1 .0, opt .kept, opt .ensures .1 .1 (if1 .left), subject .ensures .1 .1, subject .kept, pre, good), λ z. omega (arith, put .ensures .1, put .kept, at .ensures .0, at .ensures .1, opt-bit .ensures .0, opt-bit .ensures .1, link-opt .ensures .1, link-opt .kept, same-kids (none .ensures), if1, opt .ensures .1 .0, opt .kept, opt .ensures .1 .1 (if1 .left), subject .ensures .1 .1, subject .kept, pre, good, z)),
+        (
+          omega (arith, at .ensures .0, at .ensures .1, opt-bit .ensures .0, opt-bit .ensures .1, link-opt .ensures .1, same-kids (none .ensures), opt .ensures .1 .0, opt .ensures .1 .1 (if1 .left), subject .ensures .1 .1),
+          λ z. omega (arith, if1, opt .ensures .1 .1 (if1 .left), pre, good, z),
+        ),
       )

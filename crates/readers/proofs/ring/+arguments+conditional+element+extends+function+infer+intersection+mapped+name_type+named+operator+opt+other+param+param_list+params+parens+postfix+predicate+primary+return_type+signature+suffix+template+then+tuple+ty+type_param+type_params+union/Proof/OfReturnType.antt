@@ -1,17 +1,13 @@
 -- The needs of `return_type`.
-use Prim.Native.Nat.{ℕ, suc, _+_, _-_, _*_, _^_, _≤_, _<_}
+use Prim.Native.Nat.{ℕ}
 use native.Mathlib.Omega.{arith}
 use borrow.Author.Needs.{needs}
-use borrow.Author.Tests.{not-true, not-false}
-use mathlib.Core.Path.{_≡_, refl, sym, _∙_, ap, subst}
-use mathlib.Core.List.{List, [], _∷_, _++_}
-use lib.ListN.{length}
+use mathlib.Core.Path.{sym, _∙_}
+use mathlib.Core.List.{[]}
 use Rattle.parts.specs.Marks.{view, givenOf}
 use Rattle.parts.specs.Answers.{says-same}
 use Rattle.parts.specs.PrimaryLaws.{return-type, return-predicate}
-use Rattle.readers.specs.OptionLaws.{predicates-inside}
-use Rattle.parts.specs.declared.function.This.{This}
-use Rattle.readers.specs.Fields.{same-mark, same-kids, same-answer, same-listed, same-params}
+use Rattle.readers.specs.PredicateLaws.{predicates-inside}
 use Rattle.parts.proofs.function.predicates.Reads as predicates-reads
 use Rattle.readers.proofs.ring.predicate.Reads as predicate
 use Rattle.readers.proofs.ring.return_type.Reads as return-type
@@ -25,73 +21,58 @@ R t = (predicates-reads.Asked, predicates-reads.Learnt, predicate-below t, predi
 module _ (t : ℕ) where
   pub predicates-requires : lts.Need-predicates-requires (R t) (return-type-at t) return-type.Post
   predicates-requires c κs =
-      let good = c .before .before .before .before .good in
       let pre = c .before .before .before .before .pre in
-      (pre .1 .0, omega (arith, pre, good))
+      (pre .1 .0, omega arith)
 
   pub predicate-requires : lts.Need-predicate-requires (R t) (return-type-at t) return-type.Post
   predicate-requires c κs =
       let args = c .before .before .before .before .before .before .before .before .before .args in
       let predicates = c .before .before .before .before .predicates in
       let if1 = c .before .before .before .if1 in
-      let good = c .before .before .before .before .before .before .before .before .before .good in
       let pre = c .before .before .before .before .before .before .before .before .before .pre in
       let inside = predicates-inside (givenOf [] (args .words .now) (args .given)) (view (args .m) (args .notes .now))
       (sym (predicates .ensures [] (args .notes .now) (args .given)) ∙ if1 .taken) in
-      (omega (arith, pre, good), (pre .1 .0, pre .1 .1, omega (arith, pre, good), omega (arith, pre, good), omega (arith, inside)))
+      (omega arith, (pre .1 .0, pre .1 .1, omega arith, omega arith, omega arith))
 
   pub same-length : lts.Need-same-length (R t) (return-type-at t) return-type.Post
-  same-length c =
-      let predicate = c .before .before .before .before .before .before .predicate in
-      omega (arith, predicate .kept)
+  same-length c = omega arith
 
   pub same-length-2 : lts.Need-same-length-2 (R t) (return-type-at t) return-type.Post
-  same-length-2 c =
-      let predicate = c .before .before .before .before .before .before .predicate in
-      omega (arith, predicate .kept)
+  same-length-2 c = omega arith
 
   pub same-length-3 : lts.Need-same-length-3 (R t) (return-type-at t) return-type.Post
-  same-length-3 c =
-      let predicate = c .before .before .before .before .before .before .predicate in
-      omega (arith, predicate .kept)
+  same-length-3 c = omega arith
 
   pub returns : lts.Need-returns (R t) (return-type-at t) return-type.Post
   returns c =
       let args = c .before .before .before .before .before .before .before .before .before .before .before .before .before .before .before .before .args in
       let predicates = c .before .before .before .before .before .before .before .before .before .before .before .predicates in
       let if1 = c .before .before .before .before .before .before .before .before .before .before .if1 in
-      let good = c .before .before .before .before .before .before .before .before .before .before .before .before .before .before .before .before .good in
-      let pre = c .before .before .before .before .before .before .before .before .before .before .before .before .before .before .before .before .pre in
-      let predicate = c .before .before .before .before .before .before .predicate in
-      (λ text s. says-same (return-predicate _ _ _ (sym (predicates .ensures text (args .notes .now) (args .given)) ∙ if1 .taken)) (predicate .ensures .0 text s), (omega (arith, predicate .ensures .1 .0, predicate .kept, pre, good), λ z. omega (arith, predicate .ensures .1 .0, predicate .kept, pre, good, z, predicate .ensures .1 .1 z)))
+      let predicate = c .before .before .before .before .before .before .predicate in (
+        λ text s.
+            says-same (return-predicate _ _ _ (sym (predicates .ensures text (args .notes .now) (args .given)) ∙ if1 .taken))
+            (predicate .ensures .0 text s),
+        (omega arith, λ z. omega (arith, predicate .ensures .1 .1 z)),
+      )
 
   pub ty-requires : lts.Need-ty-requires (R t) (return-type-at t) return-type.Post
-  ty-requires c κs =
-      let good = c .before .before .before .before .before .before .before .before .before .good in
-      let pre = c .before .before .before .before .before .before .before .before .before .pre in
-      (omega (arith, pre, good), (pre .1 .0, pre .1 .1, omega (arith, pre, good), omega (arith, pre, good)))
+  ty-requires c κs = search needs
 
   pub same-length-4 : lts.Need-same-length-4 (R t) (return-type-at t) return-type.Post
-  same-length-4 c =
-      let ty = c .before .before .before .before .before .before .ty in
-      omega (arith, ty .kept)
+  same-length-4 c = omega arith
 
   pub same-length-5 : lts.Need-same-length-5 (R t) (return-type-at t) return-type.Post
-  same-length-5 c =
-      let ty = c .before .before .before .before .before .before .ty in
-      omega (arith, ty .kept)
+  same-length-5 c = omega arith
 
   pub same-length-6 : lts.Need-same-length-6 (R t) (return-type-at t) return-type.Post
-  same-length-6 c =
-      let ty = c .before .before .before .before .before .before .ty in
-      omega (arith, ty .kept)
+  same-length-6 c = omega arith
 
   pub returns-2 : lts.Need-returns-2 (R t) (return-type-at t) return-type.Post
   returns-2 c =
       let args = c .before .before .before .before .before .before .before .before .before .before .before .before .before .before .before .before .args in
       let predicates = c .before .before .before .before .before .before .before .before .before .before .before .predicates in
       let if1 = c .before .before .before .before .before .before .before .before .before .before .if1 in
-      let good = c .before .before .before .before .before .before .before .before .before .before .before .before .before .before .before .before .good in
-      let pre = c .before .before .before .before .before .before .before .before .before .before .before .before .before .before .before .before .pre in
-      let ty = c .before .before .before .before .before .before .ty in
-      (λ text s. says-same (return-type _ _ _ (sym (predicates .ensures text (args .notes .now) (args .given)) ∙ if1 .left)) (ty .ensures .0 text s), (omega (arith, ty .ensures .1 .0, ty .kept, pre, good), λ z. omega (arith, ty .ensures .1 .0, ty .kept, pre, good, z, ty .ensures .1 .1 z)))
+      let ty = c .before .before .before .before .before .before .ty in (
+        λ text s. says-same (return-type _ _ _ (sym (predicates .ensures text (args .notes .now) (args .given)) ∙ if1 .left)) (ty .ensures .0 text s),
+        (omega arith, λ z. omega (arith, ty .ensures .1 .1 z)),
+      )

@@ -1,17 +1,14 @@
 -- The needs of `signature`.
-use Prim.Native.Nat.{ℕ, suc, _+_, _-_, _*_, _^_, _≤_, _<_}
+use Prim.Native.Nat.{ℕ}
 use native.Mathlib.Omega.{arith}
 use borrow.Author.Needs.{needs}
-use borrow.Author.Tests.{not-true, not-false}
-use mathlib.Core.Path.{_≡_, refl, sym, _∙_, ap, subst}
-use mathlib.Core.List.{List, [], _∷_, _++_}
-use lib.ListN.{length}
-use Rattle.readers.specs.SignatureLaws.{signature-stops, signature-goes, signature-node}
+use mathlib.Core.Path.{_∙_, ap}
 use Rattle.parts.specs.RingLaws.{signature-is}
 use Rattle.parts.specs.Answers.{then-read, then-refused, says-same, says-as, says-refused, says-stop, says-stops}
 use Rattle.parts.specs.MarkLaws.{is-here, is-not-here}
 use Rattle.parts.specs.declared.function.This.{This}
-use Rattle.readers.specs.Fields.{same-mark, same-kids, same-answer, same-listed, same-params}
+use Rattle.readers.specs.Fields.{same-mark, same-answer}
+use Rattle.readers.specs.SignatureLaws.{signature-stops, signature-goes, signature-node}
 use Rattle.parts.proofs.function.Params.with.Reads as with-reads
 use Rattle.parts.proofs.function.function_node.Reads as function-node-reads
 use Rattle.parts.proofs.state.Answer.refused.Reads as state-Answer-refused-reads
@@ -28,69 +25,50 @@ R t = (params-below t, params.Post, state-Answer-refused-reads.Asked, state-Answ
 module _ (t : ℕ) where
   pub params-requires : lts.Need-params-requires (R t) (signature-at t) signature.Post
   params-requires c κs =
-      let good = c .before .before .before .before .before .before .before .before .good in
       let pre = c .before .before .before .before .before .before .before .before .pre in
-      (omega (arith, pre, good), (pre .1 .0, pre .1 .1, omega (arith, pre, good), omega (arith, pre, good), omega (arith, pre, good)))
+      (omega arith, (pre .1 .0, pre .1 .1, omega arith, omega arith, omega arith))
 
   pub refused-requires : lts.Need-refused-requires (R t) (signature-at t) signature.Post
-  refused-requires c κs =
-      search needs
+  refused-requires c κs = search needs
 
   pub same-length : lts.Need-same-length (R t) (signature-at t) signature.Post
-  same-length c =
-      let params = c .before .before .before .before .before .before .before .before .before .params in
-      omega (arith, params .kept)
+  same-length c = omega arith
 
   pub same-length-2 : lts.Need-same-length-2 (R t) (signature-at t) signature.Post
-  same-length-2 c =
-      let params = c .before .before .before .before .before .before .before .before .before .params in
-      omega (arith, params .kept)
+  same-length-2 c = omega arith
 
   pub same-length-3 : lts.Need-same-length-3 (R t) (signature-at t) signature.Post
-  same-length-3 c =
-      let params = c .before .before .before .before .before .before .before .before .before .params in
-      omega (arith, params .kept)
+  same-length-3 c = omega arith
 
   pub returns : lts.Need-returns (R t) (signature-at t) signature.Post
   returns c =
-      let good = c .before .before .before .before .before .before .before .before .before .before .before .before .before .before .before .before .before .before .good in
-      let pre = c .before .before .before .before .before .before .before .before .before .before .before .before .before .before .before .before .before .before .pre in
       let params = c .before .before .before .before .before .before .before .before .before .params in
       let if1 = c .before .if1 in
       let refused = c .refused in (
         λ text B ts s i b there many n.
-            says-as (refused .ensures) (says-stop (if1 .taken) (signature-is _ _ _ _ _ _ _ ∙ then-refused _ (params .ensures .0 text B _ s b .refused (if1 .taken)))),
-        (omega (arith, same-answer (refused .ensures), if1, params .ensures .1 .0, params .kept, pre, good), λ z. omega (arith, same-answer (refused .ensures), if1, params .ensures .1 .0, params .kept, pre, good, z)),
+            says-as (refused .ensures)
+            (says-stop (if1 .taken) (signature-is _ _ _ _ _ _ _ ∙ then-refused _ (params .ensures .0 text B _ s b .refused (if1 .taken)))),
+        (omega (arith, same-answer (refused .ensures)), λ z. omega (arith, same-answer (refused .ensures))),
       )
 
   pub kind-at-requires : lts.Need-kind-at-requires (R t) (signature-at t) signature.Post
-  kind-at-requires c κs =
-      search needs
+  kind-at-requires c κs = search needs
 
   pub refused-requires-2 : lts.Need-refused-requires-2 (R t) (signature-at t) signature.Post
-  refused-requires-2 c κs =
-      search needs
+  refused-requires-2 c κs = search needs
 
   pub same-length-4 : lts.Need-same-length-4 (R t) (signature-at t) signature.Post
-  same-length-4 c =
-      let params = c .before .before .before .before .before .before .before .before .before .before .before .before .params in
-      omega (arith, params .kept)
+  same-length-4 c = omega arith
 
   pub same-length-5 : lts.Need-same-length-5 (R t) (signature-at t) signature.Post
-  same-length-5 c =
-      let params = c .before .before .before .before .before .before .before .before .before .before .before .before .params in
-      omega (arith, params .kept)
+  same-length-5 c = omega arith
 
   pub same-length-6 : lts.Need-same-length-6 (R t) (signature-at t) signature.Post
-  same-length-6 c =
-      let params = c .before .before .before .before .before .before .before .before .before .before .before .before .params in
-      omega (arith, params .kept)
+  same-length-6 c = omega arith
 
   pub returns-2 : lts.Need-returns-2 (R t) (signature-at t) signature.Post
   returns-2 c =
       let args = c .before .before .before .before .before .before .before .before .before .before .before .before .before .before .before .before .before .before .before .before .before .args in
-      let good = c .before .before .before .before .before .before .before .before .before .before .before .before .before .before .before .before .before .before .before .before .before .good in
-      let pre = c .before .before .before .before .before .before .before .before .before .before .before .before .before .before .before .before .before .before .before .before .before .pre in
       let params = c .before .before .before .before .before .before .before .before .before .before .before .before .params in
       let if1 = c .before .before .before .before .if1 in
       let kind-at = c .before .before .kind-at in
@@ -100,7 +78,7 @@ module _ (t : ℕ) where
             let got = params .ensures .0 text B _ s b .done (if1 .left) in
             says-as (refused2 .ensures)
             (says-refused 2 (signature-stops _ _ _ _ _ ts _ (got .is) (is-not-here (args .words .now) (params .result .m) (kind-at .ensures .0) (if2 .taken)))),
-        (omega (arith, same-answer (refused2 .ensures), if2, kind-at .ensures .0, kind-at .ensures .1, if1, params .ensures .1 .0, params .kept, params .ensures .1 .1 (if1 .left), pre, good), λ z. omega (arith, same-answer (refused2 .ensures), if2, kind-at .ensures .0, kind-at .ensures .1, if1, params .ensures .1 .0, params .kept, params .ensures .1 .1 (if1 .left), pre, good, z)),
+        (omega (arith, same-answer (refused2 .ensures)), λ z. omega (arith, same-answer (refused2 .ensures))),
       )
 
   pub add-t22 : lts.Need-add-t22 (R t) (signature-at t) signature.Post
@@ -109,43 +87,31 @@ module _ (t : ℕ) where
       let pre = c .before .before .before .before .before .before .before .before .before .before .before .before .before .before .before .before .before .before .before .before .before .pre in
       let params = c .before .before .before .before .before .before .before .before .before .before .before .before .params in
       let if1 = c .before .before .before .before .if1 in
-      let kind-at = c .before .before .kind-at in
-      let if2 = c .before .if2 in
-      omega (arith, if2, kind-at .ensures .0, kind-at .ensures .1, if1, params .ensures .1 .0, params .kept, params .ensures .1 .1 (if1 .left), pre, good)
+      omega (arith, params .ensures .1 .1 (if1 .left), pre, good)
 
   pub return-type-requires : lts.Need-return-type-requires (R t) (signature-at t) signature.Post
   return-type-requires c κs =
-      let good = c .before .before .before .before .before .before .before .before .before .before .before .before .before .before .before .before .before .before .before .before .before .before .before .before .good in
       let pre = c .before .before .before .before .before .before .before .before .before .before .before .before .before .before .before .before .before .before .before .before .before .before .before .before .pre in
       let params = c .before .before .before .before .before .before .before .before .before .before .before .before .before .before .before .params in
       let if1 = c .before .before .before .before .before .before .before .if1 in
-      let kind-at = c .before .before .before .before .before .kind-at in
-      let if2 = c .before .before .before .before .if2 in
-      (omega (arith, if2, kind-at .ensures .0, kind-at .ensures .1, if1, params .ensures .1 .0, params .kept, params .ensures .1 .1 (if1 .left), pre, good), (pre .1 .0, pre .1 .1, omega (arith, if2, kind-at .ensures .0, kind-at .ensures .1, if1, params .ensures .1 .0, params .kept, params .ensures .1 .1 (if1 .left), pre, good), omega (arith, if2, kind-at .ensures .0, kind-at .ensures .1, if1, params .ensures .1 .0, params .kept, params .ensures .1 .1 (if1 .left), pre, good)))
+      (omega (arith, params .ensures .1 .1 (if1 .left)), (pre .1 .0, pre .1 .1, omega arith, omega arith))
 
   pub same-length-7 : lts.Need-same-length-7 (R t) (signature-at t) signature.Post
   same-length-7 c =
       let params = c .before .before .before .before .before .before .before .before .before .before .before .before .before .before .before .before .before .before .before .before .before .before .before .before .params in
-      let return-type = c .before .before .before .before .before .before .before .before .return-type in
-      omega (arith, return-type .kept, params .kept)
+      omega (arith, params .kept)
 
   pub same-length-8 : lts.Need-same-length-8 (R t) (signature-at t) signature.Post
   same-length-8 c =
       let params = c .before .before .before .before .before .before .before .before .before .before .before .before .before .before .before .before .before .before .before .before .before .before .before .before .params in
-      let return-type = c .before .before .before .before .before .before .before .before .return-type in
-      omega (arith, return-type .kept, params .kept)
+      omega (arith, params .kept)
 
   pub same-length-9 : lts.Need-same-length-9 (R t) (signature-at t) signature.Post
-  same-length-9 c =
-      let params = c .before .before .before .before .before .before .before .before .before .before .before .before .before .before .before .before .before .before .before .before .before .before .before .before .params in
-      let return-type = c .before .before .before .before .before .before .before .before .return-type in
-      omega (arith, return-type .kept, params .kept)
+  same-length-9 c = omega arith
 
   pub returns-3 : lts.Need-returns-3 (R t) (signature-at t) signature.Post
   returns-3 c =
       let args = c .before .before .before .before .before .before .before .before .before .before .before .before .before .before .before .before .before .before .before .before .before .before .before .before .before .before .before .before .before .before .before .before .before .args in
-      let good = c .before .before .before .before .before .before .before .before .before .before .before .before .before .before .before .before .before .before .before .before .before .before .before .before .before .before .before .before .before .before .before .before .before .good in
-      let pre = c .before .before .before .before .before .before .before .before .before .before .before .before .before .before .before .before .before .before .before .before .before .before .before .before .before .before .before .before .before .before .before .before .before .pre in
       let params = c .before .before .before .before .before .before .before .before .before .before .before .before .before .before .before .before .before .before .before .before .before .before .before .before .params in
       let if1 = c .before .before .before .before .before .before .before .before .before .before .before .before .before .before .before .before .if1 in
       let kind-at = c .before .before .before .before .before .before .before .before .before .before .before .before .before .before .kind-at in
@@ -156,7 +122,7 @@ module _ (t : ℕ) where
             let got = params .ensures .0 text B _ s b .done (if1 .left) in
             says-stops _ (return-type .ensures .0 text s) (if3 .taken)
             (signature-goes _ _ _ _ _ ts _ (got .is) (is-here (args .words .now) (params .result .m) (kind-at .ensures .0) (if2 .left))),
-        (omega (arith, if3, return-type .ensures .1 .0, return-type .kept, if2, kind-at .ensures .0, kind-at .ensures .1, if1, params .ensures .1 .0, params .kept, params .ensures .1 .1 (if1 .left), pre, good), λ z. omega (arith, if3, return-type .ensures .1 .0, return-type .kept, if2, kind-at .ensures .0, kind-at .ensures .1, if1, params .ensures .1 .0, params .kept, params .ensures .1 .1 (if1 .left), pre, good, z)),
+        (omega arith, λ z. omega arith),
       )
 
   pub with-requires : lts.Need-with-requires (R t) (signature-at t) signature.Post
@@ -165,11 +131,10 @@ module _ (t : ℕ) where
       let pre = c .before .before .before .before .before .before .before .before .before .before .before .before .before .before .before .before .before .before .before .before .before .before .before .before .before .before .before .before .before .before .before .before .before .before .pre in
       let params = c .before .before .before .before .before .before .before .before .before .before .before .before .before .before .before .before .before .before .before .before .before .before .before .before .before .params in
       let if1 = c .before .before .before .before .before .before .before .before .before .before .before .before .before .before .before .before .before .if1 in
-      let kind-at = c .before .before .before .before .before .before .before .before .before .before .before .before .before .before .before .kind-at in
       let if2 = c .before .before .before .before .before .before .before .before .before .before .before .before .before .before .if2 in
       let return-type = c .before .before .before .before .before .before .before .before .before .return-type in
       let if3 = c .before .if3 in
-      omega (arith, if3, return-type .ensures .1 .0, return-type .kept, return-type .ensures .1 .1 (if3 .left), if2, kind-at .ensures .0, kind-at .ensures .1, if1, params .ensures .1 .0, params .kept, params .ensures .1 .1 (if1 .left), pre, good)
+      omega (arith, return-type .ensures .1 .1 (if3 .left), if2, if1, params .ensures .1 .1 (if1 .left), pre, good)
 
   pub function-node-requires : lts.Need-function-node-requires (R t) (signature-at t) signature.Post
   function-node-requires c κs =
@@ -181,38 +146,39 @@ module _ (t : ℕ) where
       let if2 = c .before .before .before .before .before .before .before .before .before .before .before .before .before .before .before .before .before .before .before .if2 in
       let return-type = c .before .before .before .before .before .before .before .before .before .before .before .before .before .before .return-type in
       let if3 = c .before .before .before .before .before .before .if3 in
-      let with = c .before .before .before .before .with in
-      (pre .1 .1, omega (arith, with .ensures .0 .0, with .ensures .0 .1, ap (λ (x : This). x .bits) (with .ensures .0 .2), same-mark (with .ensures .0 .3), with .ensures .1, with .kept, if3, return-type .ensures .1 .0, return-type .kept, return-type .ensures .1 .1 (if3 .left), if2, kind-at .ensures .0, kind-at .ensures .1, if1, params .ensures .1 .0, params .kept, params .ensures .1 .1 (if1 .left), pre, good), omega (arith, with .ensures .0 .0, with .ensures .0 .1, ap (λ (x : This). x .bits) (with .ensures .0 .2), same-mark (with .ensures .0 .3), with .ensures .1, with .kept, if3, return-type .ensures .1 .0, return-type .kept, return-type .ensures .1 .1 (if3 .left), if2, kind-at .ensures .0, kind-at .ensures .1, if1, params .ensures .1 .0, params .kept, params .ensures .1 .1 (if1 .left), pre, good), omega (arith, with .ensures .0 .0, with .ensures .0 .1, ap (λ (x : This). x .bits) (with .ensures .0 .2), same-mark (with .ensures .0 .3), with .ensures .1, with .kept, if3, return-type .ensures .1 .0, return-type .kept, return-type .ensures .1 .1 (if3 .left), if2, kind-at .ensures .0, kind-at .ensures .1, if1, params .ensures .1 .0, params .kept, params .ensures .1 .1 (if1 .left), pre, good), omega (arith, with .ensures .0 .0, with .ensures .0 .1, ap (λ (x : This). x .bits) (with .ensures .0 .2), same-mark (with .ensures .0 .3), with .ensures .1, with .kept, if3, return-type .ensures .1 .0, return-type .kept, return-type .ensures .1 .1 (if3 .left), if2, kind-at .ensures .0, kind-at .ensures .1, if1, params .ensures .1 .0, params .kept, params .ensures .1 .1 (if1 .left), pre, good), omega (arith, with .ensures .0 .0, with .ensures .0 .1, ap (λ (x : This). x .bits) (with .ensures .0 .2), same-mark (with .ensures .0 .3), with .ensures .1, with .kept, if3, return-type .ensures .1 .0, return-type .kept, return-type .ensures .1 .1 (if3 .left), if2, kind-at .ensures .0, kind-at .ensures .1, if1, params .ensures .1 .0, params .kept, params .ensures .1 .1 (if1 .left), pre, good), omega (arith, with .ensures .0 .0, with .ensures .0 .1, ap (λ (x : This). x .bits) (with .ensures .0 .2), same-mark (with .ensures .0 .3), with .ensures .1, with .kept, if3, return-type .ensures .1 .0, return-type .kept, return-type .ensures .1 .1 (if3 .left), if2, kind-at .ensures .0, kind-at .ensures .1, if1, params .ensures .1 .0, params .kept, params .ensures .1 .1 (if1 .left), pre, good), omega (arith, with .ensures .0 .0, with .ensures .0 .1, ap (λ (x : This). x .bits) (with .ensures .0 .2), same-mark (with .ensures .0 .3), with .ensures .1, with .kept, if3, return-type .ensures .1 .0, return-type .kept, return-type .ensures .1 .1 (if3 .left), if2, kind-at .ensures .0, kind-at .ensures .1, if1, params .ensures .1 .0, params .kept, params .ensures .1 .1 (if1 .left), pre, good))
+      let with = c .before .before .before .before .with in (
+        pre .1 .1,
+        omega (arith, with .ensures .0 .0, with .ensures .0 .1, ap (λ (x : This). x .bits) (with .ensures .0 .2), same-mark (with .ensures .0 .3), with .ensures .1, with .kept, if3, return-type .ensures .1 .0, return-type .kept, return-type .ensures .1 .1 (if3 .left), if2, kind-at .ensures .0, kind-at .ensures .1, if1, params .ensures .1 .0, params .kept, params .ensures .1 .1 (if1 .left), pre, good),
+        omega (arith, with .ensures .0 .0, with .ensures .0 .1, ap (λ (x : This). x .bits) (with .ensures .0 .2), same-mark (with .ensures .0 .3), with .ensures .1, with .kept, if3, return-type .ensures .1 .0, return-type .kept, return-type .ensures .1 .1 (if3 .left), if2, kind-at .ensures .0, kind-at .ensures .1, if1, params .ensures .1 .0, params .kept, params .ensures .1 .1 (if1 .left), pre, good),
+        omega (arith, with .ensures .0 .0, with .ensures .0 .1, ap (λ (x : This). x .bits) (with .ensures .0 .2), same-mark (with .ensures .0 .3), with .ensures .1, with .kept, if3, return-type .ensures .1 .0, return-type .kept, return-type .ensures .1 .1 (if3 .left), if2, kind-at .ensures .0, kind-at .ensures .1, if1, params .ensures .1 .0, params .kept, params .ensures .1 .1 (if1 .left), pre, good),
+        omega (arith, same-mark (with .ensures .0 .3)),
+        omega (arith, ap (λ (x : This). x .bits) (with .ensures .0 .2)),
+        omega arith,
+        omega arith,
+      )
 
   pub same-length-10 : lts.Need-same-length-10 (R t) (signature-at t) signature.Post
   same-length-10 c =
       let params = c .before .before .before .before .before .before .before .before .before .before .before .before .before .before .before .before .before .before .before .before .before .before .before .before .before .before .before .before .before .before .before .before .before .before .before .params in
       let return-type = c .before .before .before .before .before .before .before .before .before .before .before .before .before .before .before .before .before .before .before .return-type in
       let with = c .before .before .before .before .before .before .before .before .before .with in
-      let function-node = c .before .before .before .before .function-node in
-      omega (arith, function-node .kept, with .kept, return-type .kept, params .kept)
+      omega (arith, with .kept, return-type .kept, params .kept)
 
   pub same-length-11 : lts.Need-same-length-11 (R t) (signature-at t) signature.Post
   same-length-11 c =
       let params = c .before .before .before .before .before .before .before .before .before .before .before .before .before .before .before .before .before .before .before .before .before .before .before .before .before .before .before .before .before .before .before .before .before .before .before .params in
       let return-type = c .before .before .before .before .before .before .before .before .before .before .before .before .before .before .before .before .before .before .before .return-type in
-      let with = c .before .before .before .before .before .before .before .before .before .with in
-      let function-node = c .before .before .before .before .function-node in
-      omega (arith, function-node .kept, with .kept, return-type .kept, params .kept)
+      omega (arith, return-type .kept, params .kept)
 
   pub same-length-12 : lts.Need-same-length-12 (R t) (signature-at t) signature.Post
   same-length-12 c =
       let params = c .before .before .before .before .before .before .before .before .before .before .before .before .before .before .before .before .before .before .before .before .before .before .before .before .before .before .before .before .before .before .before .before .before .before .before .params in
       let return-type = c .before .before .before .before .before .before .before .before .before .before .before .before .before .before .before .before .before .before .before .return-type in
-      let with = c .before .before .before .before .before .before .before .before .before .with in
-      let function-node = c .before .before .before .before .function-node in
-      omega (arith, function-node .kept, with .kept, return-type .kept, params .kept)
+      omega (arith, return-type .kept, params .kept)
 
   pub returns-4 : lts.Need-returns-4 (R t) (signature-at t) signature.Post
   returns-4 c =
       let args = c .before .before .before .before .before .before .before .before .before .before .before .before .before .before .before .before .before .before .before .before .before .before .before .before .before .before .before .before .before .before .before .before .before .before .before .before .before .before .before .before .before .before .before .before .args in
-      let good = c .before .before .before .before .before .before .before .before .before .before .before .before .before .before .before .before .before .before .before .before .before .before .before .before .before .before .before .before .before .before .before .before .before .before .before .before .before .before .before .before .before .before .before .before .good in
-      let pre = c .before .before .before .before .before .before .before .before .before .before .before .before .before .before .before .before .before .before .before .before .before .before .before .before .before .before .before .before .before .before .before .before .before .before .before .before .before .before .before .before .before .before .before .before .pre in
       let params = c .before .before .before .before .before .before .before .before .before .before .before .before .before .before .before .before .before .before .before .before .before .before .before .before .before .before .before .before .before .before .before .before .before .before .before .params in
       let if1 = c .before .before .before .before .before .before .before .before .before .before .before .before .before .before .before .before .before .before .before .before .before .before .before .before .before .before .before .if1 in
       let kind-at = c .before .before .before .before .before .before .before .before .before .before .before .before .before .before .before .before .before .before .before .before .before .before .before .before .before .kind-at in
@@ -228,6 +194,9 @@ module _ (t : ℕ) where
             (signature-goes _ _ _ _ _ ts _ (got .is) (is-here (args .words .now) (params .result .m) (kind-at .ensures .0) (if2 .left)) ∙ then-read _ (ret .is))
             (signature-node text (args .words .now) (args .given) _ (args .h) (with .result) (return-type .result) ts got ret
             (with .ensures .0 .1) (with .ensures .0 .2) (with .ensures .0 .3) (with .ensures .0 .4)
-            (function-node .ensures .0) (omega (arith, return-type .kept)) i there many n),
-        (omega (arith, function-node .ensures .1, function-node .kept, with .ensures .0 .0, with .ensures .0 .1, ap (λ (x : This). x .bits) (with .ensures .0 .2), same-mark (with .ensures .0 .3), with .ensures .1, with .kept, if3, return-type .ensures .1 .0, return-type .kept, return-type .ensures .1 .1 (if3 .left), if2, kind-at .ensures .0, kind-at .ensures .1, if1, params .ensures .1 .0, params .kept, params .ensures .1 .1 (if1 .left), pre, good), λ z. omega (arith, function-node .ensures .1, function-node .kept, with .ensures .0 .0, with .ensures .0 .1, ap (λ (x : This). x .bits) (with .ensures .0 .2), same-mark (with .ensures .0 .3), with .ensures .1, with .kept, if3, return-type .ensures .1 .0, return-type .kept, return-type .ensures .1 .1 (if3 .left), if2, kind-at .ensures .0, kind-at .ensures .1, if1, params .ensures .1 .0, params .kept, params .ensures .1 .1 (if1 .left), pre, good, z)),
+            (function-node .ensures .0) (omega arith) i there many n),
+        (
+          omega arith,
+          λ z. omega (arith, with .ensures .0 .1, ap (λ (x : This). x .bits) (with .ensures .0 .2), same-mark (with .ensures .0 .3), with .ensures .1, return-type .ensures .1 .0, return-type .ensures .1 .1 (if3 .left), kind-at .ensures .0, kind-at .ensures .1, params .ensures .1 .0, params .ensures .1 .1 (if1 .left)),
+        ),
       )

@@ -1,31 +1,22 @@
 -- The needs of `template`.
-use Prim.Native.Nat.{ℕ, suc, _+_, _-_, _*_, _^_, _≤_, _<_}
+use Prim.Native.Nat.{ℕ, _-_, _*_}
 use native.Mathlib.Omega.{arith}
 use borrow.Author.Needs.{needs}
-use borrow.Author.Tests.{not-true, not-false}
-use mathlib.Core.Path.{_≡_, refl, sym, _∙_, ap, subst}
-use mathlib.Core.List.{List, [], _∷_, _++_}
+use mathlib.Core.Path.{_≡_, sym, _∙_}
+use mathlib.Core.List.{List}
 use lib.ListN.{length}
 use Rattle.parts.specs.MarkLaws.{is-not-here}
 use Rattle.parts.specs.Answers.{says-as, says-same, says-stop}
-use Rattle.readers.specs.PieceTurns.{laid-head, pieces-start, template-starts, pieces-refused, pieces-stop, pieces-again, pieces-end}
-use Rattle.parts.specs.declared.function.This.{This}
-use Rattle.readers.specs.Fields.{same-mark, same-kids, same-answer, same-listed, same-params}
-use Rattle.words.specs.Limits.{tallest}
-use Rattle.words.specs.Kind.{Pipe, Amp, LBrack, TemplateHead}
+use Rattle.words.specs.Kind.{TemplateHead}
 use Rattle.words.specs.Cursor.{kindAt}
-use Rattle.keys.specs.Placed as node
-use Rattle.keys.specs.Placed.{Placed, Opt}
-use Rattle.keys.specs.Store.{Run}
 use Rattle.rules.specs.State.{spelling}
-use Rattle.rules.specs.Function.{ThisParameter}
-use Rattle.rules.specs.Union as unions
-use Rattle.rules.specs.Operator as operators
-use Rattle.parts.specs.Marks.{view, givenOf, Spelt, Fine, Under, placeOf}
-use Rattle.parts.specs.Laid.{runIn, nameRun, IsNode, Was, was, Laid, BuiltAt, Stands}
+use Rattle.parts.specs.Marks.{view, givenOf, Spelt, Under, placeOf}
+use Rattle.parts.specs.Laid.{nameRun, Was, was, Laid}
 use Rattle.parts.specs.Ring.{below}
 use Rattle.readers.specs.Kept.{Kept}
-use Rattle.readers.specs.Loops.{TypesTurn, ArgumentsTurn, ParametersTurn, PartsTurn, SuffixTurn, TupleTurn, PiecesTurn}
+use Rattle.readers.specs.Fields.{same-mark, same-kids, same-answer}
+use Rattle.readers.specs.Loops.{PiecesTurn}
+use Rattle.readers.specs.PieceTurns.{laid-head, pieces-start, template-starts, pieces-refused, pieces-stop, pieces-again, pieces-end}
 use Rattle.parts.proofs.names.spell.Reads as spell-reads
 use Rattle.parts.proofs.node.link.Reads as link-reads
 use Rattle.parts.proofs.node.put_list.Reads as put-list-reads
@@ -44,7 +35,8 @@ R t = (spell-reads.Asked, spell-reads.Learnt, state-Kids-none-reads.Asked, state
 abbrev pub Inv-loop : lts.InvT-loop
 Inv-loop words classes nodes₀ names₀ notes₀ given m p₀ k₀ nodes names notes p k =
     Kept (length words) given nodes₀ names₀ notes₀ p₀ nodes names notes p × (Under (p .used) k)
-    × (kindAt words (m .at) (m .half) ≡ TemplateHead → (text : List ℕ) (B : Was) → Spelt text words → Laid B (nameRun (spelling (givenOf text words given) (view m notes₀))) (p₀ .used) (p₀ .named) (p₀ .noted) nodes₀ names₀ notes₀ → PiecesTurn (givenOf text words given) (below given (givenOf text words given)) (view m notes₀) (view p₀ notes₀) B k p nodes names notes)
+    ×
+    (kindAt words (m .at) (m .half) ≡ TemplateHead → (text : List ℕ) (B : Was) → Spelt text words → Laid B (nameRun (spelling (givenOf text words given) (view m notes₀))) (p₀ .used) (p₀ .named) (p₀ .noted) nodes₀ names₀ notes₀ → PiecesTurn (givenOf text words given) (below given (givenOf text words given)) (view m notes₀) (view p₀ notes₀) B k p nodes names notes)
 
 abbrev pub μ-loop : lts.MeasureT-loop
 μ-loop words classes nodes₀ names₀ notes₀ given m p₀ k₀ nodes names notes p k =
@@ -53,59 +45,40 @@ abbrev pub μ-loop : lts.MeasureT-loop
 module _ (t : ℕ) where
   pub spell-requires : lts.Need-spell-requires (R t) (template-at t) template.Post Inv-loop μ-loop
   spell-requires c κs =
-      let good = c .before .before .before .before .before .good in
       let pre = c .before .before .before .before .before .pre in
-      (pre .1 .1, omega (arith, pre, good), omega (arith, pre, good))
+      (pre .1 .1, omega arith, omega arith)
 
   pub none-requires : lts.Need-none-requires (R t) (template-at t) template.Post Inv-loop μ-loop
-  none-requires c κs =
-      search needs
+  none-requires c κs = search needs
 
   pub loop-holds : lts.Need-loop-holds (R t) (template-at t) template.Post Inv-loop μ-loop
   loop-holds c =
-      let good = c .before .before .before .before .before .before .before .before .before .good in
-      let pre = c .before .before .before .before .before .before .before .before .before .pre in
       let spell = c .before .before .before .spell in
-      let none = c .none in
-      (omega (arith, same-kids (none .ensures), same-mark (spell .ensures .0), spell .kept, pre, good), omega (arith, same-kids (none .ensures), same-mark (spell .ensures .0), spell .kept, pre, good), λ h text B s d. pieces-start (spell .result) (none .ensures) d)
+      let none = c .none in (
+        omega (arith, same-mark (spell .ensures .0)),
+        omega (arith, same-kids (none .ensures)),
+        λ h text B s d. pieces-start (spell .result) (none .ensures) d,
+      )
 
   pub ty-requires : lts.Need-ty-requires (R t) (template-at t) template.Post Inv-loop μ-loop
   ty-requires c κs =
-      let good = c .before .before .before .before .before .before .before .before .before .before .before .before .before .good in
       let pre = c .before .before .before .before .before .before .before .before .before .before .before .before .before .pre in
       let spell = c .before .before .before .before .before .before .before .spell in
-      let none = c .before .before .before .before .none in
-      let loop = c .before .before .before .loop in
-      (omega (arith, loop .inv .0, loop .inv .1, same-kids (none .ensures), same-mark (spell .ensures .0), spell .kept, pre, good), (pre .1 .0, pre .1 .1, omega (arith, loop .inv .0, loop .inv .1, same-kids (none .ensures), same-mark (spell .ensures .0), spell .kept, pre, good), omega (arith, loop .inv .0, loop .inv .1, same-kids (none .ensures), same-mark (spell .ensures .0), spell .kept, pre, good)))
+      (omega (arith, same-mark (spell .ensures .0)), (pre .1 .0, pre .1 .1, omega arith, omega arith))
 
   pub same-length : lts.Need-same-length (R t) (template-at t) template.Post Inv-loop μ-loop
-  same-length c =
-      let spell = c .before .before .before .before .before .before .before .before .before .before .before .before .before .before .before .before .spell in
-      let loop = c .before .before .before .before .before .before .before .before .before .before .before .before .loop in
-      let ty = c .before .before .before .before .before .before .before .before .ty in
-      omega (arith, ty .kept, loop .inv .0, spell .kept)
+  same-length c = omega arith
 
   pub same-length-2 : lts.Need-same-length-2 (R t) (template-at t) template.Post Inv-loop μ-loop
-  same-length-2 c =
-      let spell = c .before .before .before .before .before .before .before .before .before .before .before .before .before .before .before .before .spell in
-      let loop = c .before .before .before .before .before .before .before .before .before .before .before .before .loop in
-      let ty = c .before .before .before .before .before .before .before .before .ty in
-      omega (arith, ty .kept, loop .inv .0, spell .kept)
+  same-length-2 c = omega arith
 
   pub same-length-3 : lts.Need-same-length-3 (R t) (template-at t) template.Post Inv-loop μ-loop
-  same-length-3 c =
-      let spell = c .before .before .before .before .before .before .before .before .before .before .before .before .before .before .before .before .spell in
-      let loop = c .before .before .before .before .before .before .before .before .before .before .before .before .loop in
-      let ty = c .before .before .before .before .before .before .before .before .ty in
-      omega (arith, ty .kept, loop .inv .0, spell .kept)
+  same-length-3 c = omega arith
 
   pub returns : lts.Need-returns (R t) (template-at t) template.Post Inv-loop μ-loop
   returns c =
       let args = c .before .before .before .before .before .before .before .before .before .before .before .before .before .before .before .before .before .before .before .before .before .before .args in
-      let good = c .before .before .before .before .before .before .before .before .before .before .before .before .before .before .before .before .before .before .before .before .before .before .good in
-      let pre = c .before .before .before .before .before .before .before .before .before .before .before .before .before .before .before .before .before .before .before .before .before .before .pre in
       let spell = c .before .before .before .before .before .before .before .before .before .before .before .before .before .before .before .before .spell in
-      let none = c .before .before .before .before .before .before .before .before .before .before .before .before .before .none in
       let loop = c .before .before .before .before .before .before .before .before .before .before .before .before .loop in
       let ty = c .before .before .before .before .before .before .before .before .ty in
       let if1 = c .if1 in (
@@ -114,8 +87,9 @@ module _ (t : ℕ) where
             let begins = template-starts text (args .words .now) (args .given) T (args .m) (spell .result) (args .notes .now) (spell .ensures .0) h in
             let w = loop .inv .2 h text (was (args .m) (args .nodes .now) (args .names .now) (args .notes .now)) s
             (laid-head (args .m) (spell .ensures .0) (spell .ensures .1 text s)) in
-            says-stop (if1 .taken) (begins ∙ pieces-refused text (args .words .now) (args .given) T (view (args .m) (args .notes .now)) (loop .p) w (ty .ensures .0 text s .refused (if1 .taken))),
-        (omega (arith, if1, ty .ensures .1 .0, ty .kept, loop .inv .0, loop .inv .1, same-kids (none .ensures), same-mark (spell .ensures .0), spell .kept, pre, good), λ z. omega (arith, if1, ty .ensures .1 .0, ty .kept, loop .inv .0, loop .inv .1, same-kids (none .ensures), same-mark (spell .ensures .0), spell .kept, pre, good, z)),
+            says-stop (if1 .taken)
+            (begins ∙ pieces-refused text (args .words .now) (args .given) T (view (args .m) (args .notes .now)) (loop .p) w (ty .ensures .0 text s .refused (if1 .taken))),
+        (omega arith, λ z. omega arith),
       )
 
   pub link-requires : lts.Need-link-requires (R t) (template-at t) template.Post Inv-loop μ-loop
@@ -127,40 +101,20 @@ module _ (t : ℕ) where
       let loop = c .before .before .before .before .before .before .before .before .before .before .before .before .before .before .loop in
       let ty = c .before .before .before .before .before .before .before .before .before .before .ty in
       let if1 = c .before .before .if1 in
-      omega (arith, if1, ty .ensures .1 .0, ty .kept, ty .ensures .1 .1 (if1 .left), loop .inv .0, loop .inv .1, same-kids (none .ensures), same-mark (spell .ensures .0), spell .kept, pre, good)
+      omega (arith, ty .ensures .1 .1 (if1 .left), loop .inv .0, loop .inv .1, same-kids (none .ensures), same-mark (spell .ensures .0), pre, good)
 
   pub kind-at-requires : lts.Need-kind-at-requires (R t) (template-at t) template.Post Inv-loop μ-loop
-  kind-at-requires c κs =
-      search needs
+  kind-at-requires c κs = search needs
 
   pub spell-requires-2 : lts.Need-spell-requires-2 (R t) (template-at t) template.Post Inv-loop μ-loop
   spell-requires-2 c κs =
-      let good = c .before .before .before .before .before .before .before .before .before .before .before .before .before .before .before .before .before .before .before .before .before .before .before .before .before .before .before .before .before .before .good in
       let pre = c .before .before .before .before .before .before .before .before .before .before .before .before .before .before .before .before .before .before .before .before .before .before .before .before .before .before .before .before .before .before .pre in
-      let spell = c .before .before .before .before .before .before .before .before .before .before .before .before .before .before .before .before .before .before .before .before .before .before .before .before .spell in
-      let none = c .before .before .before .before .before .before .before .before .before .before .before .before .before .before .before .before .before .before .before .before .before .none in
-      let loop = c .before .before .before .before .before .before .before .before .before .before .before .before .before .before .before .before .before .before .before .before .loop in
-      let ty = c .before .before .before .before .before .before .before .before .before .before .before .before .before .before .before .before .ty in
-      let if1 = c .before .before .before .before .before .before .before .before .if1 in
-      let link = c .before .before .before .before .before .link in
-      let kind-at = c .before .before .kind-at in
-      let if2 = c .before .if2 in
-      (pre .1 .1, omega (arith, if2, kind-at .ensures .0, kind-at .ensures .1, link .ensures .1, link .kept, if1, ty .ensures .1 .0, ty .kept, ty .ensures .1 .1 (if1 .left), loop .inv .0, loop .inv .1, same-kids (none .ensures), same-mark (spell .ensures .0), spell .kept, pre, good), omega (arith, if2, kind-at .ensures .0, kind-at .ensures .1, link .ensures .1, link .kept, if1, ty .ensures .1 .0, ty .kept, ty .ensures .1 .1 (if1 .left), loop .inv .0, loop .inv .1, same-kids (none .ensures), same-mark (spell .ensures .0), spell .kept, pre, good))
+      (pre .1 .1, omega arith, omega arith)
 
   pub at-requires : lts.Need-at-requires (R t) (template-at t) template.Post Inv-loop μ-loop
   at-requires c κs =
-      let good = c .before .before .before .before .before .before .before .before .before .before .before .before .before .before .before .before .before .before .before .before .before .before .before .before .before .before .before .before .before .before .before .before .before .good in
       let pre = c .before .before .before .before .before .before .before .before .before .before .before .before .before .before .before .before .before .before .before .before .before .before .before .before .before .before .before .before .before .before .before .before .before .pre in
-      let spell = c .before .before .before .before .before .before .before .before .before .before .before .before .before .before .before .before .before .before .before .before .before .before .before .before .before .before .before .spell in
-      let none = c .before .before .before .before .before .before .before .before .before .before .before .before .before .before .before .before .before .before .before .before .before .before .before .before .none in
-      let loop = c .before .before .before .before .before .before .before .before .before .before .before .before .before .before .before .before .before .before .before .before .before .before .before .loop in
-      let ty = c .before .before .before .before .before .before .before .before .before .before .before .before .before .before .before .before .before .before .before .ty in
-      let if1 = c .before .before .before .before .before .before .before .before .before .before .before .if1 in
-      let link = c .before .before .before .before .before .before .before .before .link in
-      let kind-at = c .before .before .before .before .before .kind-at in
-      let if2 = c .before .before .before .before .if2 in
-      let spell2 = c .before .before .spell2 in
-      (pre .1 .1, omega (arith, same-mark (spell2 .ensures .0), spell2 .kept, if2, kind-at .ensures .0, kind-at .ensures .1, link .ensures .1, link .kept, if1, ty .ensures .1 .0, ty .kept, ty .ensures .1 .1 (if1 .left), loop .inv .0, loop .inv .1, same-kids (none .ensures), same-mark (spell .ensures .0), spell .kept, pre, good))
+      (pre .1 .1, omega arith)
 
   pub put-list-requires : lts.Need-put-list-requires (R t) (template-at t) template.Post Inv-loop μ-loop
   put-list-requires c κs =
@@ -175,8 +129,15 @@ module _ (t : ℕ) where
       let kind-at = c .before .before .before .before .before .before .before .kind-at in
       let if2 = c .before .before .before .before .before .before .if2 in
       let spell2 = c .before .before .before .before .spell2 in
-      let at = c .before .at in
-      (pre .1 .1, omega (arith, at .ensures .0, at .ensures .1, same-mark (spell2 .ensures .0), spell2 .kept, if2, kind-at .ensures .0, kind-at .ensures .1, link .ensures .1, link .kept, if1, ty .ensures .1 .0, ty .kept, ty .ensures .1 .1 (if1 .left), loop .inv .0, loop .inv .1, same-kids (none .ensures), same-mark (spell .ensures .0), spell .kept, pre, good), omega (arith, at .ensures .0, at .ensures .1, same-mark (spell2 .ensures .0), spell2 .kept, if2, kind-at .ensures .0, kind-at .ensures .1, link .ensures .1, link .kept, if1, ty .ensures .1 .0, ty .kept, ty .ensures .1 .1 (if1 .left), loop .inv .0, loop .inv .1, same-kids (none .ensures), same-mark (spell .ensures .0), spell .kept, pre, good), omega (arith, at .ensures .0, at .ensures .1, same-mark (spell2 .ensures .0), spell2 .kept, if2, kind-at .ensures .0, kind-at .ensures .1, link .ensures .1, link .kept, if1, ty .ensures .1 .0, ty .kept, ty .ensures .1 .1 (if1 .left), loop .inv .0, loop .inv .1, same-kids (none .ensures), same-mark (spell .ensures .0), spell .kept, pre, good), omega (arith, at .ensures .0, at .ensures .1, same-mark (spell2 .ensures .0), spell2 .kept, if2, kind-at .ensures .0, kind-at .ensures .1, link .ensures .1, link .kept, if1, ty .ensures .1 .0, ty .kept, ty .ensures .1 .1 (if1 .left), loop .inv .0, loop .inv .1, same-kids (none .ensures), same-mark (spell .ensures .0), spell .kept, pre, good), omega (arith, at .ensures .0, at .ensures .1, same-mark (spell2 .ensures .0), spell2 .kept, if2, kind-at .ensures .0, kind-at .ensures .1, link .ensures .1, link .kept, if1, ty .ensures .1 .0, ty .kept, ty .ensures .1 .1 (if1 .left), loop .inv .0, loop .inv .1, same-kids (none .ensures), same-mark (spell .ensures .0), spell .kept, pre, good), omega (arith, at .ensures .0, at .ensures .1, same-mark (spell2 .ensures .0), spell2 .kept, if2, kind-at .ensures .0, kind-at .ensures .1, link .ensures .1, link .kept, if1, ty .ensures .1 .0, ty .kept, ty .ensures .1 .1 (if1 .left), loop .inv .0, loop .inv .1, same-kids (none .ensures), same-mark (spell .ensures .0), spell .kept, pre, good))
+      let at = c .before .at in (
+        pre .1 .1,
+        omega (arith, same-kids (none .ensures), same-mark (spell .ensures .0)),
+        omega (arith, same-mark (spell2 .ensures .0), if2, kind-at .ensures .0, kind-at .ensures .1, link .ensures .1, if1, ty .ensures .1 .0, ty .ensures .1 .1 (if1 .left), loop .inv .0, loop .inv .1, same-kids (none .ensures), same-mark (spell .ensures .0), pre, good),
+        omega (arith, same-mark (spell2 .ensures .0), ty .ensures .1 .1 (if1 .left), same-kids (none .ensures), same-mark (spell .ensures .0)),
+        omega arith,
+        omega (arith, at .ensures .0, at .ensures .1, same-mark (spell2 .ensures .0), spell2 .kept, if2, kind-at .ensures .0, kind-at .ensures .1, link .ensures .1, link .kept, if1, ty .ensures .1 .0, ty .kept, ty .ensures .1 .1 (if1 .left), loop .inv .0, loop .inv .1, same-kids (none .ensures), same-mark (spell .ensures .0), spell .kept, pre, good),
+        omega arith,
+      )
 
   pub same-length-4 : lts.Need-same-length-4 (R t) (template-at t) template.Post Inv-loop μ-loop
   same-length-4 c =
@@ -184,29 +145,22 @@ module _ (t : ℕ) where
       let loop = c .before .before .before .before .before .before .before .before .before .before .before .before .before .before .before .before .before .before .before .before .before .before .before .before .before .before .before .before .loop in
       let ty = c .before .before .before .before .before .before .before .before .before .before .before .before .before .before .before .before .before .before .before .before .before .before .before .before .ty in
       let link = c .before .before .before .before .before .before .before .before .before .before .before .before .before .link in
-      let spell2 = c .before .before .before .before .before .before .before .spell2 in
-      let put-list = c .before .before .put-list in
-      omega (arith, put-list .kept, spell2 .kept, link .kept, ty .kept, loop .inv .0, spell .kept)
+      omega (arith, link .kept, ty .kept, loop .inv .0, spell .kept)
 
   pub same-length-5 : lts.Need-same-length-5 (R t) (template-at t) template.Post Inv-loop μ-loop
   same-length-5 c =
       let spell = c .before .before .before .before .before .before .before .before .before .before .before .before .before .before .before .before .before .before .before .before .before .before .before .before .before .before .before .before .before .before .before .before .spell in
       let loop = c .before .before .before .before .before .before .before .before .before .before .before .before .before .before .before .before .before .before .before .before .before .before .before .before .before .before .before .before .loop in
       let ty = c .before .before .before .before .before .before .before .before .before .before .before .before .before .before .before .before .before .before .before .before .before .before .before .before .ty in
-      let link = c .before .before .before .before .before .before .before .before .before .before .before .before .before .link in
       let spell2 = c .before .before .before .before .before .before .before .spell2 in
-      let put-list = c .before .before .put-list in
-      omega (arith, put-list .kept, spell2 .kept, link .kept, ty .kept, loop .inv .0, spell .kept)
+      omega (arith, spell2 .kept, ty .kept, loop .inv .0, spell .kept)
 
   pub same-length-6 : lts.Need-same-length-6 (R t) (template-at t) template.Post Inv-loop μ-loop
   same-length-6 c =
       let spell = c .before .before .before .before .before .before .before .before .before .before .before .before .before .before .before .before .before .before .before .before .before .before .before .before .before .before .before .before .before .before .before .before .spell in
       let loop = c .before .before .before .before .before .before .before .before .before .before .before .before .before .before .before .before .before .before .before .before .before .before .before .before .before .before .before .before .loop in
       let ty = c .before .before .before .before .before .before .before .before .before .before .before .before .before .before .before .before .before .before .before .before .before .before .before .before .ty in
-      let link = c .before .before .before .before .before .before .before .before .before .before .before .before .before .link in
-      let spell2 = c .before .before .before .before .before .before .before .spell2 in
-      let put-list = c .before .before .put-list in
-      omega (arith, put-list .kept, spell2 .kept, link .kept, ty .kept, loop .inv .0, spell .kept)
+      omega (arith, ty .kept, loop .inv .0, spell .kept)
 
   pub returns-2 : lts.Need-returns-2 (R t) (template-at t) template.Post Inv-loop μ-loop
   returns-2 c =
@@ -233,48 +187,39 @@ module _ (t : ℕ) where
             (pieces-end text (args .words .now) (args .given) T (view (args .m) (args .notes .now)) (loop .p) w (ty .result .m) (ty .ensures .0 text s .done (if1 .left))
             (link .ensures .0) (omega (arith, ty .kept)) (link .ensures .1 .1) (spell2 .ensures .0) (spell2 .ensures .1 text s)
             (sym (kind-at .ensures .0) ∙ if2 .taken) (at .ensures .0 .0) (at .ensures .0 .1) (put-list .ensures .0)),
-        (omega (arith, put-list .ensures .1, put-list .kept, at .ensures .0, at .ensures .1, same-mark (spell2 .ensures .0), spell2 .kept, if2, kind-at .ensures .0, kind-at .ensures .1, link .ensures .1, link .kept, if1, ty .ensures .1 .0, ty .kept, ty .ensures .1 .1 (if1 .left), loop .inv .0, loop .inv .1, same-kids (none .ensures), same-mark (spell .ensures .0), spell .kept, pre, good), λ z. omega (arith, put-list .ensures .1, put-list .kept, at .ensures .0, at .ensures .1, same-mark (spell2 .ensures .0), spell2 .kept, if2, kind-at .ensures .0, kind-at .ensures .1, link .ensures .1, link .kept, if1, ty .ensures .1 .0, ty .kept, ty .ensures .1 .1 (if1 .left), loop .inv .0, loop .inv .1, same-kids (none .ensures), same-mark (spell .ensures .0), spell .kept, pre, good, z)),
+        (
+          omega (arith, at .ensures .0, at .ensures .1, same-mark (spell2 .ensures .0), kind-at .ensures .0, kind-at .ensures .1, link .ensures .1, ty .ensures .1 .0, ty .ensures .1 .1 (if1 .left), loop .inv .0, loop .inv .1, same-kids (none .ensures), same-mark (spell .ensures .0)),
+          λ z. omega (arith, at .ensures .0, at .ensures .1, same-mark (spell2 .ensures .0), if2, kind-at .ensures .0, kind-at .ensures .1, link .ensures .1, if1, ty .ensures .1 .0, ty .ensures .1 .1 (if1 .left), loop .inv .0, loop .inv .1, same-kids (none .ensures), same-mark (spell .ensures .0), pre, good, z),
+        ),
       )
 
   pub refused-requires : lts.Need-refused-requires (R t) (template-at t) template.Post Inv-loop μ-loop
-  refused-requires c κs =
-      search needs
+  refused-requires c κs = search needs
 
   pub same-length-7 : lts.Need-same-length-7 (R t) (template-at t) template.Post Inv-loop μ-loop
   same-length-7 c =
-      let spell = c .before .before .before .before .before .before .before .before .before .before .before .before .before .before .before .before .before .before .before .before .before .before .before .before .before .spell in
       let loop = c .before .before .before .before .before .before .before .before .before .before .before .before .before .before .before .before .before .before .before .before .before .loop in
-      let ty = c .before .before .before .before .before .before .before .before .before .before .before .before .before .before .before .before .before .ty in
-      let link = c .before .before .before .before .before .before .link in
-      omega (arith, link .kept, ty .kept, loop .inv .0, spell .kept)
+      omega (arith, loop .inv .0)
 
   pub same-length-8 : lts.Need-same-length-8 (R t) (template-at t) template.Post Inv-loop μ-loop
   same-length-8 c =
       let spell = c .before .before .before .before .before .before .before .before .before .before .before .before .before .before .before .before .before .before .before .before .before .before .before .before .before .spell in
       let loop = c .before .before .before .before .before .before .before .before .before .before .before .before .before .before .before .before .before .before .before .before .before .loop in
       let ty = c .before .before .before .before .before .before .before .before .before .before .before .before .before .before .before .before .before .ty in
-      let link = c .before .before .before .before .before .before .link in
-      omega (arith, link .kept, ty .kept, loop .inv .0, spell .kept)
+      omega (arith, ty .kept, loop .inv .0, spell .kept)
 
   pub same-length-9 : lts.Need-same-length-9 (R t) (template-at t) template.Post Inv-loop μ-loop
   same-length-9 c =
-      let spell = c .before .before .before .before .before .before .before .before .before .before .before .before .before .before .before .before .before .before .before .before .before .before .before .before .before .spell in
       let loop = c .before .before .before .before .before .before .before .before .before .before .before .before .before .before .before .before .before .before .before .before .before .loop in
-      let ty = c .before .before .before .before .before .before .before .before .before .before .before .before .before .before .before .before .before .ty in
-      let link = c .before .before .before .before .before .before .link in
-      omega (arith, link .kept, ty .kept, loop .inv .0, spell .kept)
+      omega (arith, loop .inv .0)
 
   pub returns-3 : lts.Need-returns-3 (R t) (template-at t) template.Post Inv-loop μ-loop
   returns-3 c =
       let args = c .before .before .before .before .before .before .before .before .before .before .before .before .before .before .before .before .before .before .before .before .before .before .before .before .before .before .before .before .before .before .before .args in
-      let good = c .before .before .before .before .before .before .before .before .before .before .before .before .before .before .before .before .before .before .before .before .before .before .before .before .before .before .before .before .before .before .before .good in
-      let pre = c .before .before .before .before .before .before .before .before .before .before .before .before .before .before .before .before .before .before .before .before .before .before .before .before .before .before .before .before .before .before .before .pre in
       let spell = c .before .before .before .before .before .before .before .before .before .before .before .before .before .before .before .before .before .before .before .before .before .before .before .before .before .spell in
-      let none = c .before .before .before .before .before .before .before .before .before .before .before .before .before .before .before .before .before .before .before .before .before .before .none in
       let loop = c .before .before .before .before .before .before .before .before .before .before .before .before .before .before .before .before .before .before .before .before .before .loop in
       let ty = c .before .before .before .before .before .before .before .before .before .before .before .before .before .before .before .before .before .ty in
       let if1 = c .before .before .before .before .before .before .before .before .before .if1 in
-      let link = c .before .before .before .before .before .before .link in
       let kind-at = c .before .before .before .kind-at in
       let if2 = c .before .before .if2 in
       let if3 = c .before .if3 in
@@ -285,49 +230,28 @@ module _ (t : ℕ) where
             let w = loop .inv .2 h text (was (args .m) (args .nodes .now) (args .names .now) (args .notes .now)) s
             (laid-head (args .m) (spell .ensures .0) (spell .ensures .1 text s)) in
             says-as (refused .ensures)
-            (says-stop (λ z. omega (arith, z))
+            (says-stop (λ z. omega arith)
             (begins ∙ pieces-stop text (args .words .now) (args .given) T (view (args .m) (args .notes .now)) (loop .p) w (ty .result .m) (ty .ensures .0 text s .done (if1 .left))
             (is-not-here (args .words .now) (ty .result .m) (kind-at .ensures .0) (if3 .taken))
             (is-not-here (args .words .now) (ty .result .m) (kind-at .ensures .0) (if2 .left)))),
-        (omega (arith, same-answer (refused .ensures), if3, if2, kind-at .ensures .0, kind-at .ensures .1, link .ensures .1, link .kept, if1, ty .ensures .1 .0, ty .kept, ty .ensures .1 .1 (if1 .left), loop .inv .0, loop .inv .1, same-kids (none .ensures), same-mark (spell .ensures .0), spell .kept, pre, good), λ z. omega (arith, same-answer (refused .ensures), if3, if2, kind-at .ensures .0, kind-at .ensures .1, link .ensures .1, link .kept, if1, ty .ensures .1 .0, ty .kept, ty .ensures .1 .1 (if1 .left), loop .inv .0, loop .inv .1, same-kids (none .ensures), same-mark (spell .ensures .0), spell .kept, pre, good, z)),
+        (omega (arith, same-answer (refused .ensures)), λ z. omega (arith, same-answer (refused .ensures))),
       )
 
   pub spell-requires-3 : lts.Need-spell-requires-3 (R t) (template-at t) template.Post Inv-loop μ-loop
   spell-requires-3 c κs =
-      let good = c .before .before .before .before .before .before .before .before .before .before .before .before .before .before .before .before .before .before .before .before .before .before .before .before .before .before .before .before .before .before .before .good in
       let pre = c .before .before .before .before .before .before .before .before .before .before .before .before .before .before .before .before .before .before .before .before .before .before .before .before .before .before .before .before .before .before .before .pre in
-      let spell = c .before .before .before .before .before .before .before .before .before .before .before .before .before .before .before .before .before .before .before .before .before .before .before .before .before .spell in
-      let none = c .before .before .before .before .before .before .before .before .before .before .before .before .before .before .before .before .before .before .before .before .before .before .none in
-      let loop = c .before .before .before .before .before .before .before .before .before .before .before .before .before .before .before .before .before .before .before .before .before .loop in
-      let ty = c .before .before .before .before .before .before .before .before .before .before .before .before .before .before .before .before .before .ty in
-      let if1 = c .before .before .before .before .before .before .before .before .before .if1 in
-      let link = c .before .before .before .before .before .before .link in
-      let kind-at = c .before .before .before .kind-at in
-      let if2 = c .before .before .if2 in
-      let if3 = c .before .if3 in
-      (pre .1 .1, omega (arith, if3, if2, kind-at .ensures .0, kind-at .ensures .1, link .ensures .1, link .kept, if1, ty .ensures .1 .0, ty .kept, ty .ensures .1 .1 (if1 .left), loop .inv .0, loop .inv .1, same-kids (none .ensures), same-mark (spell .ensures .0), spell .kept, pre, good), omega (arith, if3, if2, kind-at .ensures .0, kind-at .ensures .1, link .ensures .1, link .kept, if1, ty .ensures .1 .0, ty .kept, ty .ensures .1 .1 (if1 .left), loop .inv .0, loop .inv .1, same-kids (none .ensures), same-mark (spell .ensures .0), spell .kept, pre, good))
+      (pre .1 .1, omega arith, omega arith)
 
   pub loop-less : lts.Need-loop-less (R t) (template-at t) template.Post Inv-loop μ-loop
   loop-less c =
-      let good = c .before .before .before .before .before .before .before .before .before .before .before .before .before .before .before .before .before .before .before .before .before .before .before .before .before .before .before .before .before .before .before .before .before .before .good in
-      let pre = c .before .before .before .before .before .before .before .before .before .before .before .before .before .before .before .before .before .before .before .before .before .before .before .before .before .before .before .before .before .before .before .before .before .before .pre in
-      let spell = c .before .before .before .before .before .before .before .before .before .before .before .before .before .before .before .before .before .before .before .before .before .before .before .before .before .before .before .before .spell in
-      let none = c .before .before .before .before .before .before .before .before .before .before .before .before .before .before .before .before .before .before .before .before .before .before .before .before .before .none in
-      let loop = c .before .before .before .before .before .before .before .before .before .before .before .before .before .before .before .before .before .before .before .before .before .before .before .before .loop in
       let ty = c .before .before .before .before .before .before .before .before .before .before .before .before .before .before .before .before .before .before .before .before .ty in
       let if1 = c .before .before .before .before .before .before .before .before .before .before .before .before .if1 in
-      let link = c .before .before .before .before .before .before .before .before .before .link in
-      let kind-at = c .before .before .before .before .before .before .kind-at in
-      let if2 = c .before .before .before .before .before .if2 in
-      let if3 = c .before .before .before .before .if3 in
       let spell3 = c .before .before .spell3 in
-      omega (arith, same-mark (spell3 .ensures .0), spell3 .kept, if3, if2, kind-at .ensures .0, kind-at .ensures .1, link .ensures .1, link .kept, if1, ty .ensures .1 .0, ty .kept, ty .ensures .1 .1 (if1 .left), loop .inv .0, loop .inv .1, same-kids (none .ensures), same-mark (spell .ensures .0), spell .kept, pre, good)
+      omega (arith, same-mark (spell3 .ensures .0), ty .ensures .1 .1 (if1 .left))
 
   pub loop-again : lts.Need-loop-again (R t) (template-at t) template.Post Inv-loop μ-loop
   loop-again c =
       let args = c .before .before .before .before .before .before .before .before .before .before .before .before .before .before .before .before .before .before .before .before .before .before .before .before .before .before .before .before .before .before .before .before .before .before .args in
-      let good = c .before .before .before .before .before .before .before .before .before .before .before .before .before .before .before .before .before .before .before .before .before .before .before .before .before .before .before .before .before .before .before .before .before .before .good in
-      let pre = c .before .before .before .before .before .before .before .before .before .before .before .before .before .before .before .before .before .before .before .before .before .before .before .before .before .before .before .before .before .before .before .before .before .before .pre in
       let spell = c .before .before .before .before .before .before .before .before .before .before .before .before .before .before .before .before .before .before .before .before .before .before .before .before .before .before .before .before .spell in
       let none = c .before .before .before .before .before .before .before .before .before .before .before .before .before .before .before .before .before .before .before .before .before .before .before .before .before .none in
       let loop = c .before .before .before .before .before .before .before .before .before .before .before .before .before .before .before .before .before .before .before .before .before .before .before .before .loop in
@@ -335,16 +259,16 @@ module _ (t : ℕ) where
       let if1 = c .before .before .before .before .before .before .before .before .before .before .before .before .if1 in
       let link = c .before .before .before .before .before .before .before .before .before .link in
       let kind-at = c .before .before .before .before .before .before .kind-at in
-      let if2 = c .before .before .before .before .before .if2 in
       let if3 = c .before .before .before .before .if3 in
       let spell3 = c .before .before .spell3 in (
-        omega (arith, same-mark (spell3 .ensures .0), spell3 .kept, if3, if2, kind-at .ensures .0, kind-at .ensures .1, link .ensures .1, link .kept, if1, ty .ensures .1 .0, ty .kept, ty .ensures .1 .1 (if1 .left), loop .inv .0, loop .inv .1, same-kids (none .ensures), same-mark (spell .ensures .0), spell .kept, pre, good),
-        omega (arith, same-mark (spell3 .ensures .0), spell3 .kept, if3, if2, kind-at .ensures .0, kind-at .ensures .1, link .ensures .1, link .kept, if1, ty .ensures .1 .0, ty .kept, ty .ensures .1 .1 (if1 .left), loop .inv .0, loop .inv .1, same-kids (none .ensures), same-mark (spell .ensures .0), spell .kept, pre, good),
+        omega (arith, same-mark (spell3 .ensures .0), link .kept, ty .kept, ty .ensures .1 .1 (if1 .left), same-kids (none .ensures), same-mark (spell .ensures .0), spell .kept),
+        omega (arith, same-mark (spell3 .ensures .0)),
         λ h text B s d.
             let T = below (args .given) (givenOf text (args .words .now) (args .given)) in
             let w = loop .inv .2 h text B s d in
-            pieces-again text (args .words .now) (args .given) T (view (args .m) (args .notes .now)) (loop .p) w (ty .result .m) (ty .ensures .0 text s .done (if1 .left))
-            (link .ensures .0) (omega (arith, ty .kept)) (link .ensures .1 .1) (spell3 .ensures .0) (spell3 .ensures .1 text s)
+            pieces-again text (args .words .now) (args .given) T (view (args .m) (args .notes .now)) (loop .p) w (ty .result .m)
+            (ty .ensures .0 text s .done (if1 .left))
+            (link .ensures .0) (omega arith) (link .ensures .1 .1) (spell3 .ensures .0) (spell3 .ensures .1 text s)
             (sym (kind-at .ensures .0) ∙ if3 .left)
             (omega (arith, ty .ensures .1 .0, ty .ensures .1 .1 (if1 .left))) (omega (arith, ty .ensures .1 .0, ty .ensures .1 .1 (if1 .left))),
       )

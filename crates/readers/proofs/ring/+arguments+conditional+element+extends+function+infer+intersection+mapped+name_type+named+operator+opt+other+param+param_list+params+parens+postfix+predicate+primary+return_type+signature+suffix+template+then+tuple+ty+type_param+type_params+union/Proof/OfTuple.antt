@@ -1,31 +1,21 @@
 -- The needs of `tuple`.
-use Prim.Native.Nat.{ℕ, suc, _+_, _-_, _*_, _^_, _≤_, _<_}
+use Prim.Native.Nat.{ℕ, _-_, _*_}
 use native.Mathlib.Omega.{arith}
 use borrow.Author.Needs.{needs}
-use borrow.Author.Tests.{not-true, not-false}
-use mathlib.Core.Path.{_≡_, refl, sym, _∙_, ap, subst}
-use mathlib.Core.List.{List, [], _∷_, _++_}
+use mathlib.Core.Path.{_≡_}
+use mathlib.Core.List.{List}
 use lib.ListN.{length}
-use Rattle.parts.specs.declared.function.This.{This}
 use Rattle.parts.specs.Answers.{says-same, says-as, says-stop}
 use Rattle.parts.specs.MarkLaws.{is-here, is-not-here}
-use Rattle.readers.specs.TupleTurns.{tuple-begins, tuple-refused, tuple-full, tuple-stops, tuple-again, tuple-closed, tuple-listed}
-use Rattle.readers.specs.Fields.{same-mark, same-kids, same-answer, same-listed, same-params}
-use Rattle.words.specs.Limits.{tallest}
-use Rattle.words.specs.Kind.{Pipe, Amp, LBrack, TemplateHead}
+use Rattle.words.specs.Kind.{LBrack}
 use Rattle.words.specs.Cursor.{kindAt}
-use Rattle.keys.specs.Placed as node
-use Rattle.keys.specs.Placed.{Placed, Opt}
-use Rattle.keys.specs.Store.{Run}
-use Rattle.rules.specs.State.{spelling}
-use Rattle.rules.specs.Function.{ThisParameter}
-use Rattle.rules.specs.Union as unions
-use Rattle.rules.specs.Operator as operators
-use Rattle.parts.specs.Marks.{view, givenOf, Spelt, Fine, Under, placeOf}
-use Rattle.parts.specs.Laid.{runIn, nameRun, IsNode, Was, was, Laid, BuiltAt, Stands}
+use Rattle.parts.specs.Marks.{view, givenOf, Spelt, Under, placeOf}
+use Rattle.parts.specs.Laid.{was}
 use Rattle.parts.specs.Ring.{below}
 use Rattle.readers.specs.Kept.{Kept}
-use Rattle.readers.specs.Loops.{TypesTurn, ArgumentsTurn, ParametersTurn, PartsTurn, SuffixTurn, TupleTurn, PiecesTurn}
+use Rattle.readers.specs.Fields.{same-kids, same-answer}
+use Rattle.readers.specs.Loops.{TupleTurn}
+use Rattle.readers.specs.TupleTurns.{tuple-begins, tuple-refused, tuple-full, tuple-stops, tuple-again, tuple-closed, tuple-listed}
 use Rattle.parts.proofs.list.past_comma.Reads as past-comma-reads
 use Rattle.parts.proofs.node.link.Reads as link-reads
 use Rattle.parts.proofs.state.Answer.refused.Reads as state-Answer-refused-reads
@@ -45,7 +35,8 @@ R t = (state-Kids-none-reads.Asked, state-Kids-none-reads.Learnt, kind-at-reads.
 abbrev pub Inv-loop : lts.InvT-loop
 Inv-loop words classes nodes₀ names₀ notes₀ given m p₀ k₀ seen₀ nodes names notes p k seen =
     Kept (length words) given nodes₀ names₀ notes₀ p₀ nodes names notes p × (Under (p .used) k)
-    × (kindAt words (m .at) (m .half) ≡ LBrack → (text : List ℕ) → Spelt text words → TupleTurn (givenOf text words given) (below given (givenOf text words given)) (view m notes₀) (was m nodes₀ names₀ notes₀) seen k p nodes names notes)
+    ×
+    (kindAt words (m .at) (m .half) ≡ LBrack → (text : List ℕ) → Spelt text words → TupleTurn (givenOf text words given) (below given (givenOf text words given)) (view m notes₀) (was m nodes₀ names₀ notes₀) seen k p nodes names notes)
 
 abbrev pub μ-loop : lts.MeasureT-loop
 μ-loop words classes nodes₀ names₀ notes₀ given m p₀ k₀ seen₀ nodes names notes p k seen =
@@ -54,64 +45,41 @@ abbrev pub μ-loop : lts.MeasureT-loop
 module _ (t : ℕ) where
   pub add-t15 : lts.Need-add-t15 (R t) (tuple-at t) tuple.Post Inv-loop μ-loop
   add-t15 c =
-      let good = c .before .before .before .before .before .good in
-      let pre = c .before .before .before .before .before .pre in
-      omega (arith, pre, good)
+      omega arith
 
   pub none-requires : lts.Need-none-requires (R t) (tuple-at t) tuple.Post Inv-loop μ-loop
-  none-requires c κs =
-      search needs
+  none-requires c κs = search needs
 
   pub loop-holds : lts.Need-loop-holds (R t) (tuple-at t) tuple.Post Inv-loop μ-loop
   loop-holds c =
       let args = c .before .before .before .before .before .before .args in
-      let good = c .before .before .before .before .before .before .good in
-      let pre = c .before .before .before .before .before .before .pre in
       let none = c .none in (
-        omega (arith, same-kids (none .ensures), pre, good),
-        omega (arith, same-kids (none .ensures), pre, good),
+        omega arith,
+        omega (arith, same-kids (none .ensures)),
         λ brack text s.
             tuple-begins _ _ (args .m) _ _ _ (none .ensures) brack,
       )
 
   pub kind-at-requires : lts.Need-kind-at-requires (R t) (tuple-at t) tuple.Post Inv-loop μ-loop
-  kind-at-requires c κs =
-      search needs
+  kind-at-requires c κs = search needs
 
   pub element-requires : lts.Need-element-requires (R t) (tuple-at t) tuple.Post Inv-loop μ-loop
   element-requires c κs =
-      let good = c .before .before .before .before .before .before .before .before .before .before .before .before .good in
       let pre = c .before .before .before .before .before .before .before .before .before .before .before .before .pre in
-      let none = c .before .before .before .before .before .before .none in
-      let loop = c .before .before .before .before .before .loop in
-      let kind-at = c .before .before .before .before .kind-at in
-      let if1 = c .before .before .before .if1 in
-      (omega (arith, if1, kind-at .ensures .0, kind-at .ensures .1, loop .inv .0, loop .inv .1, same-kids (none .ensures), pre, good), (pre .1 .0, pre .1 .1, omega (arith, if1, kind-at .ensures .0, kind-at .ensures .1, loop .inv .0, loop .inv .1, same-kids (none .ensures), pre, good), omega (arith, if1, kind-at .ensures .0, kind-at .ensures .1, loop .inv .0, loop .inv .1, same-kids (none .ensures), pre, good)))
+      (omega arith, (pre .1 .0, pre .1 .1, omega arith, omega arith))
 
   pub same-length : lts.Need-same-length (R t) (tuple-at t) tuple.Post Inv-loop μ-loop
-  same-length c =
-      let loop = c .before .before .before .before .before .before .before .before .before .before .before .before .before .before .loop in
-      let element = c .before .before .before .before .before .before .before .before .element in
-      omega (arith, element .kept, loop .inv .0)
+  same-length c = omega arith
 
   pub same-length-2 : lts.Need-same-length-2 (R t) (tuple-at t) tuple.Post Inv-loop μ-loop
-  same-length-2 c =
-      let loop = c .before .before .before .before .before .before .before .before .before .before .before .before .before .before .loop in
-      let element = c .before .before .before .before .before .before .before .before .element in
-      omega (arith, element .kept, loop .inv .0)
+  same-length-2 c = omega arith
 
   pub same-length-3 : lts.Need-same-length-3 (R t) (tuple-at t) tuple.Post Inv-loop μ-loop
-  same-length-3 c =
-      let loop = c .before .before .before .before .before .before .before .before .before .before .before .before .before .before .loop in
-      let element = c .before .before .before .before .before .before .before .before .element in
-      omega (arith, element .kept, loop .inv .0)
+  same-length-3 c = omega arith
 
   pub returns : lts.Need-returns (R t) (tuple-at t) tuple.Post Inv-loop μ-loop
   returns c =
       let args = c .before .before .before .before .before .before .before .before .before .before .before .before .before .before .before .before .before .before .before .before .before .args in
-      let good = c .before .before .before .before .before .before .before .before .before .before .before .before .before .before .before .before .before .before .before .before .before .good in
-      let pre = c .before .before .before .before .before .before .before .before .before .before .before .before .before .before .before .before .before .before .before .before .before .pre in
-      let none = c .before .before .before .before .before .before .before .before .before .before .before .before .before .before .before .none in
       let loop = c .before .before .before .before .before .before .before .before .before .before .before .before .before .before .loop in
       let kind-at = c .before .before .before .before .before .before .before .before .before .before .before .before .before .kind-at in
       let if1 = c .before .before .before .before .before .before .before .before .before .before .before .before .if1 in
@@ -121,7 +89,7 @@ module _ (t : ℕ) where
             says-stop (if2 .taken)
             (tuple-refused text (args .words .now) (args .given) _ _ (loop .inv .2 brack text s)
             (is-not-here (args .words .now) (loop .p) (kind-at .ensures .0) (if1 .taken)) (element .ensures .0 text s .refused (if2 .taken))),
-        (omega (arith, if2, element .ensures .1 .0, element .kept, if1, kind-at .ensures .0, kind-at .ensures .1, loop .inv .0, loop .inv .1, same-kids (none .ensures), pre, good), λ z. omega (arith, if2, element .ensures .1 .0, element .kept, if1, kind-at .ensures .0, kind-at .ensures .1, loop .inv .0, loop .inv .1, same-kids (none .ensures), pre, good, z)),
+        (omega arith, λ z. omega arith),
       )
 
   pub checked-requires : lts.Need-checked-requires (R t) (tuple-at t) tuple.Post Inv-loop μ-loop
@@ -134,39 +102,30 @@ module _ (t : ℕ) where
       let if1 = c .before .before .before .before .before .before .before .before .before .before .before .before .before .before .if1 in
       let element = c .before .before .before .before .before .before .before .before .before .before .element in
       let if2 = c .before .before .if2 in
-      omega (arith, if2, element .ensures .1 .0, element .kept, element .ensures .1 .1 (if2 .left), if1, kind-at .ensures .0, kind-at .ensures .1, loop .inv .0, loop .inv .1, same-kids (none .ensures), pre, good)
+      omega (arith, element .ensures .1 .1 (if2 .left), if1, kind-at .ensures .0, kind-at .ensures .1, loop .inv .0, loop .inv .1, same-kids (none .ensures), pre, good)
 
   pub refused-requires : lts.Need-refused-requires (R t) (tuple-at t) tuple.Post Inv-loop μ-loop
-  refused-requires c κs =
-      search needs
+  refused-requires c κs = search needs
 
   pub same-length-4 : lts.Need-same-length-4 (R t) (tuple-at t) tuple.Post Inv-loop μ-loop
   same-length-4 c =
       let loop = c .before .before .before .before .before .before .before .before .before .before .before .before .before .before .before .before .before .before .before .before .before .before .loop in
       let element = c .before .before .before .before .before .before .before .before .before .before .before .before .before .before .before .before .element in
-      let checked = c .before .before .before .before .before .checked in
-      omega (arith, checked .kept, element .kept, loop .inv .0)
+      omega (arith, element .kept, loop .inv .0)
 
   pub same-length-5 : lts.Need-same-length-5 (R t) (tuple-at t) tuple.Post Inv-loop μ-loop
   same-length-5 c =
       let loop = c .before .before .before .before .before .before .before .before .before .before .before .before .before .before .before .before .before .before .before .before .before .before .loop in
-      let element = c .before .before .before .before .before .before .before .before .before .before .before .before .before .before .before .before .element in
-      let checked = c .before .before .before .before .before .checked in
-      omega (arith, checked .kept, element .kept, loop .inv .0)
+      omega (arith, loop .inv .0)
 
   pub same-length-6 : lts.Need-same-length-6 (R t) (tuple-at t) tuple.Post Inv-loop μ-loop
   same-length-6 c =
       let loop = c .before .before .before .before .before .before .before .before .before .before .before .before .before .before .before .before .before .before .before .before .before .before .loop in
-      let element = c .before .before .before .before .before .before .before .before .before .before .before .before .before .before .before .before .element in
-      let checked = c .before .before .before .before .before .checked in
-      omega (arith, checked .kept, element .kept, loop .inv .0)
+      omega (arith, loop .inv .0)
 
   pub returns-2 : lts.Need-returns-2 (R t) (tuple-at t) tuple.Post Inv-loop μ-loop
   returns-2 c =
       let args = c .before .before .before .before .before .before .before .before .before .before .before .before .before .before .before .before .before .before .before .before .before .before .before .before .before .before .before .before .before .args in
-      let good = c .before .before .before .before .before .before .before .before .before .before .before .before .before .before .before .before .before .before .before .before .before .before .before .before .before .before .before .before .before .good in
-      let pre = c .before .before .before .before .before .before .before .before .before .before .before .before .before .before .before .before .before .before .before .before .before .before .before .before .before .before .before .before .before .pre in
-      let none = c .before .before .before .before .before .before .before .before .before .before .before .before .before .before .before .before .before .before .before .before .before .before .before .none in
       let loop = c .before .before .before .before .before .before .before .before .before .before .before .before .before .before .before .before .before .before .before .before .before .before .loop in
       let kind-at = c .before .before .before .before .before .before .before .before .before .before .before .before .before .before .before .before .before .before .before .before .before .kind-at in
       let if1 = c .before .before .before .before .before .before .before .before .before .before .before .before .before .before .before .before .before .before .before .before .if1 in
@@ -180,7 +139,7 @@ module _ (t : ℕ) where
             (says-stop (if3 .taken)
             (tuple-full text (args .words .now) (args .given) _ _ (loop .inv .2 brack text s) (is-not-here (args .words .now) (loop .p) (kind-at .ensures .0) (if1 .taken))
             (element .ensures .0 text s .done (if2 .left)) (checked .ensures .0) (if3 .taken))),
-        (omega (arith, same-answer (refused .ensures), if3, checked .ensures .1, checked .kept, if2, element .ensures .1 .0, element .kept, element .ensures .1 .1 (if2 .left), if1, kind-at .ensures .0, kind-at .ensures .1, loop .inv .0, loop .inv .1, same-kids (none .ensures), pre, good), λ z. omega (arith, same-answer (refused .ensures), if3, checked .ensures .1, checked .kept, if2, element .ensures .1 .0, element .kept, element .ensures .1 .1 (if2 .left), if1, kind-at .ensures .0, kind-at .ensures .1, loop .inv .0, loop .inv .1, same-kids (none .ensures), pre, good, z)),
+        (omega (arith, same-answer (refused .ensures)), λ z. omega (arith, same-answer (refused .ensures))),
       )
 
   pub link-requires : lts.Need-link-requires (R t) (tuple-at t) tuple.Post Inv-loop μ-loop
@@ -194,57 +153,46 @@ module _ (t : ℕ) where
       let element = c .before .before .before .before .before .before .before .before .before .before .before .before .before .before .before .before .before .element in
       let if2 = c .before .before .before .before .before .before .before .before .before .if2 in
       let checked = c .before .before .before .before .before .before .checked in
-      let if3 = c .before .before .if3 in
-      omega (arith, if3, checked .ensures .1, checked .kept, if2, element .ensures .1 .0, element .kept, element .ensures .1 .1 (if2 .left), if1, kind-at .ensures .0, kind-at .ensures .1, loop .inv .0, loop .inv .1, same-kids (none .ensures), pre, good)
+      omega (arith, checked .ensures .1, if2, element .ensures .1 .0, element .ensures .1 .1 (if2 .left), if1, kind-at .ensures .0, kind-at .ensures .1, loop .inv .0, loop .inv .1, same-kids (none .ensures), pre, good)
 
   pub past-comma-requires : lts.Need-past-comma-requires (R t) (tuple-at t) tuple.Post Inv-loop μ-loop
   past-comma-requires c κs =
-      let good = c .before .before .before .before .before .before .before .before .before .before .before .before .before .before .before .before .before .before .before .before .before .before .before .before .before .before .before .before .before .before .before .before .before .good in
       let pre = c .before .before .before .before .before .before .before .before .before .before .before .before .before .before .before .before .before .before .before .before .before .before .before .before .before .before .before .before .before .before .before .before .before .pre in
       let none = c .before .before .before .before .before .before .before .before .before .before .before .before .before .before .before .before .before .before .before .before .before .before .before .before .before .before .before .none in
       let loop = c .before .before .before .before .before .before .before .before .before .before .before .before .before .before .before .before .before .before .before .before .before .before .before .before .before .before .loop in
       let kind-at = c .before .before .before .before .before .before .before .before .before .before .before .before .before .before .before .before .before .before .before .before .before .before .before .before .before .kind-at in
-      let if1 = c .before .before .before .before .before .before .before .before .before .before .before .before .before .before .before .before .before .before .before .before .before .before .before .before .if1 in
       let element = c .before .before .before .before .before .before .before .before .before .before .before .before .before .before .before .before .before .before .before .before .element in
       let if2 = c .before .before .before .before .before .before .before .before .before .before .before .before .if2 in
-      let checked = c .before .before .before .before .before .before .before .before .before .checked in
-      let if3 = c .before .before .before .before .before .if3 in
-      let link = c .before .before .link in
-      (pre .1 .1, omega (arith, link .ensures .1, link .kept, if3, checked .ensures .1, checked .kept, if2, element .ensures .1 .0, element .kept, element .ensures .1 .1 (if2 .left), if1, kind-at .ensures .0, kind-at .ensures .1, loop .inv .0, loop .inv .1, same-kids (none .ensures), pre, good))
+      let checked = c .before .before .before .before .before .before .before .before .before .checked in (
+        pre .1 .1,
+        omega (arith, checked .ensures .1, element .ensures .1 .0, element .ensures .1 .1 (if2 .left), kind-at .ensures .0, kind-at .ensures .1, loop .inv .0, loop .inv .1, same-kids (none .ensures)),
+      )
 
   pub refused-requires-2 : lts.Need-refused-requires-2 (R t) (tuple-at t) tuple.Post Inv-loop μ-loop
-  refused-requires-2 c κs =
-      search needs
+  refused-requires-2 c κs = search needs
 
   pub same-length-7 : lts.Need-same-length-7 (R t) (tuple-at t) tuple.Post Inv-loop μ-loop
   same-length-7 c =
       let loop = c .before .before .before .before .before .before .before .before .before .before .before .before .before .before .before .before .before .before .before .before .before .before .before .before .before .before .before .before .before .before .loop in
       let element = c .before .before .before .before .before .before .before .before .before .before .before .before .before .before .before .before .before .before .before .before .before .before .before .before .element in
-      let checked = c .before .before .before .before .before .before .before .before .before .before .before .before .before .checked in
-      let link = c .before .before .before .before .before .before .link in
-      omega (arith, link .kept, checked .kept, element .kept, loop .inv .0)
+      omega (arith, element .kept, loop .inv .0)
 
   pub same-length-8 : lts.Need-same-length-8 (R t) (tuple-at t) tuple.Post Inv-loop μ-loop
   same-length-8 c =
       let loop = c .before .before .before .before .before .before .before .before .before .before .before .before .before .before .before .before .before .before .before .before .before .before .before .before .before .before .before .before .before .before .loop in
       let element = c .before .before .before .before .before .before .before .before .before .before .before .before .before .before .before .before .before .before .before .before .before .before .before .before .element in
-      let checked = c .before .before .before .before .before .before .before .before .before .before .before .before .before .checked in
-      let link = c .before .before .before .before .before .before .link in
-      omega (arith, link .kept, checked .kept, element .kept, loop .inv .0)
+      omega (arith, element .kept, loop .inv .0)
 
   pub same-length-9 : lts.Need-same-length-9 (R t) (tuple-at t) tuple.Post Inv-loop μ-loop
   same-length-9 c =
       let loop = c .before .before .before .before .before .before .before .before .before .before .before .before .before .before .before .before .before .before .before .before .before .before .before .before .before .before .before .before .before .before .loop in
       let element = c .before .before .before .before .before .before .before .before .before .before .before .before .before .before .before .before .before .before .before .before .before .before .before .before .element in
       let checked = c .before .before .before .before .before .before .before .before .before .before .before .before .before .checked in
-      let link = c .before .before .before .before .before .before .link in
-      omega (arith, link .kept, checked .kept, element .kept, loop .inv .0)
+      omega (arith, checked .kept, element .kept, loop .inv .0)
 
   pub returns-3 : lts.Need-returns-3 (R t) (tuple-at t) tuple.Post Inv-loop μ-loop
   returns-3 c =
       let args = c .before .before .before .before .before .before .before .before .before .before .before .before .before .before .before .before .before .before .before .before .before .before .before .before .before .before .before .before .before .before .before .before .before .before .before .before .before .args in
-      let good = c .before .before .before .before .before .before .before .before .before .before .before .before .before .before .before .before .before .before .before .before .before .before .before .before .before .before .before .before .before .before .before .before .before .before .before .before .before .good in
-      let pre = c .before .before .before .before .before .before .before .before .before .before .before .before .before .before .before .before .before .before .before .before .before .before .before .before .before .before .before .before .before .before .before .before .before .before .before .before .before .pre in
       let none = c .before .before .before .before .before .before .before .before .before .before .before .before .before .before .before .before .before .before .before .before .before .before .before .before .before .before .before .before .before .before .before .none in
       let loop = c .before .before .before .before .before .before .before .before .before .before .before .before .before .before .before .before .before .before .before .before .before .before .before .before .before .before .before .before .before .before .loop in
       let kind-at = c .before .before .before .before .before .before .before .before .before .before .before .before .before .before .before .before .before .before .before .before .before .before .before .before .before .before .before .before .before .kind-at in
@@ -262,31 +210,26 @@ module _ (t : ℕ) where
             (says-stop (if4 .taken)
             (tuple-stops text (args .words .now) (args .given) _ _ (loop .inv .2 brack text s) (is-not-here (args .words .now) (loop .p) (kind-at .ensures .0) (if1 .taken))
             (element .ensures .0 text s .done (if2 .left)) (checked .ensures .0) (if3 .left) (past-comma .ensures .0) (if4 .taken))),
-        (omega (arith, same-answer (refused2 .ensures), if4, past-comma .ensures .1, link .ensures .1, link .kept, if3, checked .ensures .1, checked .kept, if2, element .ensures .1 .0, element .kept, element .ensures .1 .1 (if2 .left), if1, kind-at .ensures .0, kind-at .ensures .1, loop .inv .0, loop .inv .1, same-kids (none .ensures), pre, good), λ z. omega (arith, same-answer (refused2 .ensures), if4, past-comma .ensures .1, link .ensures .1, link .kept, if3, checked .ensures .1, checked .kept, if2, element .ensures .1 .0, element .kept, element .ensures .1 .1 (if2 .left), if1, kind-at .ensures .0, kind-at .ensures .1, loop .inv .0, loop .inv .1, same-kids (none .ensures), pre, good, z)),
+        (
+          omega (arith, same-answer (refused2 .ensures), link .ensures .1, checked .ensures .1, element .ensures .1 .0, element .ensures .1 .1 (if2 .left), kind-at .ensures .0, kind-at .ensures .1, loop .inv .0, loop .inv .1, same-kids (none .ensures)),
+          λ z. omega (arith, same-answer (refused2 .ensures)),
+        ),
       )
 
   pub loop-less : lts.Need-loop-less (R t) (tuple-at t) tuple.Post Inv-loop μ-loop
   loop-less c =
-      let good = c .before .before .before .before .before .before .before .before .before .before .before .before .before .before .before .before .before .before .before .before .before .before .before .before .before .before .before .before .before .before .before .before .before .before .before .before .before .good in
-      let pre = c .before .before .before .before .before .before .before .before .before .before .before .before .before .before .before .before .before .before .before .before .before .before .before .before .before .before .before .before .before .before .before .before .before .before .before .before .before .pre in
       let none = c .before .before .before .before .before .before .before .before .before .before .before .before .before .before .before .before .before .before .before .before .before .before .before .before .before .before .before .before .before .before .before .none in
       let loop = c .before .before .before .before .before .before .before .before .before .before .before .before .before .before .before .before .before .before .before .before .before .before .before .before .before .before .before .before .before .before .loop in
       let kind-at = c .before .before .before .before .before .before .before .before .before .before .before .before .before .before .before .before .before .before .before .before .before .before .before .before .before .before .before .before .before .kind-at in
-      let if1 = c .before .before .before .before .before .before .before .before .before .before .before .before .before .before .before .before .before .before .before .before .before .before .before .before .before .before .before .before .if1 in
       let element = c .before .before .before .before .before .before .before .before .before .before .before .before .before .before .before .before .before .before .before .before .before .before .before .before .element in
       let if2 = c .before .before .before .before .before .before .before .before .before .before .before .before .before .before .before .before .if2 in
       let checked = c .before .before .before .before .before .before .before .before .before .before .before .before .before .checked in
-      let if3 = c .before .before .before .before .before .before .before .before .before .if3 in
-      let link = c .before .before .before .before .before .before .link in
       let past-comma = c .before .before .before .past-comma in
-      let if4 = c .before .if4 in
-      omega (arith, if4, past-comma .ensures .1, link .ensures .1, link .kept, if3, checked .ensures .1, checked .kept, if2, element .ensures .1 .0, element .kept, element .ensures .1 .1 (if2 .left), if1, kind-at .ensures .0, kind-at .ensures .1, loop .inv .0, loop .inv .1, same-kids (none .ensures), pre, good)
+      omega (arith, past-comma .ensures .1, checked .ensures .1, element .ensures .1 .0, element .ensures .1 .1 (if2 .left), kind-at .ensures .0, kind-at .ensures .1, loop .inv .0, loop .inv .1, same-kids (none .ensures))
 
   pub loop-again : lts.Need-loop-again (R t) (tuple-at t) tuple.Post Inv-loop μ-loop
   loop-again c =
       let args = c .before .before .before .before .before .before .before .before .before .before .before .before .before .before .before .before .before .before .before .before .before .before .before .before .before .before .before .before .before .before .before .before .before .before .before .before .before .args in
-      let good = c .before .before .before .before .before .before .before .before .before .before .before .before .before .before .before .before .before .before .before .before .before .before .before .before .before .before .before .before .before .before .before .before .before .before .before .before .before .good in
-      let pre = c .before .before .before .before .before .before .before .before .before .before .before .before .before .before .before .before .before .before .before .before .before .before .before .before .before .before .before .before .before .before .before .before .before .before .before .before .before .pre in
       let none = c .before .before .before .before .before .before .before .before .before .before .before .before .before .before .before .before .before .before .before .before .before .before .before .before .before .before .before .before .before .before .before .none in
       let loop = c .before .before .before .before .before .before .before .before .before .before .before .before .before .before .before .before .before .before .before .before .before .before .before .before .before .before .before .before .before .before .loop in
       let kind-at = c .before .before .before .before .before .before .before .before .before .before .before .before .before .before .before .before .before .before .before .before .before .before .before .before .before .before .before .before .before .kind-at in
@@ -298,61 +241,40 @@ module _ (t : ℕ) where
       let link = c .before .before .before .before .before .before .link in
       let past-comma = c .before .before .before .past-comma in
       let if4 = c .before .if4 in (
-        omega (arith, if4, past-comma .ensures .1, link .ensures .1, link .kept, if3, checked .ensures .1, checked .kept, if2, element .ensures .1 .0, element .kept, element .ensures .1 .1 (if2 .left), if1, kind-at .ensures .0, kind-at .ensures .1, loop .inv .0, loop .inv .1, same-kids (none .ensures), pre, good),
-        omega (arith, if4, past-comma .ensures .1, link .ensures .1, link .kept, if3, checked .ensures .1, checked .kept, if2, element .ensures .1 .0, element .kept, element .ensures .1 .1 (if2 .left), if1, kind-at .ensures .0, kind-at .ensures .1, loop .inv .0, loop .inv .1, same-kids (none .ensures), pre, good),
+        omega (arith, link .kept, checked .ensures .1, checked .kept, element .ensures .1 .0, element .kept, element .ensures .1 .1 (if2 .left), kind-at .ensures .0, kind-at .ensures .1, loop .inv .0, loop .inv .1, same-kids (none .ensures)),
+        omega arith,
         λ brack text s.
-            tuple-again text (args .words .now) (args .given) _ _ (loop .inv .2 brack text s) (is-not-here (args .words .now) (loop .p) (kind-at .ensures .0) (if1 .taken))
-            (element .ensures .0 text s .done (if2 .left)) (checked .ensures .0) (if3 .left) (past-comma .ensures .0) (if4 .left) (past-comma .ensures .1)
-            (omega (arith, element .ensures .1 .1 (if2 .left), element .ensures .1 .0))
-            (omega (arith, checked .ensures .1, element .ensures .1 .1 (if2 .left), element .ensures .1 .0, loop .inv .0)) (link .ensures .0) (link .ensures .1 .1)
-            (omega (arith, element .kept, loop .inv .0)),
+            tuple-again text (args .words .now) (args .given) _ _ (loop .inv .2 brack text s)
+            (is-not-here (args .words .now) (loop .p) (kind-at .ensures .0) (if1 .taken))
+            (element .ensures .0 text s .done (if2 .left)) (checked .ensures .0) (if3 .left) (past-comma .ensures .0) (if4 .left)
+            (past-comma .ensures .1)
+            (omega (arith, element .ensures .1 .1 (if2 .left)))
+            (omega (arith, element .ensures .1 .1 (if2 .left), element .ensures .1 .0, loop .inv .0)) (link .ensures .0) (link .ensures .1 .1)
+            (omega arith),
       )
 
   pub at-requires : lts.Need-at-requires (R t) (tuple-at t) tuple.Post Inv-loop μ-loop
-  at-requires c κs =
-      let good = c .before .before .before .before .before .before .before .before .before .before .good in
-      let pre = c .before .before .before .before .before .before .before .before .before .before .pre in
-      let none = c .before .before .before .before .none in
-      let loop = c .before .before .before .loop in
-      let kind-at = c .before .before .kind-at in
-      let if1 = c .before .if1 in
-      (pre .1 .1, omega (arith, if1, kind-at .ensures .0, kind-at .ensures .1, loop .inv .0, loop .inv .1, same-kids (none .ensures), pre, good))
+  at-requires c κs = search needs
 
   pub tuple-node-requires : lts.Need-tuple-node-requires (R t) (tuple-at t) tuple.Post Inv-loop μ-loop
   tuple-node-requires c κs =
-      let good = c .before .before .before .before .before .before .before .before .before .before .before .good in
       let pre = c .before .before .before .before .before .before .before .before .before .before .before .pre in
-      let none = c .before .before .before .before .before .none in
-      let loop = c .before .before .before .before .loop in
-      let kind-at = c .before .before .before .kind-at in
-      let if1 = c .before .before .if1 in
-      let at = c .at in
-      (pre .1 .1, omega (arith, at .ensures .0, at .ensures .1, if1, kind-at .ensures .0, kind-at .ensures .1, loop .inv .0, loop .inv .1, same-kids (none .ensures), pre, good), omega (arith, at .ensures .0, at .ensures .1, if1, kind-at .ensures .0, kind-at .ensures .1, loop .inv .0, loop .inv .1, same-kids (none .ensures), pre, good), omega (arith, at .ensures .0, at .ensures .1, if1, kind-at .ensures .0, kind-at .ensures .1, loop .inv .0, loop .inv .1, same-kids (none .ensures), pre, good), omega (arith, at .ensures .0, at .ensures .1, if1, kind-at .ensures .0, kind-at .ensures .1, loop .inv .0, loop .inv .1, same-kids (none .ensures), pre, good), omega (arith, at .ensures .0, at .ensures .1, if1, kind-at .ensures .0, kind-at .ensures .1, loop .inv .0, loop .inv .1, same-kids (none .ensures), pre, good), omega (arith, at .ensures .0, at .ensures .1, if1, kind-at .ensures .0, kind-at .ensures .1, loop .inv .0, loop .inv .1, same-kids (none .ensures), pre, good))
+      (pre .1 .1, omega arith, omega arith, omega arith, omega arith, omega arith, omega arith)
 
   pub same-length-10 : lts.Need-same-length-10 (R t) (tuple-at t) tuple.Post Inv-loop μ-loop
-  same-length-10 c =
-      let loop = c .before .before .before .before .before .before .before .loop in
-      let tuple-node = c .before .before .tuple-node in
-      omega (arith, tuple-node .kept, loop .inv .0)
+  same-length-10 c = omega arith
 
   pub same-length-11 : lts.Need-same-length-11 (R t) (tuple-at t) tuple.Post Inv-loop μ-loop
-  same-length-11 c =
-      let loop = c .before .before .before .before .before .before .before .loop in
-      let tuple-node = c .before .before .tuple-node in
-      omega (arith, tuple-node .kept, loop .inv .0)
+  same-length-11 c = omega arith
 
   pub same-length-12 : lts.Need-same-length-12 (R t) (tuple-at t) tuple.Post Inv-loop μ-loop
-  same-length-12 c =
-      let loop = c .before .before .before .before .before .before .before .loop in
-      let tuple-node = c .before .before .tuple-node in
-      omega (arith, tuple-node .kept, loop .inv .0)
+  same-length-12 c = omega arith
 
   pub returns-4 : lts.Need-returns-4 (R t) (tuple-at t) tuple.Post Inv-loop μ-loop
   returns-4 c =
       let args = c .before .before .before .before .before .before .before .before .before .before .before .before .before .before .args in
       let good = c .before .before .before .before .before .before .before .before .before .before .before .before .before .before .good in
       let pre = c .before .before .before .before .before .before .before .before .before .before .before .before .before .before .pre in
-      let none = c .before .before .before .before .before .before .before .before .none in
       let loop = c .before .before .before .before .before .before .before .loop in
       let kind-at = c .before .before .before .before .before .before .kind-at in
       let if1 = c .before .before .before .before .before .if1 in
@@ -364,5 +286,5 @@ module _ (t : ℕ) where
             (is-here (args .words .now) (loop .p) (kind-at .ensures .0) (if1 .left)))
             (tuple-node .ensures .0 text _ _ _ _ _ ((loop .inv .2 brack text s) .turn .built) (at .ensures .0 .1)
             (tuple-listed text (args .words .now) (args .given) _ _ (loop .inv .2 brack text s))),
-        (omega (arith, tuple-node .kept, at .ensures .0, at .ensures .1, if1, kind-at .ensures .0, kind-at .ensures .1, loop .inv .0, loop .inv .1, same-kids (none .ensures), pre, good), λ z. omega (arith, tuple-node .kept, at .ensures .0, at .ensures .1, if1, kind-at .ensures .0, kind-at .ensures .1, loop .inv .0, loop .inv .1, same-kids (none .ensures), pre, good, z)),
+        (omega arith, λ z. omega (arith, pre, good, z)),
       )

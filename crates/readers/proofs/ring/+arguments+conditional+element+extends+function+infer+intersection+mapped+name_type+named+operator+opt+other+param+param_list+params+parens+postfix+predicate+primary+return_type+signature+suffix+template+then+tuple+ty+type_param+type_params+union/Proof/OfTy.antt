@@ -1,15 +1,11 @@
 -- The needs of `ty`.
-use Prim.Native.Nat.{ℕ, suc, _+_, _-_, _*_, _^_, _≤_, _<_}
+use Prim.Native.Nat.{ℕ}
 use native.Mathlib.Omega.{arith}
 use borrow.Author.Needs.{needs}
-use borrow.Author.Tests.{not-true, not-false}
-use mathlib.Core.Path.{_≡_, refl, sym, _∙_, ap, subst}
-use mathlib.Core.List.{List, [], _∷_, _++_}
-use lib.ListN.{length}
+use mathlib.Core.Path.{sym, _∙_}
 use Rattle.parts.specs.Answers.{says-same, says-as, says-refused}
 use Rattle.parts.specs.RingLaws.{type-none, type-function, type-other}
-use Rattle.parts.specs.declared.function.This.{This}
-use Rattle.readers.specs.Fields.{same-mark, same-kids, same-answer, same-listed, same-params}
+use Rattle.readers.specs.Fields.{same-answer}
 use Rattle.parts.proofs.function.begins.Reads as begins-reads
 use Rattle.parts.proofs.state.Answer.refused.Reads as state-Answer-refused-reads
 use Rattle.readers.proofs.ring.conditional.Reads as conditional
@@ -28,86 +24,58 @@ module _ (t : ℕ) where
 
   pub returns : lts.Need-returns (R t) (ty-at t) ty.Post
   returns c =
-      let good = c .before .before .before .before .before .before .before .good in
-      let pre = c .before .before .before .before .before .before .before .pre in
       let if1 = c .before .if1 in
-      let refused = c .refused in
-      (λ text s. says-as (refused .ensures) (says-refused 4 (type-none _ _ _ _ (if1 .taken))), (omega (arith, same-answer (refused .ensures), if1, pre, good), λ z. omega (arith, same-answer (refused .ensures), if1, pre, good, z)))
+      let refused = c .refused in (
+        λ text s. says-as (refused .ensures) (says-refused 4 (type-none _ _ _ _ (if1 .taken))),
+        (omega (arith, same-answer (refused .ensures)), λ z. omega (arith, same-answer (refused .ensures))),
+      )
 
   pub sub-t11 : lts.Need-sub-t11 (R t) (ty-at t) ty.Post
-  sub-t11 c =
-      let good = c .before .before .before .before .before .before .before .good in
-      let pre = c .before .before .before .before .before .before .before .pre in
-      let if1 = c .before .if1 in
-      omega (arith, if1, pre, good)
+  sub-t11 c = omega arith
 
   pub begins-requires : lts.Need-begins-requires (R t) (ty-at t) ty.Post
-  begins-requires c κs =
-      let good = c .before .before .before .before .before .before .before .good in
-      let pre = c .before .before .before .before .before .before .before .pre in
-      let if1 = c .before .if1 in
-      (pre .1 .0, omega (arith, if1, pre, good))
+  begins-requires c κs = search needs
 
   pub function-requires : lts.Need-function-requires (R t) (ty-at t) ty.Post
-  function-requires c κs =
-      let good = c .before .before .before .before .before .before .before .before .before .before .before .before .good in
-      let pre = c .before .before .before .before .before .before .before .before .before .before .before .before .pre in
-      let if1 = c .before .before .before .before .before .before .if1 in
-      (omega (arith, if1, pre, good), (pre .1 .0, pre .1 .1, omega (arith, if1, pre, good), omega (arith, if1, pre, good)))
+  function-requires c κs = search needs
 
   pub same-length : lts.Need-same-length (R t) (ty-at t) ty.Post
-  same-length c =
-      let function = c .before .before .before .before .before .before .function in
-      omega (arith, function .kept)
+  same-length c = omega arith
 
   pub same-length-2 : lts.Need-same-length-2 (R t) (ty-at t) ty.Post
-  same-length-2 c =
-      let function = c .before .before .before .before .before .before .function in
-      omega (arith, function .kept)
+  same-length-2 c = omega arith
 
   pub same-length-3 : lts.Need-same-length-3 (R t) (ty-at t) ty.Post
-  same-length-3 c =
-      let function = c .before .before .before .before .before .before .function in
-      omega (arith, function .kept)
+  same-length-3 c = omega arith
 
   pub returns-2 : lts.Need-returns-2 (R t) (ty-at t) ty.Post
   returns-2 c =
       let begins = c .before .before .before .before .before .before .before .before .before .before .before .begins in
       let if2 = c .before .before .before .before .before .before .before .before .before .before .if2 in
-      let good = c .before .before .before .before .before .before .before .before .before .before .before .before .before .before .before .before .before .before .before .good in
-      let pre = c .before .before .before .before .before .before .before .before .before .before .before .before .before .before .before .before .before .before .before .pre in
       let if1 = c .before .before .before .before .before .before .before .before .before .before .before .before .before .if1 in
-      let function = c .before .before .before .before .before .before .function in
-      (λ text s. says-same (type-function _ _ _ _ (if1 .left) (sym (begins .ensures) ∙ if2 .taken)) (function .ensures .0 text s), (omega (arith, function .ensures .1 .0, function .kept, if1, pre, good), λ z. omega (arith, function .ensures .1 .0, function .kept, if1, pre, good, z, function .ensures .1 .1 z)))
+      let function = c .before .before .before .before .before .before .function in (
+        λ text s. says-same (type-function _ _ _ _ (if1 .left) (sym (begins .ensures) ∙ if2 .taken)) (function .ensures .0 text s),
+        (omega arith, λ z. omega (arith, function .ensures .1 .1 z)),
+      )
 
   pub conditional-requires : lts.Need-conditional-requires (R t) (ty-at t) ty.Post
-  conditional-requires c κs =
-      let good = c .before .before .before .before .before .before .before .before .before .before .before .before .good in
-      let pre = c .before .before .before .before .before .before .before .before .before .before .before .before .pre in
-      let if1 = c .before .before .before .before .before .before .if1 in
-      (omega (arith, if1, pre, good), (pre .1 .0, pre .1 .1, omega (arith, if1, pre, good), omega (arith, if1, pre, good)))
+  conditional-requires c κs = search needs
 
   pub same-length-4 : lts.Need-same-length-4 (R t) (ty-at t) ty.Post
-  same-length-4 c =
-      let conditional = c .before .before .before .before .before .before .conditional in
-      omega (arith, conditional .kept)
+  same-length-4 c = omega arith
 
   pub same-length-5 : lts.Need-same-length-5 (R t) (ty-at t) ty.Post
-  same-length-5 c =
-      let conditional = c .before .before .before .before .before .before .conditional in
-      omega (arith, conditional .kept)
+  same-length-5 c = omega arith
 
   pub same-length-6 : lts.Need-same-length-6 (R t) (ty-at t) ty.Post
-  same-length-6 c =
-      let conditional = c .before .before .before .before .before .before .conditional in
-      omega (arith, conditional .kept)
+  same-length-6 c = omega arith
 
   pub returns-3 : lts.Need-returns-3 (R t) (ty-at t) ty.Post
   returns-3 c =
       let begins = c .before .before .before .before .before .before .before .before .before .before .before .begins in
       let if2 = c .before .before .before .before .before .before .before .before .before .before .if2 in
-      let good = c .before .before .before .before .before .before .before .before .before .before .before .before .before .before .before .before .before .before .before .good in
-      let pre = c .before .before .before .before .before .before .before .before .before .before .before .before .before .before .before .before .before .before .before .pre in
       let if1 = c .before .before .before .before .before .before .before .before .before .before .before .before .before .if1 in
-      let conditional = c .before .before .before .before .before .before .conditional in
-      (λ text s. says-same (type-other _ _ _ _ (if1 .left) (sym (begins .ensures) ∙ if2 .left)) (conditional .ensures .0 text s), (omega (arith, conditional .ensures .1 .0, conditional .kept, if1, pre, good), λ z. omega (arith, conditional .ensures .1 .0, conditional .kept, if1, pre, good, z, conditional .ensures .1 .1 z)))
+      let conditional = c .before .before .before .before .before .before .conditional in (
+        λ text s. says-same (type-other _ _ _ _ (if1 .left) (sym (begins .ensures) ∙ if2 .left)) (conditional .ensures .0 text s),
+        (omega arith, λ z. omega (arith, conditional .ensures .1 .1 z)),
+      )

@@ -1,18 +1,14 @@
 -- The needs of `type_param`.
-use Prim.Native.Nat.{ℕ, suc, _+_, _-_, _*_, _^_, _≤_, _<_}
+use Prim.Native.Nat.{ℕ}
 use native.Mathlib.Omega.{arith}
 use borrow.Author.Needs.{needs}
-use borrow.Author.Tests.{not-true, not-false}
-use mathlib.Core.Path.{_≡_, refl, sym, _∙_, ap, subst}
-use mathlib.Core.List.{List, [], _∷_, _++_}
-use lib.ListN.{length}
+use mathlib.Core.Path.{_∙_, ap}
 use Rattle.parts.specs.Nodes.{optBit}
 use Rattle.parts.specs.Answers.{says-as, says-same, says-stop, then-read, then-refused}
 use Rattle.parts.specs.RingLaws.{type-parameter}
 use Rattle.parts.specs.ParameterLaws.{shape-typeParameter}
-use Rattle.readers.specs.OptionLaws.{built-spoken, built-option, shape-as, make-first}
-use Rattle.parts.specs.declared.function.This.{This}
-use Rattle.readers.specs.Fields.{same-mark, same-kids, same-answer, same-listed, same-params}
+use Rattle.readers.specs.Fields.{same-kids, same-answer}
+use Rattle.readers.specs.ChildLaws.{built-spoken, built-option, shape-as, make-first}
 use Rattle.parts.proofs.function.type_param_head.Reads as type-param-head-reads
 use Rattle.parts.proofs.node.link_opt.Reads as link-opt-reads
 use Rattle.parts.proofs.node.opt_bit.Reads as opt-bit-reads
@@ -31,18 +27,14 @@ R t = (type-param-head-reads.Asked, type-param-head-reads.Learnt, state-Answer-r
 module _ (t : ℕ) where
   pub type-param-head-requires : lts.Need-type-param-head-requires (R t) (type-param-at t) type-param.Post
   type-param-head-requires c κs =
-      let good = c .before .before .before .before .before .good in
       let pre = c .before .before .before .before .before .pre in
-      (pre .1 .0, pre .1 .1, omega (arith, pre, good), omega (arith, pre, good))
+      (pre .1 .0, pre .1 .1, omega arith, omega arith)
 
   pub refused-requires : lts.Need-refused-requires (R t) (type-param-at t) type-param.Post
-  refused-requires c κs =
-      search needs
+  refused-requires c κs = search needs
 
   pub same-length : lts.Need-same-length (R t) (type-param-at t) type-param.Post
-  same-length c =
-      let type-param-head = c .before .before .before .before .before .type-param-head in
-      omega (arith, type-param-head .kept)
+  same-length c = omega arith
 
   pub returns : lts.Need-returns (R t) (type-param-at t) type-param.Post
   returns c =
@@ -55,40 +47,26 @@ module _ (t : ℕ) where
         λ text s.
             says-as (refused .ensures)
             (says-stop (if1 .taken) (type-parameter _ _ _ _ ∙ then-refused _ (type-param-head .ensures .0 text (args .notes .now) (args .given) s .refused (if1 .taken)))),
-        (omega (arith, same-answer (refused .ensures), if1, type-param-head .ensures .1, type-param-head .kept, pre, good), λ z. omega (arith, same-answer (refused .ensures), if1, type-param-head .ensures .1, type-param-head .kept, pre, good, z)),
+        (omega (arith, same-answer (refused .ensures), pre, good), λ z. omega (arith, same-answer (refused .ensures))),
       )
 
   pub opt-requires : lts.Need-opt-requires (R t) (type-param-at t) type-param.Post
   opt-requires c κs =
-      let good = c .before .before .before .before .before .before .before .before .before .before .before .before .before .before .good in
       let pre = c .before .before .before .before .before .before .before .before .before .before .before .before .before .before .pre in
-      let type-param-head = c .before .before .before .before .before .before .before .before .type-param-head in
-      let if1 = c .before .before .before .before .if1 in
-      (omega (arith, if1, type-param-head .ensures .1, type-param-head .kept, pre, good), (pre .1 .0, pre .1 .1, omega (arith, if1, type-param-head .ensures .1, type-param-head .kept, pre, good), omega (arith, if1, type-param-head .ensures .1, type-param-head .kept, pre, good), omega (arith, if1, type-param-head .ensures .1, type-param-head .kept, pre, good)))
+      (omega arith, (pre .1 .0, pre .1 .1, omega arith, omega arith, omega arith))
 
   pub same-length-2 : lts.Need-same-length-2 (R t) (type-param-at t) type-param.Post
-  same-length-2 c =
-      let type-param-head = c .before .before .before .before .before .before .before .before .before .before .before .before .before .before .before .before .before .type-param-head in
-      let opt = c .before .before .before .before .before .before .before .before .opt in
-      omega (arith, opt .kept, type-param-head .kept)
+  same-length-2 c = omega arith
 
   pub same-length-3 : lts.Need-same-length-3 (R t) (type-param-at t) type-param.Post
-  same-length-3 c =
-      let type-param-head = c .before .before .before .before .before .before .before .before .before .before .before .before .before .before .before .before .before .type-param-head in
-      let opt = c .before .before .before .before .before .before .before .before .opt in
-      omega (arith, opt .kept, type-param-head .kept)
+  same-length-3 c = omega arith
 
   pub same-length-4 : lts.Need-same-length-4 (R t) (type-param-at t) type-param.Post
-  same-length-4 c =
-      let type-param-head = c .before .before .before .before .before .before .before .before .before .before .before .before .before .before .before .before .before .type-param-head in
-      let opt = c .before .before .before .before .before .before .before .before .opt in
-      omega (arith, opt .kept, type-param-head .kept)
+  same-length-4 c = omega arith
 
   pub returns-2 : lts.Need-returns-2 (R t) (type-param-at t) type-param.Post
   returns-2 c =
       let args = c .before .before .before .before .before .before .before .before .before .before .before .before .before .before .before .before .before .before .before .before .before .before .before .args in
-      let good = c .before .before .before .before .before .before .before .before .before .before .before .before .before .before .before .before .before .before .before .before .before .before .before .good in
-      let pre = c .before .before .before .before .before .before .before .before .before .before .before .before .before .before .before .before .before .before .before .before .before .before .before .pre in
       let type-param-head = c .before .before .before .before .before .before .before .before .before .before .before .before .before .before .before .before .before .type-param-head in
       let if1 = c .before .before .before .before .before .before .before .before .before .before .before .before .before .if1 in
       let opt = c .before .before .before .before .before .before .before .before .opt in
@@ -96,78 +74,64 @@ module _ (t : ℕ) where
         λ text s.
             let head = type-param-head .ensures .0 text (args .notes .now) (args .given) s .done (if1 .left) in
             says-stop (if2 .taken) (type-parameter _ _ _ _ ∙ then-read _ (head .is) ∙ then-refused _ (opt .ensures .0 text s .refused (if2 .taken))),
-        (omega (arith, if2, opt .ensures .1 .0, opt .kept, if1, type-param-head .ensures .1, type-param-head .kept, pre, good), λ z. omega (arith, if2, opt .ensures .1 .0, opt .kept, if1, type-param-head .ensures .1, type-param-head .kept, pre, good, z)),
+        (omega arith, λ z. omega arith),
       )
 
   pub none-requires : lts.Need-none-requires (R t) (type-param-at t) type-param.Post
-  none-requires c κs =
-      search needs
+  none-requires c κs = search needs
 
   pub link-opt-requires : lts.Need-link-opt-requires (R t) (type-param-at t) type-param.Post
   link-opt-requires c κs =
       let good = c .before .before .before .before .before .before .before .before .before .before .before .before .before .before .before .before .before .before .before .before .before .before .before .before .before .before .good in
       let pre = c .before .before .before .before .before .before .before .before .before .before .before .before .before .before .before .before .before .before .before .before .before .before .before .before .before .before .pre in
-      let type-param-head = c .before .before .before .before .before .before .before .before .before .before .before .before .before .before .before .before .before .before .before .before .type-param-head in
       let if1 = c .before .before .before .before .before .before .before .before .before .before .before .before .before .before .before .before .if1 in
       let opt = c .before .before .before .before .before .before .before .before .before .before .before .opt in
       let if2 = c .before .before .before .if2 in
       let none = c .none in
-      omega (arith, same-kids (none .ensures), if2, opt .ensures .1 .0, opt .kept, opt .ensures .1 .1 (if2 .left), if1, type-param-head .ensures .1, type-param-head .kept, pre, good)
+      omega (arith, same-kids (none .ensures), opt .ensures .1 .1 (if2 .left), if1, pre, good)
 
   pub opt-requires-2 : lts.Need-opt-requires-2 (R t) (type-param-at t) type-param.Post
   opt-requires-2 c κs =
-      let good = c .before .before .before .before .before .before .before .before .before .before .before .before .before .before .before .before .before .before .before .before .before .before .before .before .before .before .before .before .before .before .before .before .good in
       let pre = c .before .before .before .before .before .before .before .before .before .before .before .before .before .before .before .before .before .before .before .before .before .before .before .before .before .before .before .before .before .before .before .before .pre in
       let type-param-head = c .before .before .before .before .before .before .before .before .before .before .before .before .before .before .before .before .before .before .before .before .before .before .before .before .before .before .type-param-head in
-      let if1 = c .before .before .before .before .before .before .before .before .before .before .before .before .before .before .before .before .before .before .before .before .before .before .if1 in
       let opt = c .before .before .before .before .before .before .before .before .before .before .before .before .before .before .before .before .before .opt in
-      let if2 = c .before .before .before .before .before .before .before .before .before .if2 in
-      let none = c .before .before .before .before .before .before .none in
-      let link-opt = c .before .before .before .before .before .link-opt in
-      (omega (arith, link-opt .ensures .1, link-opt .kept, same-kids (none .ensures), if2, opt .ensures .1 .0, opt .kept, opt .ensures .1 .1 (if2 .left), if1, type-param-head .ensures .1, type-param-head .kept, pre, good), (pre .1 .0, pre .1 .1, omega (arith, link-opt .ensures .1, link-opt .kept, same-kids (none .ensures), if2, opt .ensures .1 .0, opt .kept, opt .ensures .1 .1 (if2 .left), if1, type-param-head .ensures .1, type-param-head .kept, pre, good), omega (arith, link-opt .ensures .1, link-opt .kept, same-kids (none .ensures), if2, opt .ensures .1 .0, opt .kept, opt .ensures .1 .1 (if2 .left), if1, type-param-head .ensures .1, type-param-head .kept, pre, good), omega (arith, link-opt .ensures .1, link-opt .kept, same-kids (none .ensures), if2, opt .ensures .1 .0, opt .kept, opt .ensures .1 .1 (if2 .left), if1, type-param-head .ensures .1, type-param-head .kept, pre, good)))
+      let if2 = c .before .before .before .before .before .before .before .before .before .if2 in (
+        omega (arith, opt .ensures .1 .0, opt .ensures .1 .1 (if2 .left), type-param-head .ensures .1),
+        (pre .1 .0, pre .1 .1, omega arith, omega arith, omega arith),
+      )
 
   pub same-length-5 : lts.Need-same-length-5 (R t) (type-param-at t) type-param.Post
   same-length-5 c =
-      let type-param-head = c .before .before .before .before .before .before .before .before .before .before .before .before .before .before .before .before .before .before .before .before .before .before .before .before .before .before .before .before .before .before .before .before .before .before .before .type-param-head in
       let opt = c .before .before .before .before .before .before .before .before .before .before .before .before .before .before .before .before .before .before .before .before .before .before .before .before .before .before .opt in
       let link-opt = c .before .before .before .before .before .before .before .before .before .before .before .before .before .before .link-opt in
-      let opt2 = c .before .before .before .before .before .before .before .before .opt2 in
-      omega (arith, opt2 .kept, link-opt .kept, opt .kept, type-param-head .kept)
+      omega (arith, link-opt .kept, opt .kept)
 
   pub same-length-6 : lts.Need-same-length-6 (R t) (type-param-at t) type-param.Post
   same-length-6 c =
       let type-param-head = c .before .before .before .before .before .before .before .before .before .before .before .before .before .before .before .before .before .before .before .before .before .before .before .before .before .before .before .before .before .before .before .before .before .before .before .type-param-head in
       let opt = c .before .before .before .before .before .before .before .before .before .before .before .before .before .before .before .before .before .before .before .before .before .before .before .before .before .before .opt in
-      let link-opt = c .before .before .before .before .before .before .before .before .before .before .before .before .before .before .link-opt in
-      let opt2 = c .before .before .before .before .before .before .before .before .opt2 in
-      omega (arith, opt2 .kept, link-opt .kept, opt .kept, type-param-head .kept)
+      omega (arith, opt .kept, type-param-head .kept)
 
   pub same-length-7 : lts.Need-same-length-7 (R t) (type-param-at t) type-param.Post
   same-length-7 c =
-      let type-param-head = c .before .before .before .before .before .before .before .before .before .before .before .before .before .before .before .before .before .before .before .before .before .before .before .before .before .before .before .before .before .before .before .before .before .before .before .type-param-head in
       let opt = c .before .before .before .before .before .before .before .before .before .before .before .before .before .before .before .before .before .before .before .before .before .before .before .before .before .before .opt in
-      let link-opt = c .before .before .before .before .before .before .before .before .before .before .before .before .before .before .link-opt in
-      let opt2 = c .before .before .before .before .before .before .before .before .opt2 in
-      omega (arith, opt2 .kept, link-opt .kept, opt .kept, type-param-head .kept)
+      omega (arith, opt .kept)
 
   pub returns-3 : lts.Need-returns-3 (R t) (type-param-at t) type-param.Post
   returns-3 c =
       let args = c .before .before .before .before .before .before .before .before .before .before .before .before .before .before .before .before .before .before .before .before .before .before .before .before .before .before .before .before .before .before .before .before .before .before .before .before .before .before .before .before .before .args in
-      let good = c .before .before .before .before .before .before .before .before .before .before .before .before .before .before .before .before .before .before .before .before .before .before .before .before .before .before .before .before .before .before .before .before .before .before .before .before .before .before .before .before .before .good in
-      let pre = c .before .before .before .before .before .before .before .before .before .before .before .before .before .before .before .before .before .before .before .before .before .before .before .before .before .before .before .before .before .before .before .before .before .before .before .before .before .before .before .before .before .pre in
       let type-param-head = c .before .before .before .before .before .before .before .before .before .before .before .before .before .before .before .before .before .before .before .before .before .before .before .before .before .before .before .before .before .before .before .before .before .before .before .type-param-head in
       let if1 = c .before .before .before .before .before .before .before .before .before .before .before .before .before .before .before .before .before .before .before .before .before .before .before .before .before .before .before .before .before .before .before .if1 in
       let opt = c .before .before .before .before .before .before .before .before .before .before .before .before .before .before .before .before .before .before .before .before .before .before .before .before .before .before .opt in
       let if2 = c .before .before .before .before .before .before .before .before .before .before .before .before .before .before .before .before .before .before .if2 in
-      let none = c .before .before .before .before .before .before .before .before .before .before .before .before .before .before .before .none in
-      let link-opt = c .before .before .before .before .before .before .before .before .before .before .before .before .before .before .link-opt in
       let opt2 = c .before .before .before .before .before .before .before .before .opt2 in
       let if3 = c .if3 in (
         λ text s.
             let head = type-param-head .ensures .0 text (args .notes .now) (args .given) s .done (if1 .left) in
             let x = opt .ensures .0 text s .done (if2 .left) in
-            says-stop (if3 .taken) (type-parameter _ _ _ _ ∙ then-read _ (head .is) ∙ then-read _ (x .is) ∙ then-refused _ (opt2 .ensures .0 text s .refused (if3 .taken))),
-        (omega (arith, if3, opt2 .ensures .1 .0, opt2 .kept, link-opt .ensures .1, link-opt .kept, same-kids (none .ensures), if2, opt .ensures .1 .0, opt .kept, opt .ensures .1 .1 (if2 .left), if1, type-param-head .ensures .1, type-param-head .kept, pre, good), λ z. omega (arith, if3, opt2 .ensures .1 .0, opt2 .kept, link-opt .ensures .1, link-opt .kept, same-kids (none .ensures), if2, opt .ensures .1 .0, opt .kept, opt .ensures .1 .1 (if2 .left), if1, type-param-head .ensures .1, type-param-head .kept, pre, good, z)),
+            says-stop (if3 .taken)
+            (type-parameter _ _ _ _ ∙ then-read _ (head .is) ∙ then-read _ (x .is) ∙ then-refused _ (opt2 .ensures .0 text s .refused (if3 .taken))),
+        (omega arith, λ z. omega arith),
       )
 
   pub link-opt-requires-2 : lts.Need-link-opt-requires-2 (R t) (type-param-at t) type-param.Post
@@ -182,66 +146,24 @@ module _ (t : ℕ) where
       let link-opt = c .before .before .before .before .before .before .before .before .before .before .before .before .before .before .before .before .link-opt in
       let opt2 = c .before .before .before .before .before .before .before .before .before .before .opt2 in
       let if3 = c .before .before .if3 in
-      omega (arith, if3, opt2 .ensures .1 .0, opt2 .kept, opt2 .ensures .1 .1 (if3 .left), link-opt .ensures .1, link-opt .kept, same-kids (none .ensures), if2, opt .ensures .1 .0, opt .kept, opt .ensures .1 .1 (if2 .left), if1, type-param-head .ensures .1, type-param-head .kept, pre, good)
+      omega (arith, opt2 .ensures .1 .1 (if3 .left), link-opt .ensures .1, same-kids (none .ensures), if2, opt .ensures .1 .0, opt .ensures .1 .1 (if2 .left), if1, type-param-head .ensures .1, pre, good)
 
   pub opt-bit-requires : lts.Need-opt-bit-requires (R t) (type-param-at t) type-param.Post
-  opt-bit-requires c κs =
-      search needs
+  opt-bit-requires c κs = search needs
 
   pub opt-bit-requires-2 : lts.Need-opt-bit-requires-2 (R t) (type-param-at t) type-param.Post
-  opt-bit-requires-2 c κs =
-      search needs
+  opt-bit-requires-2 c κs = search needs
 
   pub mul-choices : lts.Need-mul-choices (R t) (type-param-at t) type-param.Post
-  mul-choices c =
-      let good = c .before .before .before .before .before .before .before .before .before .before .before .before .before .before .before .before .before .before .before .before .before .before .before .before .before .before .before .before .before .before .before .before .before .before .before .before .before .before .before .before .before .before .before .before .before .before .before .before .good in
-      let pre = c .before .before .before .before .before .before .before .before .before .before .before .before .before .before .before .before .before .before .before .before .before .before .before .before .before .before .before .before .before .before .before .before .before .before .before .before .before .before .before .before .before .before .before .before .before .before .before .before .pre in
-      let type-param-head = c .before .before .before .before .before .before .before .before .before .before .before .before .before .before .before .before .before .before .before .before .before .before .before .before .before .before .before .before .before .before .before .before .before .before .before .before .before .before .before .before .before .before .type-param-head in
-      let if1 = c .before .before .before .before .before .before .before .before .before .before .before .before .before .before .before .before .before .before .before .before .before .before .before .before .before .before .before .before .before .before .before .before .before .before .before .before .before .before .if1 in
-      let opt = c .before .before .before .before .before .before .before .before .before .before .before .before .before .before .before .before .before .before .before .before .before .before .before .before .before .before .before .before .before .before .before .before .before .opt in
-      let if2 = c .before .before .before .before .before .before .before .before .before .before .before .before .before .before .before .before .before .before .before .before .before .before .before .before .before .if2 in
-      let none = c .before .before .before .before .before .before .before .before .before .before .before .before .before .before .before .before .before .before .before .before .before .before .none in
-      let link-opt = c .before .before .before .before .before .before .before .before .before .before .before .before .before .before .before .before .before .before .before .before .before .link-opt in
-      let opt2 = c .before .before .before .before .before .before .before .before .before .before .before .before .before .before .before .opt2 in
-      let if3 = c .before .before .before .before .before .before .before .if3 in
-      let link-opt2 = c .before .before .before .before .link-opt2 in
-      let opt-bit = c .before .opt-bit in
-      let opt-bit2 = c .opt-bit2 in
-      omega (arith, opt-bit2 .ensures .0, opt-bit2 .ensures .1, opt-bit .ensures .0, opt-bit .ensures .1, link-opt2 .ensures .1, link-opt2 .kept, if3, opt2 .ensures .1 .0, opt2 .kept, opt2 .ensures .1 .1 (if3 .left), link-opt .ensures .1, link-opt .kept, same-kids (none .ensures), if2, opt .ensures .1 .0, opt .kept, opt .ensures .1 .1 (if2 .left), if1, type-param-head .ensures .1, type-param-head .kept, pre, good)
+  mul-choices c = omega arith
 
   pub add-choices : lts.Need-add-choices (R t) (type-param-at t) type-param.Post
-  add-choices c =
-      let good = c .before .before .before .before .before .before .before .before .before .before .before .before .before .before .before .before .before .before .before .before .before .before .before .before .before .before .before .before .before .before .before .before .before .before .before .before .before .before .before .before .before .before .before .before .before .before .before .before .good in
-      let pre = c .before .before .before .before .before .before .before .before .before .before .before .before .before .before .before .before .before .before .before .before .before .before .before .before .before .before .before .before .before .before .before .before .before .before .before .before .before .before .before .before .before .before .before .before .before .before .before .before .pre in
-      let type-param-head = c .before .before .before .before .before .before .before .before .before .before .before .before .before .before .before .before .before .before .before .before .before .before .before .before .before .before .before .before .before .before .before .before .before .before .before .before .before .before .before .before .before .before .type-param-head in
-      let if1 = c .before .before .before .before .before .before .before .before .before .before .before .before .before .before .before .before .before .before .before .before .before .before .before .before .before .before .before .before .before .before .before .before .before .before .before .before .before .before .if1 in
-      let opt = c .before .before .before .before .before .before .before .before .before .before .before .before .before .before .before .before .before .before .before .before .before .before .before .before .before .before .before .before .before .before .before .before .before .opt in
-      let if2 = c .before .before .before .before .before .before .before .before .before .before .before .before .before .before .before .before .before .before .before .before .before .before .before .before .before .if2 in
-      let none = c .before .before .before .before .before .before .before .before .before .before .before .before .before .before .before .before .before .before .before .before .before .before .none in
-      let link-opt = c .before .before .before .before .before .before .before .before .before .before .before .before .before .before .before .before .before .before .before .before .before .link-opt in
-      let opt2 = c .before .before .before .before .before .before .before .before .before .before .before .before .before .before .before .opt2 in
-      let if3 = c .before .before .before .before .before .before .before .if3 in
-      let link-opt2 = c .before .before .before .before .link-opt2 in
-      let opt-bit = c .before .opt-bit in
-      let opt-bit2 = c .opt-bit2 in
-      omega (arith, opt-bit2 .ensures .0, opt-bit2 .ensures .1, opt-bit .ensures .0, opt-bit .ensures .1, link-opt2 .ensures .1, link-opt2 .kept, if3, opt2 .ensures .1 .0, opt2 .kept, opt2 .ensures .1 .1 (if3 .left), link-opt .ensures .1, link-opt .kept, same-kids (none .ensures), if2, opt .ensures .1 .0, opt .kept, opt .ensures .1 .1 (if2 .left), if1, type-param-head .ensures .1, type-param-head .kept, pre, good)
+  add-choices c = omega arith
 
   pub at-requires : lts.Need-at-requires (R t) (type-param-at t) type-param.Post
   at-requires c κs =
-      let good = c .before .before .before .before .before .before .before .before .before .before .before .before .before .before .before .before .before .before .before .before .before .before .before .before .before .before .before .before .before .before .before .before .before .before .before .before .before .before .before .before .before .before .before .before .before .before .before .before .before .good in
       let pre = c .before .before .before .before .before .before .before .before .before .before .before .before .before .before .before .before .before .before .before .before .before .before .before .before .before .before .before .before .before .before .before .before .before .before .before .before .before .before .before .before .before .before .before .before .before .before .before .before .before .pre in
-      let type-param-head = c .before .before .before .before .before .before .before .before .before .before .before .before .before .before .before .before .before .before .before .before .before .before .before .before .before .before .before .before .before .before .before .before .before .before .before .before .before .before .before .before .before .before .before .type-param-head in
-      let if1 = c .before .before .before .before .before .before .before .before .before .before .before .before .before .before .before .before .before .before .before .before .before .before .before .before .before .before .before .before .before .before .before .before .before .before .before .before .before .before .before .if1 in
-      let opt = c .before .before .before .before .before .before .before .before .before .before .before .before .before .before .before .before .before .before .before .before .before .before .before .before .before .before .before .before .before .before .before .before .before .before .opt in
-      let if2 = c .before .before .before .before .before .before .before .before .before .before .before .before .before .before .before .before .before .before .before .before .before .before .before .before .before .before .if2 in
-      let none = c .before .before .before .before .before .before .before .before .before .before .before .before .before .before .before .before .before .before .before .before .before .before .before .none in
-      let link-opt = c .before .before .before .before .before .before .before .before .before .before .before .before .before .before .before .before .before .before .before .before .before .before .link-opt in
-      let opt2 = c .before .before .before .before .before .before .before .before .before .before .before .before .before .before .before .before .opt2 in
-      let if3 = c .before .before .before .before .before .before .before .before .if3 in
-      let link-opt2 = c .before .before .before .before .before .link-opt2 in
-      let opt-bit = c .before .before .opt-bit in
-      let opt-bit2 = c .before .opt-bit2 in
-      (pre .1 .1, omega (arith, opt-bit2 .ensures .0, opt-bit2 .ensures .1, opt-bit .ensures .0, opt-bit .ensures .1, link-opt2 .ensures .1, link-opt2 .kept, if3, opt2 .ensures .1 .0, opt2 .kept, opt2 .ensures .1 .1 (if3 .left), link-opt .ensures .1, link-opt .kept, same-kids (none .ensures), if2, opt .ensures .1 .0, opt .kept, opt .ensures .1 .1 (if2 .left), if1, type-param-head .ensures .1, type-param-head .kept, pre, good))
+      (pre .1 .1, omega arith)
 
   pub put-requires : lts.Need-put-requires (R t) (type-param-at t) type-param.Post
   put-requires c κs =
@@ -258,8 +180,14 @@ module _ (t : ℕ) where
       let link-opt2 = c .before .before .before .before .before .before .link-opt2 in
       let opt-bit = c .before .before .before .opt-bit in
       let opt-bit2 = c .before .before .opt-bit2 in
-      let at = c .at in
-      (pre .1 .1, omega (arith, at .ensures .0, at .ensures .1, opt-bit2 .ensures .0, opt-bit2 .ensures .1, opt-bit .ensures .0, opt-bit .ensures .1, link-opt2 .ensures .1, link-opt2 .kept, if3, opt2 .ensures .1 .0, opt2 .kept, opt2 .ensures .1 .1 (if3 .left), link-opt .ensures .1, link-opt .kept, same-kids (none .ensures), if2, opt .ensures .1 .0, opt .kept, opt .ensures .1 .1 (if2 .left), if1, type-param-head .ensures .1, type-param-head .kept, pre, good), omega (arith, at .ensures .0, at .ensures .1, opt-bit2 .ensures .0, opt-bit2 .ensures .1, opt-bit .ensures .0, opt-bit .ensures .1, link-opt2 .ensures .1, link-opt2 .kept, if3, opt2 .ensures .1 .0, opt2 .kept, opt2 .ensures .1 .1 (if3 .left), link-opt .ensures .1, link-opt .kept, same-kids (none .ensures), if2, opt .ensures .1 .0, opt .kept, opt .ensures .1 .1 (if2 .left), if1, type-param-head .ensures .1, type-param-head .kept, pre, good), omega (arith, at .ensures .0, at .ensures .1, opt-bit2 .ensures .0, opt-bit2 .ensures .1, opt-bit .ensures .0, opt-bit .ensures .1, link-opt2 .ensures .1, link-opt2 .kept, if3, opt2 .ensures .1 .0, opt2 .kept, opt2 .ensures .1 .1 (if3 .left), link-opt .ensures .1, link-opt .kept, same-kids (none .ensures), if2, opt .ensures .1 .0, opt .kept, opt .ensures .1 .1 (if2 .left), if1, type-param-head .ensures .1, type-param-head .kept, pre, good), omega (arith, at .ensures .0, at .ensures .1, opt-bit2 .ensures .0, opt-bit2 .ensures .1, opt-bit .ensures .0, opt-bit .ensures .1, link-opt2 .ensures .1, link-opt2 .kept, if3, opt2 .ensures .1 .0, opt2 .kept, opt2 .ensures .1 .1 (if3 .left), link-opt .ensures .1, link-opt .kept, same-kids (none .ensures), if2, opt .ensures .1 .0, opt .kept, opt .ensures .1 .1 (if2 .left), if1, type-param-head .ensures .1, type-param-head .kept, pre, good), omega (arith, at .ensures .0, at .ensures .1, opt-bit2 .ensures .0, opt-bit2 .ensures .1, opt-bit .ensures .0, opt-bit .ensures .1, link-opt2 .ensures .1, link-opt2 .kept, if3, opt2 .ensures .1 .0, opt2 .kept, opt2 .ensures .1 .1 (if3 .left), link-opt .ensures .1, link-opt .kept, same-kids (none .ensures), if2, opt .ensures .1 .0, opt .kept, opt .ensures .1 .1 (if2 .left), if1, type-param-head .ensures .1, type-param-head .kept, pre, good))
+      let at = c .at in (
+        pre .1 .1,
+        omega (arith, link-opt2 .kept, opt2 .ensures .1 .1 (if3 .left), link-opt .kept, same-kids (none .ensures), opt .kept, opt .ensures .1 .1 (if2 .left), type-param-head .kept),
+        omega (arith, at .ensures .0, at .ensures .1, opt-bit2 .ensures .0, opt-bit2 .ensures .1, opt-bit .ensures .0, opt-bit .ensures .1, link-opt2 .ensures .1, link-opt2 .kept, if3, opt2 .ensures .1 .0, opt2 .kept, opt2 .ensures .1 .1 (if3 .left), link-opt .ensures .1, link-opt .kept, same-kids (none .ensures), if2, opt .ensures .1 .0, opt .kept, opt .ensures .1 .1 (if2 .left), if1, type-param-head .ensures .1, type-param-head .kept, pre, good),
+        omega (arith, at .ensures .1, opt-bit2 .ensures .0, opt-bit2 .ensures .1, opt-bit .ensures .0, opt-bit .ensures .1, link-opt2 .ensures .1, opt2 .ensures .1 .0, opt2 .ensures .1 .1 (if3 .left), link-opt .ensures .1, same-kids (none .ensures), opt .ensures .1 .0, opt .ensures .1 .1 (if2 .left), type-param-head .ensures .1),
+        omega arith,
+        omega arith,
+      )
 
   pub same-length-8 : lts.Need-same-length-8 (R t) (type-param-at t) type-param.Post
   same-length-8 c =
@@ -268,28 +196,21 @@ module _ (t : ℕ) where
       let link-opt = c .before .before .before .before .before .before .before .before .before .before .before .before .before .before .before .before .before .before .before .before .before .before .before .before .before .before .link-opt in
       let opt2 = c .before .before .before .before .before .before .before .before .before .before .before .before .before .before .before .before .before .before .before .before .opt2 in
       let link-opt2 = c .before .before .before .before .before .before .before .before .before .link-opt2 in
-      let put = c .before .before .put in
-      omega (arith, put .kept, link-opt2 .kept, opt2 .kept, link-opt .kept, opt .kept, type-param-head .kept)
+      omega (arith, link-opt2 .kept, opt2 .kept, link-opt .kept, opt .kept, type-param-head .kept)
 
   pub same-length-9 : lts.Need-same-length-9 (R t) (type-param-at t) type-param.Post
   same-length-9 c =
       let type-param-head = c .before .before .before .before .before .before .before .before .before .before .before .before .before .before .before .before .before .before .before .before .before .before .before .before .before .before .before .before .before .before .before .before .before .before .before .before .before .before .before .before .before .before .before .before .before .before .before .type-param-head in
       let opt = c .before .before .before .before .before .before .before .before .before .before .before .before .before .before .before .before .before .before .before .before .before .before .before .before .before .before .before .before .before .before .before .before .before .before .before .before .before .before .opt in
-      let link-opt = c .before .before .before .before .before .before .before .before .before .before .before .before .before .before .before .before .before .before .before .before .before .before .before .before .before .before .link-opt in
       let opt2 = c .before .before .before .before .before .before .before .before .before .before .before .before .before .before .before .before .before .before .before .before .opt2 in
-      let link-opt2 = c .before .before .before .before .before .before .before .before .before .link-opt2 in
-      let put = c .before .before .put in
-      omega (arith, put .kept, link-opt2 .kept, opt2 .kept, link-opt .kept, opt .kept, type-param-head .kept)
+      omega (arith, opt2 .kept, opt .kept, type-param-head .kept)
 
   pub same-length-10 : lts.Need-same-length-10 (R t) (type-param-at t) type-param.Post
   same-length-10 c =
       let type-param-head = c .before .before .before .before .before .before .before .before .before .before .before .before .before .before .before .before .before .before .before .before .before .before .before .before .before .before .before .before .before .before .before .before .before .before .before .before .before .before .before .before .before .before .before .before .before .before .before .type-param-head in
       let opt = c .before .before .before .before .before .before .before .before .before .before .before .before .before .before .before .before .before .before .before .before .before .before .before .before .before .before .before .before .before .before .before .before .before .before .before .before .before .before .opt in
-      let link-opt = c .before .before .before .before .before .before .before .before .before .before .before .before .before .before .before .before .before .before .before .before .before .before .before .before .before .before .link-opt in
       let opt2 = c .before .before .before .before .before .before .before .before .before .before .before .before .before .before .before .before .before .before .before .before .opt2 in
-      let link-opt2 = c .before .before .before .before .before .before .before .before .before .link-opt2 in
-      let put = c .before .before .put in
-      omega (arith, put .kept, link-opt2 .kept, opt2 .kept, link-opt .kept, opt .kept, type-param-head .kept)
+      omega (arith, opt2 .kept, opt .kept, type-param-head .kept)
 
   pub returns-4 : lts.Need-returns-4 (R t) (type-param-at t) type-param.Post
   returns-4 c =
@@ -324,5 +245,8 @@ module _ (t : ℕ) where
             (at .ensures .0 .1)
             (shape-as (omega (arith, opt-bit .ensures .0, opt-bit2 .ensures .0, ap optBit (x .high-is), ap optBit (d .high-is)))
             (shape-typeParameter (head .what) (x .tree) (d .tree) (x .is-opt) (d .is-opt)))),
-        (omega (arith, put .ensures .1, put .kept, at .ensures .0, at .ensures .1, opt-bit2 .ensures .0, opt-bit2 .ensures .1, opt-bit .ensures .0, opt-bit .ensures .1, link-opt2 .ensures .1, link-opt2 .kept, if3, opt2 .ensures .1 .0, opt2 .kept, opt2 .ensures .1 .1 (if3 .left), link-opt .ensures .1, link-opt .kept, same-kids (none .ensures), if2, opt .ensures .1 .0, opt .kept, opt .ensures .1 .1 (if2 .left), if1, type-param-head .ensures .1, type-param-head .kept, pre, good), λ z. omega (arith, put .ensures .1, put .kept, at .ensures .0, at .ensures .1, opt-bit2 .ensures .0, opt-bit2 .ensures .1, opt-bit .ensures .0, opt-bit .ensures .1, link-opt2 .ensures .1, link-opt2 .kept, if3, opt2 .ensures .1 .0, opt2 .kept, opt2 .ensures .1 .1 (if3 .left), link-opt .ensures .1, link-opt .kept, same-kids (none .ensures), if2, opt .ensures .1 .0, opt .kept, opt .ensures .1 .1 (if2 .left), if1, type-param-head .ensures .1, type-param-head .kept, pre, good, z)),
+        (
+          omega (arith, put .ensures .1, put .kept, at .ensures .0, at .ensures .1, opt-bit2 .ensures .0, opt-bit2 .ensures .1, opt-bit .ensures .0, opt-bit .ensures .1, link-opt2 .ensures .1, link-opt2 .kept, if3, opt2 .ensures .1 .0, opt2 .kept, opt2 .ensures .1 .1 (if3 .left), link-opt .ensures .1, link-opt .kept, same-kids (none .ensures), if2, opt .ensures .1 .0, opt .kept, opt .ensures .1 .1 (if2 .left), if1, type-param-head .ensures .1, type-param-head .kept, pre, good),
+          λ z. omega (arith, put .ensures .1, put .kept, at .ensures .0, at .ensures .1, opt-bit2 .ensures .0, opt-bit2 .ensures .1, opt-bit .ensures .0, opt-bit .ensures .1, link-opt2 .ensures .1, link-opt2 .kept, if3, opt2 .ensures .1 .0, opt2 .kept, opt2 .ensures .1 .1 (if3 .left), link-opt .ensures .1, link-opt .kept, same-kids (none .ensures), if2, opt .ensures .1 .0, opt .kept, opt .ensures .1 .1 (if2 .left), if1, type-param-head .ensures .1, type-param-head .kept, pre, good, z),
+        ),
       )

@@ -1,31 +1,19 @@
 -- The needs of `type_params`.
-use Prim.Native.Nat.{ℕ, suc, _+_, _-_, _*_, _^_, _≤_, _<_}
+use Prim.Native.Nat.{ℕ, _-_, _*_}
 use native.Mathlib.Omega.{arith}
 use borrow.Author.Needs.{needs}
-use borrow.Author.Tests.{not-true, not-false}
-use mathlib.Core.Path.{_≡_, refl, sym, _∙_, ap, subst}
-use mathlib.Core.List.{List, [], _∷_, _++_}
+use mathlib.Core.Path.{refl}
+use mathlib.Core.List.{List}
 use lib.ListN.{length}
 use Rattle.parts.specs.MarkLaws.{is-here, is-not-here}
 use Rattle.parts.specs.RingLaws.{types-none, types-some}
-use Rattle.readers.specs.ListTurns.{listed-absent, listed-refused, turn-starts, turn-refused, turn-stops, turn-again, turn-ends}
-use Rattle.parts.specs.declared.function.This.{This}
-use Rattle.readers.specs.Fields.{same-mark, same-kids, same-answer, same-listed, same-params}
-use Rattle.words.specs.Limits.{tallest}
-use Rattle.words.specs.Kind.{Pipe, Amp, LBrack, TemplateHead}
-use Rattle.words.specs.Cursor.{kindAt}
-use Rattle.keys.specs.Placed as node
-use Rattle.keys.specs.Placed.{Placed, Opt}
-use Rattle.keys.specs.Store.{Run}
-use Rattle.rules.specs.State.{spelling}
-use Rattle.rules.specs.Function.{ThisParameter}
-use Rattle.rules.specs.Union as unions
-use Rattle.rules.specs.Operator as operators
-use Rattle.parts.specs.Marks.{view, givenOf, Spelt, Fine, Under, placeOf}
-use Rattle.parts.specs.Laid.{runIn, nameRun, IsNode, Was, was, Laid, BuiltAt, Stands}
+use Rattle.parts.specs.Marks.{view, givenOf, Spelt, Under, placeOf}
+use Rattle.parts.specs.Laid.{was}
 use Rattle.parts.specs.Ring.{below}
 use Rattle.readers.specs.Kept.{Kept}
-use Rattle.readers.specs.Loops.{TypesTurn, ArgumentsTurn, ParametersTurn, PartsTurn, SuffixTurn, TupleTurn, PiecesTurn}
+use Rattle.readers.specs.Fields.{same-kids, same-listed}
+use Rattle.readers.specs.Loops.{TypesTurn}
+use Rattle.readers.specs.ListTurns.{listed-absent, listed-refused, turn-starts, turn-refused, turn-stops, turn-again, turn-ends}
 use Rattle.parts.proofs.list.list_end.Reads as list-end-reads
 use Rattle.parts.proofs.list.past_comma.Reads as past-comma-reads
 use Rattle.parts.proofs.node.link.Reads as link-reads
@@ -45,7 +33,8 @@ R t = (kind-at-reads.Asked, kind-at-reads.Learnt, absent-reads.Asked, absent-rea
 abbrev pub Inv-loop : lts.InvT-loop
 Inv-loop words classes nodes₀ names₀ notes₀ given on m p₀ k₀ nodes names notes p k =
     Kept (length words) given nodes₀ names₀ notes₀ p₀ nodes names notes p × (Under (p .used) k)
-    × ((text : List ℕ) → Spelt text words → TypesTurn (givenOf text words given) (below given (givenOf text words given)) on (view m notes₀) (was m nodes₀ names₀ notes₀) k p nodes names notes)
+    ×
+    ((text : List ℕ) → Spelt text words → TypesTurn (givenOf text words given) (below given (givenOf text words given)) on (view m notes₀) (was m nodes₀ names₀ notes₀) k p nodes names notes)
 
 abbrev pub μ-loop : lts.MeasureT-loop
 μ-loop words classes nodes₀ names₀ notes₀ given on m p₀ k₀ nodes names notes p k =
@@ -57,96 +46,68 @@ module _ (t : ℕ) where
       search needs
 
   pub absent-requires : lts.Need-absent-requires (R t) (type-params-at t) type-params.Post Inv-loop μ-loop
-  absent-requires c κs =
-      search needs
+  absent-requires c κs = search needs
 
   pub returns : lts.Need-returns (R t) (type-params-at t) type-params.Post Inv-loop μ-loop
   returns c =
       let args = c .before .before .before .before .before .before .before .args in
-      let good = c .before .before .before .before .before .before .before .good in
-      let pre = c .before .before .before .before .before .before .before .pre in
       let kind-at = c .before .before .kind-at in
       let if1 = c .before .if1 in
       let absent = c .absent in (
         λ text s.
             listed-absent (absent .ensures)
             (types-none _ _ _ _ (is-not-here (args .words .now) (args .m) (kind-at .ensures .0) (if1 .taken))),
-        (omega (arith, same-listed (absent .ensures), if1, kind-at .ensures .0, kind-at .ensures .1, pre, good), λ z. omega (arith, same-listed (absent .ensures), if1, kind-at .ensures .0, kind-at .ensures .1, pre, good, z)),
+        (omega (arith, same-listed (absent .ensures)), λ z. omega (arith, same-listed (absent .ensures))),
       )
 
   pub add-t16 : lts.Need-add-t16 (R t) (type-params-at t) type-params.Post Inv-loop μ-loop
-  add-t16 c =
-      let good = c .before .before .before .before .before .before .before .good in
-      let pre = c .before .before .before .before .before .before .before .pre in
-      let kind-at = c .before .before .kind-at in
-      let if1 = c .before .if1 in
-      omega (arith, if1, kind-at .ensures .0, kind-at .ensures .1, pre, good)
+  add-t16 c = omega arith
 
   pub none-requires : lts.Need-none-requires (R t) (type-params-at t) type-params.Post Inv-loop μ-loop
-  none-requires c κs =
-      search needs
+  none-requires c κs = search needs
 
   pub loop-holds : lts.Need-loop-holds (R t) (type-params-at t) type-params.Post Inv-loop μ-loop
   loop-holds c =
       let args = c .before .before .before .before .before .before .before .before .args in
-      let good = c .before .before .before .before .before .before .before .before .good in
-      let pre = c .before .before .before .before .before .before .before .before .pre in
       let kind-at = c .before .before .before .kind-at in
       let if1 = c .before .before .if1 in
       let none = c .none in (
-        omega (arith, same-kids (none .ensures), if1, kind-at .ensures .0, kind-at .ensures .1, pre, good),
-        omega (arith, same-kids (none .ensures), if1, kind-at .ensures .0, kind-at .ensures .1, pre, good),
+        omega arith,
+        omega (arith, same-kids (none .ensures)),
         λ text s.
             turn-starts (args .m) _ (none .ensures) refl refl refl
             (types-some _ _ _ _ (is-here (args .words .now) (args .m) (kind-at .ensures .0) (if1 .left))),
       )
 
   pub kind-at-requires-2 : lts.Need-kind-at-requires-2 (R t) (type-params-at t) type-params.Post Inv-loop μ-loop
-  kind-at-requires-2 c κs =
-      search needs
+  kind-at-requires-2 c κs = search needs
 
   pub type-param-requires : lts.Need-type-param-requires (R t) (type-params-at t) type-params.Post Inv-loop μ-loop
   type-param-requires c κs =
-      let good = c .before .before .before .before .before .before .before .before .before .before .before .before .before .before .good in
       let pre = c .before .before .before .before .before .before .before .before .before .before .before .before .before .before .pre in
-      let kind-at = c .before .before .before .before .before .before .before .before .before .kind-at in
-      let if1 = c .before .before .before .before .before .before .before .before .if1 in
-      let none = c .before .before .before .before .before .before .none in
-      let loop = c .before .before .before .before .before .loop in
-      let kind-at2 = c .before .before .before .before .kind-at2 in
-      let if2 = c .before .before .before .if2 in
-      (omega (arith, if2, kind-at2 .ensures .0, kind-at2 .ensures .1, loop .inv .0, loop .inv .1, same-kids (none .ensures), if1, kind-at .ensures .0, kind-at .ensures .1, pre, good), (pre .1 .0, pre .1 .1, omega (arith, if2, kind-at2 .ensures .0, kind-at2 .ensures .1, loop .inv .0, loop .inv .1, same-kids (none .ensures), if1, kind-at .ensures .0, kind-at .ensures .1, pre, good), omega (arith, if2, kind-at2 .ensures .0, kind-at2 .ensures .1, loop .inv .0, loop .inv .1, same-kids (none .ensures), if1, kind-at .ensures .0, kind-at .ensures .1, pre, good)))
+      (omega arith, (pre .1 .0, pre .1 .1, omega arith, omega arith))
 
   pub refused-requires : lts.Need-refused-requires (R t) (type-params-at t) type-params.Post Inv-loop μ-loop
-  refused-requires c κs =
-      search needs
+  refused-requires c κs = search needs
 
   pub same-length : lts.Need-same-length (R t) (type-params-at t) type-params.Post Inv-loop μ-loop
   same-length c =
       let loop = c .before .before .before .before .before .before .before .before .before .before .before .before .before .before .before .loop in
-      let type-param = c .before .before .before .before .before .before .before .before .before .type-param in
-      omega (arith, type-param .kept, loop .inv .0)
+      omega (arith, loop .inv .0)
 
   pub same-length-2 : lts.Need-same-length-2 (R t) (type-params-at t) type-params.Post Inv-loop μ-loop
   same-length-2 c =
       let loop = c .before .before .before .before .before .before .before .before .before .before .before .before .before .before .before .loop in
-      let type-param = c .before .before .before .before .before .before .before .before .before .type-param in
-      omega (arith, type-param .kept, loop .inv .0)
+      omega (arith, loop .inv .0)
 
   pub same-length-3 : lts.Need-same-length-3 (R t) (type-params-at t) type-params.Post Inv-loop μ-loop
   same-length-3 c =
       let loop = c .before .before .before .before .before .before .before .before .before .before .before .before .before .before .before .loop in
-      let type-param = c .before .before .before .before .before .before .before .before .before .type-param in
-      omega (arith, type-param .kept, loop .inv .0)
+      omega (arith, loop .inv .0)
 
   pub returns-2 : lts.Need-returns-2 (R t) (type-params-at t) type-params.Post Inv-loop μ-loop
   returns-2 c =
       let args = c .before .before .before .before .before .before .before .before .before .before .before .before .before .before .before .before .before .before .before .before .before .before .before .before .args in
-      let good = c .before .before .before .before .before .before .before .before .before .before .before .before .before .before .before .before .before .before .before .before .before .before .before .before .good in
-      let pre = c .before .before .before .before .before .before .before .before .before .before .before .before .before .before .before .before .before .before .before .before .before .before .before .before .pre in
-      let kind-at = c .before .before .before .before .before .before .before .before .before .before .before .before .before .before .before .before .before .before .before .kind-at in
-      let if1 = c .before .before .before .before .before .before .before .before .before .before .before .before .before .before .before .before .before .before .if1 in
-      let none = c .before .before .before .before .before .before .before .before .before .before .before .before .before .before .before .before .none in
       let loop = c .before .before .before .before .before .before .before .before .before .before .before .before .before .before .before .loop in
       let kind-at2 = c .before .before .before .before .before .before .before .before .before .before .before .before .before .before .kind-at2 in
       let if2 = c .before .before .before .before .before .before .before .before .before .before .before .before .before .if2 in
@@ -158,7 +119,7 @@ module _ (t : ℕ) where
             let goes-on = is-not-here (args .words .now) (loop .p) (kind-at2 .ensures .0) (if2 .taken) in
             listed-refused (refused .ensures) (if3 .taken)
             (turn-refused _ _ _ _ (loop .p) w goes-on (type-param .ensures .0 text s .refused (if3 .taken))),
-        (omega (arith, same-listed (refused .ensures), if3, type-param .ensures .1 .0, type-param .kept, if2, kind-at2 .ensures .0, kind-at2 .ensures .1, loop .inv .0, loop .inv .1, same-kids (none .ensures), if1, kind-at .ensures .0, kind-at .ensures .1, pre, good), λ z. omega (arith, same-listed (refused .ensures), if3, type-param .ensures .1 .0, type-param .kept, if2, kind-at2 .ensures .0, kind-at2 .ensures .1, loop .inv .0, loop .inv .1, same-kids (none .ensures), if1, kind-at .ensures .0, kind-at .ensures .1, pre, good, z)),
+        (omega (arith, same-listed (refused .ensures)), λ z. omega (arith, same-listed (refused .ensures))),
       )
 
   pub link-requires : lts.Need-link-requires (R t) (type-params-at t) type-params.Post Inv-loop μ-loop
@@ -173,62 +134,42 @@ module _ (t : ℕ) where
       let if2 = c .before .before .before .before .before .before .before .before .before .before .before .before .before .before .if2 in
       let type-param = c .before .before .before .before .before .before .before .before .before .before .type-param in
       let if3 = c .before .before .if3 in
-      omega (arith, if3, type-param .ensures .1 .0, type-param .kept, type-param .ensures .1 .1 (if3 .left), if2, kind-at2 .ensures .0, kind-at2 .ensures .1, loop .inv .0, loop .inv .1, same-kids (none .ensures), if1, kind-at .ensures .0, kind-at .ensures .1, pre, good)
+      omega (arith, type-param .ensures .1 .1 (if3 .left), if2, kind-at2 .ensures .0, kind-at2 .ensures .1, loop .inv .0, loop .inv .1, same-kids (none .ensures), if1, kind-at .ensures .0, kind-at .ensures .1, pre, good)
 
   pub past-comma-requires : lts.Need-past-comma-requires (R t) (type-params-at t) type-params.Post Inv-loop μ-loop
   past-comma-requires c κs =
-      let good = c .before .before .before .before .before .before .before .before .before .before .before .before .before .before .before .before .before .before .before .before .before .before .before .before .before .before .before .before .good in
       let pre = c .before .before .before .before .before .before .before .before .before .before .before .before .before .before .before .before .before .before .before .before .before .before .before .before .before .before .before .before .pre in
-      let kind-at = c .before .before .before .before .before .before .before .before .before .before .before .before .before .before .before .before .before .before .before .before .before .before .before .kind-at in
-      let if1 = c .before .before .before .before .before .before .before .before .before .before .before .before .before .before .before .before .before .before .before .before .before .before .if1 in
-      let none = c .before .before .before .before .before .before .before .before .before .before .before .before .before .before .before .before .before .before .before .before .none in
-      let loop = c .before .before .before .before .before .before .before .before .before .before .before .before .before .before .before .before .before .before .before .loop in
-      let kind-at2 = c .before .before .before .before .before .before .before .before .before .before .before .before .before .before .before .before .before .before .kind-at2 in
-      let if2 = c .before .before .before .before .before .before .before .before .before .before .before .before .before .before .before .before .before .if2 in
-      let type-param = c .before .before .before .before .before .before .before .before .before .before .before .before .before .type-param in
-      let if3 = c .before .before .before .before .before .if3 in
-      let link = c .before .before .link in
-      (pre .1 .1, omega (arith, link .ensures .1, link .kept, if3, type-param .ensures .1 .0, type-param .kept, type-param .ensures .1 .1 (if3 .left), if2, kind-at2 .ensures .0, kind-at2 .ensures .1, loop .inv .0, loop .inv .1, same-kids (none .ensures), if1, kind-at .ensures .0, kind-at .ensures .1, pre, good))
+      (pre .1 .1, omega arith)
 
   pub refused-requires-2 : lts.Need-refused-requires-2 (R t) (type-params-at t) type-params.Post Inv-loop μ-loop
-  refused-requires-2 c κs =
-      search needs
+  refused-requires-2 c κs = search needs
 
   pub same-length-4 : lts.Need-same-length-4 (R t) (type-params-at t) type-params.Post Inv-loop μ-loop
   same-length-4 c =
       let loop = c .before .before .before .before .before .before .before .before .before .before .before .before .before .before .before .before .before .before .before .before .before .before .before .loop in
       let type-param = c .before .before .before .before .before .before .before .before .before .before .before .before .before .before .before .before .before .type-param in
-      let link = c .before .before .before .before .before .before .link in
-      omega (arith, link .kept, type-param .kept, loop .inv .0)
+      omega (arith, type-param .kept, loop .inv .0)
 
   pub same-length-5 : lts.Need-same-length-5 (R t) (type-params-at t) type-params.Post Inv-loop μ-loop
   same-length-5 c =
       let loop = c .before .before .before .before .before .before .before .before .before .before .before .before .before .before .before .before .before .before .before .before .before .before .before .loop in
       let type-param = c .before .before .before .before .before .before .before .before .before .before .before .before .before .before .before .before .before .type-param in
-      let link = c .before .before .before .before .before .before .link in
-      omega (arith, link .kept, type-param .kept, loop .inv .0)
+      omega (arith, type-param .kept, loop .inv .0)
 
   pub same-length-6 : lts.Need-same-length-6 (R t) (type-params-at t) type-params.Post Inv-loop μ-loop
   same-length-6 c =
       let loop = c .before .before .before .before .before .before .before .before .before .before .before .before .before .before .before .before .before .before .before .before .before .before .before .loop in
       let type-param = c .before .before .before .before .before .before .before .before .before .before .before .before .before .before .before .before .before .type-param in
-      let link = c .before .before .before .before .before .before .link in
-      omega (arith, link .kept, type-param .kept, loop .inv .0)
+      omega (arith, type-param .kept, loop .inv .0)
 
   pub returns-3 : lts.Need-returns-3 (R t) (type-params-at t) type-params.Post Inv-loop μ-loop
   returns-3 c =
       let args = c .before .before .before .before .before .before .before .before .before .before .before .before .before .before .before .before .before .before .before .before .before .before .before .before .before .before .before .before .before .before .before .before .args in
-      let good = c .before .before .before .before .before .before .before .before .before .before .before .before .before .before .before .before .before .before .before .before .before .before .before .before .before .before .before .before .before .before .before .before .good in
-      let pre = c .before .before .before .before .before .before .before .before .before .before .before .before .before .before .before .before .before .before .before .before .before .before .before .before .before .before .before .before .before .before .before .before .pre in
-      let kind-at = c .before .before .before .before .before .before .before .before .before .before .before .before .before .before .before .before .before .before .before .before .before .before .before .before .before .before .before .kind-at in
-      let if1 = c .before .before .before .before .before .before .before .before .before .before .before .before .before .before .before .before .before .before .before .before .before .before .before .before .before .before .if1 in
-      let none = c .before .before .before .before .before .before .before .before .before .before .before .before .before .before .before .before .before .before .before .before .before .before .before .before .none in
       let loop = c .before .before .before .before .before .before .before .before .before .before .before .before .before .before .before .before .before .before .before .before .before .before .before .loop in
       let kind-at2 = c .before .before .before .before .before .before .before .before .before .before .before .before .before .before .before .before .before .before .before .before .before .before .kind-at2 in
       let if2 = c .before .before .before .before .before .before .before .before .before .before .before .before .before .before .before .before .before .before .before .before .before .if2 in
       let type-param = c .before .before .before .before .before .before .before .before .before .before .before .before .before .before .before .before .before .type-param in
       let if3 = c .before .before .before .before .before .before .before .before .before .if3 in
-      let link = c .before .before .before .before .before .before .link in
       let past-comma = c .before .before .before .past-comma in
       let if4 = c .before .if4 in
       let refused2 = c .refused2 in (
@@ -237,33 +178,18 @@ module _ (t : ℕ) where
             let goes-on = is-not-here (args .words .now) (loop .p) (kind-at2 .ensures .0) (if2 .taken) in
             listed-refused (refused2 .ensures) (if4 .taken)
             (turn-stops _ _ _ _ (loop .p) w goes-on _ (type-param .ensures .0 text s .done (if3 .left) .is) (past-comma .ensures .0) (if4 .taken)),
-        (omega (arith, same-listed (refused2 .ensures), if4, past-comma .ensures .1, link .ensures .1, link .kept, if3, type-param .ensures .1 .0, type-param .kept, type-param .ensures .1 .1 (if3 .left), if2, kind-at2 .ensures .0, kind-at2 .ensures .1, loop .inv .0, loop .inv .1, same-kids (none .ensures), if1, kind-at .ensures .0, kind-at .ensures .1, pre, good), λ z. omega (arith, same-listed (refused2 .ensures), if4, past-comma .ensures .1, link .ensures .1, link .kept, if3, type-param .ensures .1 .0, type-param .kept, type-param .ensures .1 .1 (if3 .left), if2, kind-at2 .ensures .0, kind-at2 .ensures .1, loop .inv .0, loop .inv .1, same-kids (none .ensures), if1, kind-at .ensures .0, kind-at .ensures .1, pre, good, z)),
+        (omega (arith, same-listed (refused2 .ensures)), λ z. omega (arith, same-listed (refused2 .ensures))),
       )
 
   pub loop-less : lts.Need-loop-less (R t) (type-params-at t) type-params.Post Inv-loop μ-loop
   loop-less c =
-      let good = c .before .before .before .before .before .before .before .before .before .before .before .before .before .before .before .before .before .before .before .before .before .before .before .before .before .before .before .before .before .before .before .before .good in
-      let pre = c .before .before .before .before .before .before .before .before .before .before .before .before .before .before .before .before .before .before .before .before .before .before .before .before .before .before .before .before .before .before .before .before .pre in
-      let kind-at = c .before .before .before .before .before .before .before .before .before .before .before .before .before .before .before .before .before .before .before .before .before .before .before .before .before .before .before .kind-at in
-      let if1 = c .before .before .before .before .before .before .before .before .before .before .before .before .before .before .before .before .before .before .before .before .before .before .before .before .before .before .if1 in
-      let none = c .before .before .before .before .before .before .before .before .before .before .before .before .before .before .before .before .before .before .before .before .before .before .before .before .none in
-      let loop = c .before .before .before .before .before .before .before .before .before .before .before .before .before .before .before .before .before .before .before .before .before .before .before .loop in
-      let kind-at2 = c .before .before .before .before .before .before .before .before .before .before .before .before .before .before .before .before .before .before .before .before .before .before .kind-at2 in
-      let if2 = c .before .before .before .before .before .before .before .before .before .before .before .before .before .before .before .before .before .before .before .before .before .if2 in
       let type-param = c .before .before .before .before .before .before .before .before .before .before .before .before .before .before .before .before .before .type-param in
       let if3 = c .before .before .before .before .before .before .before .before .before .if3 in
-      let link = c .before .before .before .before .before .before .link in
-      let past-comma = c .before .before .before .past-comma in
-      let if4 = c .before .if4 in
-      omega (arith, if4, past-comma .ensures .1, link .ensures .1, link .kept, if3, type-param .ensures .1 .0, type-param .kept, type-param .ensures .1 .1 (if3 .left), if2, kind-at2 .ensures .0, kind-at2 .ensures .1, loop .inv .0, loop .inv .1, same-kids (none .ensures), if1, kind-at .ensures .0, kind-at .ensures .1, pre, good)
+      omega (arith, type-param .ensures .1 .1 (if3 .left))
 
   pub loop-again : lts.Need-loop-again (R t) (type-params-at t) type-params.Post Inv-loop μ-loop
   loop-again c =
       let args = c .before .before .before .before .before .before .before .before .before .before .before .before .before .before .before .before .before .before .before .before .before .before .before .before .before .before .before .before .before .before .before .before .args in
-      let good = c .before .before .before .before .before .before .before .before .before .before .before .before .before .before .before .before .before .before .before .before .before .before .before .before .before .before .before .before .before .before .before .before .good in
-      let pre = c .before .before .before .before .before .before .before .before .before .before .before .before .before .before .before .before .before .before .before .before .before .before .before .before .before .before .before .before .before .before .before .before .pre in
-      let kind-at = c .before .before .before .before .before .before .before .before .before .before .before .before .before .before .before .before .before .before .before .before .before .before .before .before .before .before .before .kind-at in
-      let if1 = c .before .before .before .before .before .before .before .before .before .before .before .before .before .before .before .before .before .before .before .before .before .before .before .before .before .before .if1 in
       let none = c .before .before .before .before .before .before .before .before .before .before .before .before .before .before .before .before .before .before .before .before .before .before .before .before .none in
       let loop = c .before .before .before .before .before .before .before .before .before .before .before .before .before .before .before .before .before .before .before .before .before .before .before .loop in
       let kind-at2 = c .before .before .before .before .before .before .before .before .before .before .before .before .before .before .before .before .before .before .before .before .before .before .kind-at2 in
@@ -273,57 +199,33 @@ module _ (t : ℕ) where
       let link = c .before .before .before .before .before .before .link in
       let past-comma = c .before .before .before .past-comma in
       let if4 = c .before .if4 in (
-        omega (arith, if4, past-comma .ensures .1, link .ensures .1, link .kept, if3, type-param .ensures .1 .0, type-param .kept, type-param .ensures .1 .1 (if3 .left), if2, kind-at2 .ensures .0, kind-at2 .ensures .1, loop .inv .0, loop .inv .1, same-kids (none .ensures), if1, kind-at .ensures .0, kind-at .ensures .1, pre, good),
-        omega (arith, if4, past-comma .ensures .1, link .ensures .1, link .kept, if3, type-param .ensures .1 .0, type-param .kept, type-param .ensures .1 .1 (if3 .left), if2, kind-at2 .ensures .0, kind-at2 .ensures .1, loop .inv .0, loop .inv .1, same-kids (none .ensures), if1, kind-at .ensures .0, kind-at .ensures .1, pre, good),
+        omega (arith, type-param .kept, type-param .ensures .1 .1 (if3 .left), same-kids (none .ensures)),
+        omega arith,
         λ text s.
             let w = loop .inv .2 text s in
             let goes-on = is-not-here (args .words .now) (loop .p) (kind-at2 .ensures .0) (if2 .taken) in
-            turn-again _ _ _ _ (loop .p) w goes-on (type-param .ensures .0 text s .done (if3 .left)) (link .ensures .0) (omega (arith, type-param .kept)) (link .ensures .1 .1)
+            turn-again _ _ _ _ (loop .p) w goes-on (type-param .ensures .0 text s .done (if3 .left)) (link .ensures .0) (omega arith)
+            (link .ensures .1 .1)
             (past-comma .ensures .0) (if4 .left) (past-comma .ensures .1)
-            (omega (arith, type-param .ensures .1 .0, type-param .ensures .1 .1 (if3 .left))) (omega (arith, type-param .ensures .1 .0, type-param .ensures .1 .1 (if3 .left))),
+            (omega (arith, type-param .ensures .1 .1 (if3 .left))) (omega (arith, type-param .ensures .1 .1 (if3 .left))),
       )
 
   pub first-byte-requires : lts.Need-first-byte-requires (R t) (type-params-at t) type-params.Post Inv-loop μ-loop
-  first-byte-requires c κs =
-      let good = c .before .before .before .before .before .before .before .before .before .before .before .good in
-      let pre = c .before .before .before .before .before .before .before .before .before .before .before .pre in
-      let kind-at = c .before .before .before .before .before .before .kind-at in
-      let if1 = c .before .before .before .before .before .if1 in
-      let none = c .before .before .before .none in
-      let loop = c .before .before .loop in
-      let kind-at2 = c .before .kind-at2 in
-      let if2 = c .if2 in
-      (pre .1 .1, omega (arith, if2, kind-at2 .ensures .0, kind-at2 .ensures .1, loop .inv .0, loop .inv .1, same-kids (none .ensures), if1, kind-at .ensures .0, kind-at .ensures .1, pre, good))
+  first-byte-requires c κs = search needs
 
   pub list-end-requires : lts.Need-list-end-requires (R t) (type-params-at t) type-params.Post Inv-loop μ-loop
   list-end-requires c κs =
-      let good = c .before .before .before .before .before .before .before .before .before .before .before .before .before .good in
       let pre = c .before .before .before .before .before .before .before .before .before .before .before .before .before .pre in
-      let kind-at = c .before .before .before .before .before .before .before .before .kind-at in
-      let if1 = c .before .before .before .before .before .before .before .if1 in
-      let none = c .before .before .before .before .before .none in
-      let loop = c .before .before .before .before .loop in
-      let kind-at2 = c .before .before .before .kind-at2 in
-      let if2 = c .before .before .if2 in
-      (pre .1 .1, omega (arith, if2, kind-at2 .ensures .0, kind-at2 .ensures .1, loop .inv .0, loop .inv .1, same-kids (none .ensures), if1, kind-at .ensures .0, kind-at .ensures .1, pre, good), omega (arith, if2, kind-at2 .ensures .0, kind-at2 .ensures .1, loop .inv .0, loop .inv .1, same-kids (none .ensures), if1, kind-at .ensures .0, kind-at .ensures .1, pre, good), omega (arith, if2, kind-at2 .ensures .0, kind-at2 .ensures .1, loop .inv .0, loop .inv .1, same-kids (none .ensures), if1, kind-at .ensures .0, kind-at .ensures .1, pre, good), omega (arith, if2, kind-at2 .ensures .0, kind-at2 .ensures .1, loop .inv .0, loop .inv .1, same-kids (none .ensures), if1, kind-at .ensures .0, kind-at .ensures .1, pre, good))
+      (pre .1 .1, omega arith, omega arith, omega arith, omega arith)
 
   pub same-length-7 : lts.Need-same-length-7 (R t) (type-params-at t) type-params.Post Inv-loop μ-loop
-  same-length-7 c =
-      let loop = c .before .before .before .before .before .before .before .loop in
-      let list-end = c .before .before .list-end in
-      omega (arith, list-end .kept, loop .inv .0)
+  same-length-7 c = omega arith
 
   pub same-length-8 : lts.Need-same-length-8 (R t) (type-params-at t) type-params.Post Inv-loop μ-loop
-  same-length-8 c =
-      let loop = c .before .before .before .before .before .before .before .loop in
-      let list-end = c .before .before .list-end in
-      omega (arith, list-end .kept, loop .inv .0)
+  same-length-8 c = omega arith
 
   pub same-length-9 : lts.Need-same-length-9 (R t) (type-params-at t) type-params.Post Inv-loop μ-loop
-  same-length-9 c =
-      let loop = c .before .before .before .before .before .before .before .loop in
-      let list-end = c .before .before .list-end in
-      omega (arith, list-end .kept, loop .inv .0)
+  same-length-9 c = omega arith
 
   pub returns-4 : lts.Need-returns-4 (R t) (type-params-at t) type-params.Post Inv-loop μ-loop
   returns-4 c =
@@ -331,9 +233,7 @@ module _ (t : ℕ) where
       let first-byte = c .before .before .before .before .first-byte in
       let good = c .before .before .before .before .before .before .before .before .before .before .before .before .before .before .before .before .good in
       let pre = c .before .before .before .before .before .before .before .before .before .before .before .before .before .before .before .before .pre in
-      let kind-at = c .before .before .before .before .before .before .before .before .before .before .before .kind-at in
       let if1 = c .before .before .before .before .before .before .before .before .before .before .if1 in
-      let none = c .before .before .before .before .before .before .before .before .none in
       let loop = c .before .before .before .before .before .before .before .loop in
       let kind-at2 = c .before .before .before .before .before .before .kind-at2 in
       let if2 = c .before .before .before .before .before .if2 in
@@ -341,5 +241,5 @@ module _ (t : ℕ) where
         λ text s.
             turn-ends text (args .words .now) (args .given) _ _ _ _ (loop .p) (loop .inv .2 text s)
             (is-here (args .words .now) (loop .p) (kind-at2 .ensures .0) (if2 .left)) (first-byte .ensures .0) (list-end .ensures .0),
-        (omega (arith, list-end .ensures .1, list-end .kept, if2, kind-at2 .ensures .0, kind-at2 .ensures .1, loop .inv .0, loop .inv .1, same-kids (none .ensures), if1, kind-at .ensures .0, kind-at .ensures .1, pre, good), λ z. omega (arith, list-end .ensures .1, list-end .kept, if2, kind-at2 .ensures .0, kind-at2 .ensures .1, loop .inv .0, loop .inv .1, same-kids (none .ensures), if1, kind-at .ensures .0, kind-at .ensures .1, pre, good, z)),
+        (omega arith, λ z. omega (arith, if1, pre, good, z)),
       )

@@ -1,31 +1,22 @@
 -- The needs of `union`.
-use Prim.Native.Nat.{ℕ, suc, _+_, _-_, _*_, _^_, _≤_, _<_}
+use Prim.Native.Nat.{ℕ, _-_, _*_, _≤_}
 use native.Mathlib.Omega.{arith}
 use borrow.Author.Needs.{needs}
-use borrow.Author.Tests.{not-true, not-false}
-use mathlib.Core.Path.{_≡_, refl, sym, _∙_, ap, subst}
-use mathlib.Core.List.{List, [], _∷_, _++_}
+use mathlib.Core.List.{List}
 use lib.ListN.{length}
-use Rattle.parts.specs.declared.function.This.{This}
-use Rattle.readers.specs.Fields.{same-mark, same-kids, same-answer, same-listed, same-params}
-use Rattle.words.specs.Limits.{tallest}
-use Rattle.words.specs.Kind.{Pipe, Amp, LBrack, TemplateHead}
-use Rattle.words.specs.Cursor.{kindAt}
+use Rattle.words.specs.Kind.{Pipe}
 use Rattle.keys.specs.Placed as node
-use Rattle.keys.specs.Placed.{Placed, Opt}
-use Rattle.keys.specs.Store.{Run}
-use Rattle.rules.specs.State.{spelling}
-use Rattle.rules.specs.Function.{ThisParameter}
+use Rattle.keys.specs.Placed.{Placed}
 use Rattle.rules.specs.Union as unions
-use Rattle.rules.specs.Operator as operators
-use Rattle.parts.specs.Marks.{view, givenOf, Spelt, Fine, Under, placeOf}
-use Rattle.parts.specs.Laid.{runIn, nameRun, IsNode, Was, was, Laid, BuiltAt, Stands}
+use Rattle.parts.specs.Marks.{view, givenOf, Spelt, Under, placeOf}
+use Rattle.parts.specs.Laid.{runIn, IsNode, Was, BuiltAt}
 use Rattle.parts.specs.Ring.{below}
-use Rattle.readers.specs.Kept.{Kept}
-use Rattle.readers.specs.Loops.{TypesTurn, ArgumentsTurn, ParametersTurn, PartsTurn, SuffixTurn, TupleTurn, PiecesTurn}
 use Rattle.parts.specs.MarkLaws.{is-here, is-not-here}
 use Rattle.parts.specs.RingLaws.{union-is}
 use Rattle.parts.specs.RingShapes.{shape-union}
+use Rattle.readers.specs.Kept.{Kept}
+use Rattle.readers.specs.Fields.{same-kids}
+use Rattle.readers.specs.Loops.{PartsTurn}
 use Rattle.readers.specs.PartsLaws.{first-refused, first-alone, first-turn, parts-begin, part-refused, parts-again, parts-put}
 use Rattle.parts.proofs.node.link.Reads as link-reads
 use Rattle.parts.proofs.node.put_list.Reads as put-list-reads
@@ -45,7 +36,8 @@ R t = (past-reads.Asked, past-reads.Learnt, intersection-below t, intersection.P
 abbrev pub Inv-loop : lts.InvT-loop
 Inv-loop words classes nodes₀ names₀ notes₀ given on m p₀ k₀ nodes names notes p k =
     Kept (length words) given nodes₀ names₀ notes₀ p₀ nodes names notes p × ((1 ≤ k .count) × Under (p .used) k)
-    × ((text : List ℕ) (B : Was) (u : Placed) → Spelt text words → IsNode 0 u → BuiltAt B (runIn 0 u) k₀ p₀ nodes₀ names₀ notes₀ → PartsTurn (givenOf text words given) (below given (givenOf text words given)) Pipe node.union (unions.intersection (givenOf text words given) (below given (givenOf text words given)) on) (view m notes₀) u (view p₀ notes₀) B k p nodes names notes)
+    ×
+    ((text : List ℕ) (B : Was) (u : Placed) → Spelt text words → IsNode 0 u → BuiltAt B (runIn 0 u) k₀ p₀ nodes₀ names₀ notes₀ → PartsTurn (givenOf text words given) (below given (givenOf text words given)) Pipe node.union (unions.intersection (givenOf text words given) (below given (givenOf text words given)) on) (view m notes₀) u (view p₀ notes₀) B k p nodes names notes)
 
 abbrev pub μ-loop : lts.MeasureT-loop
 μ-loop words classes nodes₀ names₀ notes₀ given on m p₀ k₀ nodes names notes p k =
@@ -54,37 +46,26 @@ abbrev pub μ-loop : lts.MeasureT-loop
 module _ (t : ℕ) where
   pub past-requires : lts.Need-past-requires (R t) (union-at t) union.Post Inv-loop μ-loop
   past-requires c κs =
-      let good = c .before .before .before .before .good in
       let pre = c .before .before .before .before .pre in
-      (pre .1 .1, omega (arith, pre, good), omega (arith, pre, good))
+      (pre .1 .1, omega arith, omega arith)
 
   pub intersection-requires : lts.Need-intersection-requires (R t) (union-at t) union.Post Inv-loop μ-loop
   intersection-requires c κs =
-      let good = c .before .before .before .before .before .before .before .before .good in
       let pre = c .before .before .before .before .before .before .before .before .pre in
-      let past = c .before .before .before .past in
-      (omega (arith, past .ensures .1, pre, good), (pre .1 .0, pre .1 .1, omega (arith, past .ensures .1, pre, good), omega (arith, past .ensures .1, pre, good)))
+      (omega arith, (pre .1 .0, pre .1 .1, omega arith, omega arith))
 
   pub same-length : lts.Need-same-length (R t) (union-at t) union.Post Inv-loop μ-loop
-  same-length c =
-      let intersection = c .before .before .before .before .before .before .before .before .intersection in
-      omega (arith, intersection .kept)
+  same-length c = omega arith
 
   pub same-length-2 : lts.Need-same-length-2 (R t) (union-at t) union.Post Inv-loop μ-loop
-  same-length-2 c =
-      let intersection = c .before .before .before .before .before .before .before .before .intersection in
-      omega (arith, intersection .kept)
+  same-length-2 c = omega arith
 
   pub same-length-3 : lts.Need-same-length-3 (R t) (union-at t) union.Post Inv-loop μ-loop
-  same-length-3 c =
-      let intersection = c .before .before .before .before .before .before .before .before .intersection in
-      omega (arith, intersection .kept)
+  same-length-3 c = omega arith
 
   pub returns : lts.Need-returns (R t) (union-at t) union.Post Inv-loop μ-loop
   returns c =
       let args = c .before .before .before .before .before .before .before .before .before .before .before .before .before .before .before .before .before .args in
-      let good = c .before .before .before .before .before .before .before .before .before .before .before .before .before .before .before .before .before .good in
-      let pre = c .before .before .before .before .before .before .before .before .before .before .before .before .before .before .before .before .before .pre in
       let past = c .before .before .before .before .before .before .before .before .before .before .before .before .past in
       let intersection = c .before .before .before .before .before .before .before .before .intersection in
       let if1 = c .if1 in (
@@ -92,38 +73,30 @@ module _ (t : ℕ) where
             let g = givenOf text (args .words .now) (args .given) in
             let T = below (args .given) g in
             let part = unions.intersection g T (args .on) in
-            first-refused text (args .words .now) (args .given) T Pipe 5 part (args .m) (past .result) (args .nodes .now) (args .names .now) (args .notes .now)
+            first-refused text (args .words .now) (args .given) T Pipe 5 part (args .m) (past .result) (args .nodes .now) (args .names .now)
+            (args .notes .now)
             (union-is g T (args .on) (view (args .m) (args .notes .now))) (past .ensures .0) (past .ensures .1) (intersection .ensures .0 text s)
             (if1 .taken),
-        (omega (arith, if1, intersection .ensures .1 .0, intersection .kept, past .ensures .1, pre, good), λ z. omega (arith, if1, intersection .ensures .1 .0, intersection .kept, past .ensures .1, pre, good, z)),
+        (omega arith, λ z. omega arith),
       )
 
   pub lone-requires : lts.Need-lone-requires (R t) (union-at t) union.Post Inv-loop μ-loop
-  lone-requires c κs =
-      search needs
+  lone-requires c κs = search needs
 
   pub same-length-4 : lts.Need-same-length-4 (R t) (union-at t) union.Post Inv-loop μ-loop
-  same-length-4 c =
-      let intersection = c .before .before .before .before .before .before .before .before .before .before .before .intersection in
-      omega (arith, intersection .kept)
+  same-length-4 c = omega arith
 
   pub same-length-5 : lts.Need-same-length-5 (R t) (union-at t) union.Post Inv-loop μ-loop
-  same-length-5 c =
-      let intersection = c .before .before .before .before .before .before .before .before .before .before .before .intersection in
-      omega (arith, intersection .kept)
+  same-length-5 c = omega arith
 
   pub same-length-6 : lts.Need-same-length-6 (R t) (union-at t) union.Post Inv-loop μ-loop
-  same-length-6 c =
-      let intersection = c .before .before .before .before .before .before .before .before .before .before .before .intersection in
-      omega (arith, intersection .kept)
+  same-length-6 c = omega arith
 
   pub returns-2 : lts.Need-returns-2 (R t) (union-at t) union.Post Inv-loop μ-loop
   returns-2 c =
       let args = c .before .before .before .before .before .before .before .before .before .before .before .before .before .before .before .before .before .before .before .before .args in
       let lone = c .before .lone in
       let if2 = c .if2 in
-      let good = c .before .before .before .before .before .before .before .before .before .before .before .before .before .before .before .before .before .before .before .before .good in
-      let pre = c .before .before .before .before .before .before .before .before .before .before .before .before .before .before .before .before .before .before .before .before .pre in
       let past = c .before .before .before .before .before .before .before .before .before .before .before .before .before .before .before .past in
       let intersection = c .before .before .before .before .before .before .before .before .before .before .before .intersection in
       let if1 = c .before .before .before .if1 in (
@@ -131,32 +104,27 @@ module _ (t : ℕ) where
             let g = givenOf text (args .words .now) (args .given) in
             let T = below (args .given) g in
             let part = unions.intersection g T (args .on) in
-            first-alone text (args .words .now) (args .given) T Pipe 5 part (args .m) (past .result) (args .nodes .now) (args .names .now) (args .notes .now)
+            first-alone text (args .words .now) (args .given) T Pipe 5 part (args .m) (past .result) (args .nodes .now) (args .names .now)
+            (args .notes .now)
             (union-is g T (args .on) (view (args .m) (args .notes .now))) (past .ensures .0) (past .ensures .1) (intersection .ensures .0 text s)
             (if1 .left) (lone .ensures) (if2 .taken),
-        (omega (arith, if1, intersection .ensures .1 .0, intersection .kept, intersection .ensures .1 .1 (if1 .left), past .ensures .1, pre, good), λ z. omega (arith, if1, intersection .ensures .1 .0, intersection .kept, intersection .ensures .1 .1 (if1 .left), past .ensures .1, pre, good, z)),
+        (omega arith, λ z. omega (arith, intersection .ensures .1 .1 (if1 .left))),
       )
 
   pub one-requires : lts.Need-one-requires (R t) (union-at t) union.Post Inv-loop μ-loop
   one-requires c κs =
-      let good = c .before .before .before .before .before .before .before .before .before .before .before .before .before .before .before .before .before .before .before .before .good in
-      let pre = c .before .before .before .before .before .before .before .before .before .before .before .before .before .before .before .before .before .before .before .before .pre in
-      let past = c .before .before .before .before .before .before .before .before .before .before .before .before .before .before .before .past in
       let intersection = c .before .before .before .before .before .before .before .before .before .before .before .intersection in
       let if1 = c .before .before .before .if1 in
-      omega (arith, if1, intersection .ensures .1 .0, intersection .kept, intersection .ensures .1 .1 (if1 .left), past .ensures .1, pre, good)
+      omega (arith, intersection .ensures .1 .1 (if1 .left))
 
   pub loop-holds : lts.Need-loop-holds (R t) (union-at t) union.Post Inv-loop μ-loop
   loop-holds c =
       let args = c .before .before .before .before .before .before .before .before .before .before .before .before .before .before .before .before .before .before .before .before .before .args in
-      let good = c .before .before .before .before .before .before .before .before .before .before .before .before .before .before .before .before .before .before .before .before .before .good in
-      let pre = c .before .before .before .before .before .before .before .before .before .before .before .before .before .before .before .before .before .before .before .before .before .pre in
-      let past = c .before .before .before .before .before .before .before .before .before .before .before .before .before .before .before .before .past in
       let intersection = c .before .before .before .before .before .before .before .before .before .before .before .before .intersection in
       let if1 = c .before .before .before .before .if1 in
       let one = c .one in (
-        omega (arith, same-kids (one .ensures), if1, intersection .ensures .1 .0, intersection .kept, intersection .ensures .1 .1 (if1 .left), past .ensures .1, pre, good),
-        omega (arith, same-kids (one .ensures), if1, intersection .ensures .1 .0, intersection .kept, intersection .ensures .1 .1 (if1 .left), past .ensures .1, pre, good),
+        omega arith,
+        omega (arith, same-kids (one .ensures), intersection .ensures .1 .1 (if1 .left)),
         λ text B u s n b.
             let g = givenOf text (args .words .now) (args .given) in
             let T = below (args .given) g in
@@ -165,63 +133,51 @@ module _ (t : ℕ) where
       )
 
   pub kind-at-requires : lts.Need-kind-at-requires (R t) (union-at t) union.Post Inv-loop μ-loop
-  kind-at-requires c κs =
-      search needs
+  kind-at-requires c κs = search needs
 
   pub add-t25 : lts.Need-add-t25 (R t) (union-at t) union.Post Inv-loop μ-loop
   add-t25 c =
       let good = c .before .before .before .before .before .before .before .before .before .before .before .before .before .before .before .before .before .before .before .before .before .before .before .before .before .good in
       let pre = c .before .before .before .before .before .before .before .before .before .before .before .before .before .before .before .before .before .before .before .before .before .before .before .before .before .pre in
-      let past = c .before .before .before .before .before .before .before .before .before .before .before .before .before .before .before .before .before .before .before .before .past in
       let intersection = c .before .before .before .before .before .before .before .before .before .before .before .before .before .before .before .before .intersection in
       let if1 = c .before .before .before .before .before .before .before .before .if1 in
-      let one = c .before .before .before .before .one in
-      let loop = c .before .before .before .loop in
-      let kind-at = c .before .before .kind-at in
-      let if3 = c .before .if3 in
-      omega (arith, if3, kind-at .ensures .0, kind-at .ensures .1, loop .inv .0, loop .inv .1, same-kids (one .ensures), if1, intersection .ensures .1 .0, intersection .kept, intersection .ensures .1 .1 (if1 .left), past .ensures .1, pre, good)
+      omega (arith, if1, intersection .ensures .1 .1 (if1 .left), pre, good)
 
   pub intersection-requires-2 : lts.Need-intersection-requires-2 (R t) (union-at t) union.Post Inv-loop μ-loop
   intersection-requires-2 c κs =
-      let good = c .before .before .before .before .before .before .before .before .before .before .before .before .before .before .before .before .before .before .before .before .before .before .before .before .before .before .before .before .good in
       let pre = c .before .before .before .before .before .before .before .before .before .before .before .before .before .before .before .before .before .before .before .before .before .before .before .before .before .before .before .before .pre in
       let past = c .before .before .before .before .before .before .before .before .before .before .before .before .before .before .before .before .before .before .before .before .before .before .before .past in
       let intersection = c .before .before .before .before .before .before .before .before .before .before .before .before .before .before .before .before .before .before .before .intersection in
       let if1 = c .before .before .before .before .before .before .before .before .before .before .before .if1 in
       let one = c .before .before .before .before .before .before .before .one in
-      let loop = c .before .before .before .before .before .before .loop in
-      let kind-at = c .before .before .before .before .before .kind-at in
-      let if3 = c .before .before .before .before .if3 in
-      (omega (arith, if3, kind-at .ensures .0, kind-at .ensures .1, loop .inv .0, loop .inv .1, same-kids (one .ensures), if1, intersection .ensures .1 .0, intersection .kept, intersection .ensures .1 .1 (if1 .left), past .ensures .1, pre, good), (pre .1 .0, pre .1 .1, omega (arith, if3, kind-at .ensures .0, kind-at .ensures .1, loop .inv .0, loop .inv .1, same-kids (one .ensures), if1, intersection .ensures .1 .0, intersection .kept, intersection .ensures .1 .1 (if1 .left), past .ensures .1, pre, good), omega (arith, if3, kind-at .ensures .0, kind-at .ensures .1, loop .inv .0, loop .inv .1, same-kids (one .ensures), if1, intersection .ensures .1 .0, intersection .kept, intersection .ensures .1 .1 (if1 .left), past .ensures .1, pre, good)))
+      let loop = c .before .before .before .before .before .before .loop in (
+        omega (arith, loop .inv .0, loop .inv .1, same-kids (one .ensures), intersection .ensures .1 .0, intersection .ensures .1 .1 (if1 .left), past .ensures .1),
+        (pre .1 .0, pre .1 .1, omega arith, omega arith),
+      )
 
   pub same-length-7 : lts.Need-same-length-7 (R t) (union-at t) union.Post Inv-loop μ-loop
   same-length-7 c =
       let intersection = c .before .before .before .before .before .before .before .before .before .before .before .before .before .before .before .before .before .before .before .before .before .before .before .before .before .before .before .before .intersection in
       let loop = c .before .before .before .before .before .before .before .before .before .before .before .before .before .before .before .loop in
-      let intersection2 = c .before .before .before .before .before .before .before .before .intersection2 in
-      omega (arith, intersection2 .kept, loop .inv .0, intersection .kept)
+      omega (arith, loop .inv .0, intersection .kept)
 
   pub same-length-8 : lts.Need-same-length-8 (R t) (union-at t) union.Post Inv-loop μ-loop
   same-length-8 c =
       let intersection = c .before .before .before .before .before .before .before .before .before .before .before .before .before .before .before .before .before .before .before .before .before .before .before .before .before .before .before .before .intersection in
       let loop = c .before .before .before .before .before .before .before .before .before .before .before .before .before .before .before .loop in
-      let intersection2 = c .before .before .before .before .before .before .before .before .intersection2 in
-      omega (arith, intersection2 .kept, loop .inv .0, intersection .kept)
+      omega (arith, loop .inv .0, intersection .kept)
 
   pub same-length-9 : lts.Need-same-length-9 (R t) (union-at t) union.Post Inv-loop μ-loop
   same-length-9 c =
       let intersection = c .before .before .before .before .before .before .before .before .before .before .before .before .before .before .before .before .before .before .before .before .before .before .before .before .before .before .before .before .intersection in
       let loop = c .before .before .before .before .before .before .before .before .before .before .before .before .before .before .before .loop in
-      let intersection2 = c .before .before .before .before .before .before .before .before .intersection2 in
-      omega (arith, intersection2 .kept, loop .inv .0, intersection .kept)
+      omega (arith, loop .inv .0, intersection .kept)
 
   pub returns-3 : lts.Need-returns-3 (R t) (union-at t) union.Post Inv-loop μ-loop
   returns-3 c =
       let args = c .before .before .before .before .before .before .before .before .before .before .before .before .before .before .before .before .before .before .before .before .before .before .before .before .before .before .before .before .before .before .before .before .before .before .before .before .before .args in
       let lone = c .before .before .before .before .before .before .before .before .before .before .before .before .before .before .before .before .before .before .lone in
       let if2 = c .before .before .before .before .before .before .before .before .before .before .before .before .before .before .before .before .before .if2 in
-      let good = c .before .before .before .before .before .before .before .before .before .before .before .before .before .before .before .before .before .before .before .before .before .before .before .before .before .before .before .before .before .before .before .before .before .before .before .before .before .good in
-      let pre = c .before .before .before .before .before .before .before .before .before .before .before .before .before .before .before .before .before .before .before .before .before .before .before .before .before .before .before .before .before .before .before .before .before .before .before .before .before .pre in
       let past = c .before .before .before .before .before .before .before .before .before .before .before .before .before .before .before .before .before .before .before .before .before .before .before .before .before .before .before .before .before .before .before .before .past in
       let intersection = c .before .before .before .before .before .before .before .before .before .before .before .before .before .before .before .before .before .before .before .before .before .before .before .before .before .before .before .before .intersection in
       let if1 = c .before .before .before .before .before .before .before .before .before .before .before .before .before .before .before .before .before .before .before .before .if1 in
@@ -238,8 +194,9 @@ module _ (t : ℕ) where
             let w = first-turn text (args .words .now) (args .given) T Pipe 5 part (args .m) (past .result) (args .nodes .now) (args .names .now) (args .notes .now)
             (union-is g T (args .on) (view (args .m) (args .notes .now))) (past .ensures .0) (past .ensures .1) (intersection .ensures .0 text s)
             (if1 .left) (lone .ensures) (if2 .left) (one .ensures) (λ B u n b. loop .inv .2 text B u s n b) in
-            part-refused text (args .words .now) (args .given) T Pipe 5 part (view (args .m) (args .notes .now)) w (is-here (args .words .now) (loop .p) (kind-at .ensures .0) (if3 .taken)) (intersection2 .ensures .0 text s) (if4 .taken),
-        (omega (arith, if4, intersection2 .ensures .1 .0, intersection2 .kept, if3, kind-at .ensures .0, kind-at .ensures .1, loop .inv .0, loop .inv .1, same-kids (one .ensures), if1, intersection .ensures .1 .0, intersection .kept, intersection .ensures .1 .1 (if1 .left), past .ensures .1, pre, good), λ z. omega (arith, if4, intersection2 .ensures .1 .0, intersection2 .kept, if3, kind-at .ensures .0, kind-at .ensures .1, loop .inv .0, loop .inv .1, same-kids (one .ensures), if1, intersection .ensures .1 .0, intersection .kept, intersection .ensures .1 .1 (if1 .left), past .ensures .1, pre, good, z)),
+            part-refused text (args .words .now) (args .given) T Pipe 5 part (view (args .m) (args .notes .now)) w
+            (is-here (args .words .now) (loop .p) (kind-at .ensures .0) (if3 .taken)) (intersection2 .ensures .0 text s) (if4 .taken),
+        (omega arith, λ z. omega arith),
       )
 
   pub link-requires : lts.Need-link-requires (R t) (union-at t) union.Post Inv-loop μ-loop
@@ -255,30 +212,23 @@ module _ (t : ℕ) where
       let if3 = c .before .before .before .before .before .before .before .before .before .before .before .before .before .before .before .if3 in
       let intersection2 = c .before .before .before .before .before .before .before .before .before .before .intersection2 in
       let if4 = c .before .before .if4 in
-      omega (arith, if4, intersection2 .ensures .1 .0, intersection2 .kept, intersection2 .ensures .1 .1 (if4 .left), if3, kind-at .ensures .0, kind-at .ensures .1, loop .inv .0, loop .inv .1, same-kids (one .ensures), if1, intersection .ensures .1 .0, intersection .kept, intersection .ensures .1 .1 (if1 .left), past .ensures .1, pre, good)
+      omega (arith, intersection2 .ensures .1 .1 (if4 .left), if3, kind-at .ensures .0, kind-at .ensures .1, loop .inv .0, loop .inv .1, same-kids (one .ensures), if1, intersection .ensures .1 .0, intersection .ensures .1 .1 (if1 .left), past .ensures .1, pre, good)
 
   pub loop-less : lts.Need-loop-less (R t) (union-at t) union.Post Inv-loop μ-loop
   loop-less c =
-      let good = c .before .before .before .before .before .before .before .before .before .before .before .before .before .before .before .before .before .before .before .before .before .before .before .before .before .before .before .before .before .before .before .before .before .before .before .before .before .before .before .before .before .before .good in
-      let pre = c .before .before .before .before .before .before .before .before .before .before .before .before .before .before .before .before .before .before .before .before .before .before .before .before .before .before .before .before .before .before .before .before .before .before .before .before .before .before .before .before .before .before .pre in
       let past = c .before .before .before .before .before .before .before .before .before .before .before .before .before .before .before .before .before .before .before .before .before .before .before .before .before .before .before .before .before .before .before .before .before .before .before .before .before .past in
       let intersection = c .before .before .before .before .before .before .before .before .before .before .before .before .before .before .before .before .before .before .before .before .before .before .before .before .before .before .before .before .before .before .before .before .before .intersection in
       let if1 = c .before .before .before .before .before .before .before .before .before .before .before .before .before .before .before .before .before .before .before .before .before .before .before .before .before .if1 in
       let one = c .before .before .before .before .before .before .before .before .before .before .before .before .before .before .before .before .before .before .before .before .before .one in
       let loop = c .before .before .before .before .before .before .before .before .before .before .before .before .before .before .before .before .before .before .before .before .loop in
       let kind-at = c .before .before .before .before .before .before .before .before .before .before .before .before .before .before .before .before .before .before .before .kind-at in
-      let if3 = c .before .before .before .before .before .before .before .before .before .before .before .before .before .before .before .before .before .before .if3 in
       let intersection2 = c .before .before .before .before .before .before .before .before .before .before .before .before .before .intersection2 in
       let if4 = c .before .before .before .before .before .if4 in
-      let link = c .before .before .link in
-      omega (arith, link .ensures .1, link .kept, if4, intersection2 .ensures .1 .0, intersection2 .kept, intersection2 .ensures .1 .1 (if4 .left), if3, kind-at .ensures .0, kind-at .ensures .1, loop .inv .0, loop .inv .1, same-kids (one .ensures), if1, intersection .ensures .1 .0, intersection .kept, intersection .ensures .1 .1 (if1 .left), past .ensures .1, pre, good)
+      omega (arith, intersection2 .ensures .1 .1 (if4 .left), kind-at .ensures .0, kind-at .ensures .1, loop .inv .0, loop .inv .1, same-kids (one .ensures), intersection .ensures .1 .0, intersection .ensures .1 .1 (if1 .left), past .ensures .1)
 
   pub loop-again : lts.Need-loop-again (R t) (union-at t) union.Post Inv-loop μ-loop
   loop-again c =
       let args = c .before .before .before .before .before .before .before .before .before .before .before .before .before .before .before .before .before .before .before .before .before .before .before .before .before .before .before .before .before .before .before .before .before .before .before .before .before .before .before .before .before .before .args in
-      let good = c .before .before .before .before .before .before .before .before .before .before .before .before .before .before .before .before .before .before .before .before .before .before .before .before .before .before .before .before .before .before .before .before .before .before .before .before .before .before .before .before .before .before .good in
-      let pre = c .before .before .before .before .before .before .before .before .before .before .before .before .before .before .before .before .before .before .before .before .before .before .before .before .before .before .before .before .before .before .before .before .before .before .before .before .before .before .before .before .before .before .pre in
-      let past = c .before .before .before .before .before .before .before .before .before .before .before .before .before .before .before .before .before .before .before .before .before .before .before .before .before .before .before .before .before .before .before .before .before .before .before .before .before .past in
       let intersection = c .before .before .before .before .before .before .before .before .before .before .before .before .before .before .before .before .before .before .before .before .before .before .before .before .before .before .before .before .before .before .before .before .before .intersection in
       let if1 = c .before .before .before .before .before .before .before .before .before .before .before .before .before .before .before .before .before .before .before .before .before .before .before .before .before .if1 in
       let one = c .before .before .before .before .before .before .before .before .before .before .before .before .before .before .before .before .before .before .before .before .before .one in
@@ -288,72 +238,48 @@ module _ (t : ℕ) where
       let intersection2 = c .before .before .before .before .before .before .before .before .before .before .before .before .before .intersection2 in
       let if4 = c .before .before .before .before .before .if4 in
       let link = c .before .before .link in (
-        omega (arith, link .ensures .1, link .kept, if4, intersection2 .ensures .1 .0, intersection2 .kept, intersection2 .ensures .1 .1 (if4 .left), if3, kind-at .ensures .0, kind-at .ensures .1, loop .inv .0, loop .inv .1, same-kids (one .ensures), if1, intersection .ensures .1 .0, intersection .kept, intersection .ensures .1 .1 (if1 .left), past .ensures .1, pre, good),
-        omega (arith, link .ensures .1, link .kept, if4, intersection2 .ensures .1 .0, intersection2 .kept, intersection2 .ensures .1 .1 (if4 .left), if3, kind-at .ensures .0, kind-at .ensures .1, loop .inv .0, loop .inv .1, same-kids (one .ensures), if1, intersection .ensures .1 .0, intersection .kept, intersection .ensures .1 .1 (if1 .left), past .ensures .1, pre, good),
+        omega (arith, intersection2 .kept, intersection2 .ensures .1 .1 (if4 .left), same-kids (one .ensures), intersection .kept, intersection .ensures .1 .1 (if1 .left)),
+        omega arith,
         λ text B u s n b.
             let g = givenOf text (args .words .now) (args .given) in
             let T = below (args .given) g in
             let part = unions.intersection g T (args .on) in
             parts-again text (args .words .now) (args .given) T Pipe 5 part (view (args .m) (args .notes .now)) (loop .inv .2 text B u s n b)
-            (is-here (args .words .now) (loop .p) (kind-at .ensures .0) (if3 .taken)) (intersection2 .ensures .0 text s) (if4 .left) (link .ensures .0) (link .ensures .1 .1) (omega (arith, intersection2 .kept))
-            (omega (arith, if3, kind-at .ensures .0, kind-at .ensures .1)) (omega (arith, intersection2 .ensures .1 .0, intersection2 .ensures .1 .1 (if4 .left))),
+            (is-here (args .words .now) (loop .p) (kind-at .ensures .0) (if3 .taken)) (intersection2 .ensures .0 text s) (if4 .left)
+            (link .ensures .0) (link .ensures .1 .1) (omega arith)
+            (omega arith) (omega (arith, intersection2 .ensures .1 .1 (if4 .left))),
       )
 
   pub at-requires : lts.Need-at-requires (R t) (union-at t) union.Post Inv-loop μ-loop
   at-requires c κs =
-      let good = c .before .before .before .before .before .before .before .before .before .before .before .before .before .before .before .before .before .before .before .before .before .before .before .before .good in
       let pre = c .before .before .before .before .before .before .before .before .before .before .before .before .before .before .before .before .before .before .before .before .before .before .before .before .pre in
-      let past = c .before .before .before .before .before .before .before .before .before .before .before .before .before .before .before .before .before .before .before .past in
-      let intersection = c .before .before .before .before .before .before .before .before .before .before .before .before .before .before .before .intersection in
-      let if1 = c .before .before .before .before .before .before .before .if1 in
-      let one = c .before .before .before .one in
-      let loop = c .before .before .loop in
-      let kind-at = c .before .kind-at in
-      let if3 = c .if3 in
-      (pre .1 .1, omega (arith, if3, kind-at .ensures .0, kind-at .ensures .1, loop .inv .0, loop .inv .1, same-kids (one .ensures), if1, intersection .ensures .1 .0, intersection .kept, intersection .ensures .1 .1 (if1 .left), past .ensures .1, pre, good))
+      (pre .1 .1, omega arith)
 
   pub put-list-requires : lts.Need-put-list-requires (R t) (union-at t) union.Post Inv-loop μ-loop
   put-list-requires c κs =
-      let good = c .before .before .before .before .before .before .before .before .before .before .before .before .before .before .before .before .before .before .before .before .before .before .before .before .before .before .good in
       let pre = c .before .before .before .before .before .before .before .before .before .before .before .before .before .before .before .before .before .before .before .before .before .before .before .before .before .before .pre in
-      let past = c .before .before .before .before .before .before .before .before .before .before .before .before .before .before .before .before .before .before .before .before .before .past in
-      let intersection = c .before .before .before .before .before .before .before .before .before .before .before .before .before .before .before .before .before .intersection in
-      let if1 = c .before .before .before .before .before .before .before .before .before .if1 in
-      let one = c .before .before .before .before .before .one in
-      let loop = c .before .before .before .before .loop in
-      let kind-at = c .before .before .before .kind-at in
-      let if3 = c .before .before .if3 in
-      let at = c .before .at in
-      (pre .1 .1, omega (arith, at .ensures .0, at .ensures .1, if3, kind-at .ensures .0, kind-at .ensures .1, loop .inv .0, loop .inv .1, same-kids (one .ensures), if1, intersection .ensures .1 .0, intersection .kept, intersection .ensures .1 .1 (if1 .left), past .ensures .1, pre, good), omega (arith, at .ensures .0, at .ensures .1, if3, kind-at .ensures .0, kind-at .ensures .1, loop .inv .0, loop .inv .1, same-kids (one .ensures), if1, intersection .ensures .1 .0, intersection .kept, intersection .ensures .1 .1 (if1 .left), past .ensures .1, pre, good), omega (arith, at .ensures .0, at .ensures .1, if3, kind-at .ensures .0, kind-at .ensures .1, loop .inv .0, loop .inv .1, same-kids (one .ensures), if1, intersection .ensures .1 .0, intersection .kept, intersection .ensures .1 .1 (if1 .left), past .ensures .1, pre, good), omega (arith, at .ensures .0, at .ensures .1, if3, kind-at .ensures .0, kind-at .ensures .1, loop .inv .0, loop .inv .1, same-kids (one .ensures), if1, intersection .ensures .1 .0, intersection .kept, intersection .ensures .1 .1 (if1 .left), past .ensures .1, pre, good), omega (arith, at .ensures .0, at .ensures .1, if3, kind-at .ensures .0, kind-at .ensures .1, loop .inv .0, loop .inv .1, same-kids (one .ensures), if1, intersection .ensures .1 .0, intersection .kept, intersection .ensures .1 .1 (if1 .left), past .ensures .1, pre, good), omega (arith, at .ensures .0, at .ensures .1, if3, kind-at .ensures .0, kind-at .ensures .1, loop .inv .0, loop .inv .1, same-kids (one .ensures), if1, intersection .ensures .1 .0, intersection .kept, intersection .ensures .1 .1 (if1 .left), past .ensures .1, pre, good))
+      (pre .1 .1, omega arith, omega arith, omega arith, omega arith, omega arith, omega arith)
 
   pub same-length-10 : lts.Need-same-length-10 (R t) (union-at t) union.Post Inv-loop μ-loop
   same-length-10 c =
       let intersection = c .before .before .before .before .before .before .before .before .before .before .before .before .before .before .before .before .before .before .before .before .intersection in
-      let loop = c .before .before .before .before .before .before .before .loop in
-      let put-list = c .before .before .put-list in
-      omega (arith, put-list .kept, loop .inv .0, intersection .kept)
+      omega (arith, intersection .kept)
 
   pub same-length-11 : lts.Need-same-length-11 (R t) (union-at t) union.Post Inv-loop μ-loop
   same-length-11 c =
       let intersection = c .before .before .before .before .before .before .before .before .before .before .before .before .before .before .before .before .before .before .before .before .intersection in
-      let loop = c .before .before .before .before .before .before .before .loop in
-      let put-list = c .before .before .put-list in
-      omega (arith, put-list .kept, loop .inv .0, intersection .kept)
+      omega (arith, intersection .kept)
 
   pub same-length-12 : lts.Need-same-length-12 (R t) (union-at t) union.Post Inv-loop μ-loop
   same-length-12 c =
       let intersection = c .before .before .before .before .before .before .before .before .before .before .before .before .before .before .before .before .before .before .before .before .intersection in
-      let loop = c .before .before .before .before .before .before .before .loop in
-      let put-list = c .before .before .put-list in
-      omega (arith, put-list .kept, loop .inv .0, intersection .kept)
+      omega (arith, intersection .kept)
 
   pub returns-4 : lts.Need-returns-4 (R t) (union-at t) union.Post Inv-loop μ-loop
   returns-4 c =
       let args = c .before .before .before .before .before .before .before .before .before .before .before .before .before .before .before .before .before .before .before .before .before .before .before .before .before .before .before .before .before .args in
       let lone = c .before .before .before .before .before .before .before .before .before .before .lone in
       let if2 = c .before .before .before .before .before .before .before .before .before .if2 in
-      let good = c .before .before .before .before .before .before .before .before .before .before .before .before .before .before .before .before .before .before .before .before .before .before .before .before .before .before .before .before .before .good in
-      let pre = c .before .before .before .before .before .before .before .before .before .before .before .before .before .before .before .before .before .before .before .before .before .before .before .before .before .before .before .before .before .pre in
       let past = c .before .before .before .before .before .before .before .before .before .before .before .before .before .before .before .before .before .before .before .before .before .before .before .before .past in
       let intersection = c .before .before .before .before .before .before .before .before .before .before .before .before .before .before .before .before .before .before .before .before .intersection in
       let if1 = c .before .before .before .before .before .before .before .before .before .before .before .before .if1 in
@@ -370,7 +296,8 @@ module _ (t : ℕ) where
             let w = first-turn text (args .words .now) (args .given) T Pipe 5 part (args .m) (past .result) (args .nodes .now) (args .names .now) (args .notes .now)
             (union-is g T (args .on) (view (args .m) (args .notes .now))) (past .ensures .0) (past .ensures .1) (intersection .ensures .0 text s)
             (if1 .left) (lone .ensures) (if2 .left) (one .ensures) (λ B u n b. loop .inv .2 text B u s n b) in
-            parts-put text (args .words .now) (args .given) T Pipe 5 part (view (args .m) (args .notes .now)) w (is-not-here (args .words .now) (loop .p) (kind-at .ensures .0) (if3 .left)) (loop .inv .1 .0)
+            parts-put text (args .words .now) (args .given) T Pipe 5 part (view (args .m) (args .notes .now)) w
+            (is-not-here (args .words .now) (loop .p) (kind-at .ensures .0) (if3 .left)) (loop .inv .1 .0)
             (put-list .ensures .0) (at .ensures .0 .0) (at .ensures .0 .1) shape-union,
-        (omega (arith, put-list .ensures .1, put-list .kept, at .ensures .0, at .ensures .1, if3, kind-at .ensures .0, kind-at .ensures .1, loop .inv .0, loop .inv .1, same-kids (one .ensures), if1, intersection .ensures .1 .0, intersection .kept, intersection .ensures .1 .1 (if1 .left), past .ensures .1, pre, good), λ z. omega (arith, put-list .ensures .1, put-list .kept, at .ensures .0, at .ensures .1, if3, kind-at .ensures .0, kind-at .ensures .1, loop .inv .0, loop .inv .1, same-kids (one .ensures), if1, intersection .ensures .1 .0, intersection .kept, intersection .ensures .1 .1 (if1 .left), past .ensures .1, pre, good, z)),
+        (omega arith, λ z. omega (arith, intersection .ensures .1 .1 (if1 .left))),
       )

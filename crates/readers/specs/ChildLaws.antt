@@ -1,0 +1,73 @@
+-- The children of a node, as any reader builds them: one tree, names, a type that may be absent.
+use mathlib.Core.Path.{_≡_, sym, ap, _∙_, subst}
+use mathlib.Core.List.{List, []}
+use Prim.Native.Nat.{ℕ, _+_, max}
+use native.Mathlib.Omega.{arith}
+use lib.ListN.{length}
+use Rattle.keys.specs.Placed.{Placed, tree, Spelling, Opt}
+use Rattle.keys.specs.Store.{Run, firstKid, under}
+use Rattle.keys.specs.StoreLaws.{_⊕_, firstKid-join}
+use Rattle.rules.specs.State.{Given, State, Result, make}
+use Rattle.parts.specs.Laid.{heights, runIn, runOpt, namesRun, Was, was, wasAt, Laid, Built, BuiltAt, Stands, Spoken, Shape}
+use Rattle.parts.specs.Says.{GotOpt}
+use Rattle.parts.specs.Nodes.{LinksOpt}
+use Rattle.parts.specs.RunLaws.{heights-join, heights-names, first-names}
+use Rattle.parts.specs.LaidLaws.{laid-on}
+use Rattle.parts.specs.BuiltLaws.{built-names, built-one, laid-spoken}
+use Rattle.parts.specs.LeafLaws.{noKids, oneKid}
+use Rattle.parts.specs.declared.state.Mark.{Mark}
+use Rattle.parts.specs.declared.state.Kids.{Kids}
+
+-- The same children under another name.
+pub built-as : {B : Was} {t : Run} {k l : Kids} {used named noted : ℕ} {N M O : List ℕ} → l ≡ k → Built B t k used named noted N M O → Built B t l used named noted N M O
+built-as {B} {t} {k} {l} {used} {named} {noted} {N} {M} {O} e b = subst (λ (x : Kids). Built B t x used named noted N M O) (sym e) b
+
+-- A tree that stands alone is the one child of what is being read.
+pub built-child : {c high : ℕ} {B : Was} {u : Placed} {k : Kids} {m : Mark} {N M O : List ℕ} → k ≡ oneKid (m .used) high → Stands c B u high m N M O
+    → BuiltAt B (runIn c u) k m N M O
+built-child e s = built-as e (built-one [] (s .is-node) (s .high-is) (s .laid))
+
+-- Names alone were read.
+pub built-spoken : {l : List Spelling} {k : Kids} {m q : Mark} {N M M' O : List ℕ} → k ≡ noKids → Spoken l m q M M' → BuiltAt (was m N M O) (namesRun l) k q N M' O
+built-spoken {l} {N = N} {O = O} e s = built-as e (built-names l (laid-spoken N O s))
+
+-- A type behind what is built that may be absent.
+pub built-option : {B : Was} {t : Run} {x : Result (Opt Placed)} {high : ℕ} {k k' : Kids} (q r : Mark) {N N' N'' M M' O O' : List ℕ}
+    → BuiltAt B t k q N M O → (got : GotOpt (was q N M O) x high r N' M' O') → length N ≡ length N' → LinksOpt k (q .used) (r .used) high N' k' N''
+    → BuiltAt B (t ⊕ runOpt 0 (got .tree)) k' r N'' M' O'
+built-option {B} {t} q r {N = N} {M = M} {M' = M'} {O = O} {O' = O'} b got s l =
+    l B t (got .tree) N M O M' O' (q .named) (q .noted) (r .named) (r .noted) b s (got .is-opt) (got .high-is) (got .laid)
+
+-- Names behind what is built are no children.
+pub built-named : {B : Was} {t : Run} {k : Kids} {m q : Mark} {N M M' O : List ℕ} (ss : List Spelling) → Spoken ss m q M M' → BuiltAt B t k m N M O
+    → BuiltAt B (t ⊕ namesRun ss) k q N M' O
+built-named {B} {t} {N = N} {O = O} ss s b =
+    record {
+      laid = s .on B t N O (b .laid);
+      first-is = b .first-is ∙ sym (firstKid-join t (namesRun ss) (B .used) 0 ∙ ap (firstKid t (B .used)) (first-names ss (B .used + under t) 0));
+      high-is =
+          b .high-is ∙ (let z : heights t ≡ max (heights t) 0 = omega arith in z) ∙ ap (max (heights t)) (sym (heights-names ss)) ∙ sym (heights-join t (namesRun ss));
+    }
+
+-- The children that were built since stand behind names alone.
+pub built-behind : {B : Was} (ss : List Spelling) {u : Run} {k : Kids} {used named noted used' named' noted' : ℕ} {N M O N' M' O' : List ℕ}
+    → Laid B (namesRun ss) used named noted N M O → Built (wasAt used named noted N M O) u k used' named' noted' N' M' O'
+    → Built B (namesRun ss ⊕ u) k used' named' noted' N' M' O'
+built-behind {B} ss {u} d b =
+    record {
+      laid = laid-on ss d (b .laid);
+      first-is =
+          b .first-is ∙ ap (λ (n : ℕ). firstKid u n 0) (d .used-is)
+          ∙ sym (first-names ss (B .used) (firstKid u (B .used + under (namesRun ss)) 0)) ∙ sym (firstKid-join (namesRun ss) u (B .used) 0);
+      high-is =
+          b .high-is ∙ (let z : heights u ≡ max 0 (heights u) = omega arith in z) ∙ ap (λ (n : ℕ). max n (heights u)) (sym (heights-names ss))
+          ∙ sym (heights-join (namesRun ss) u);
+    }
+
+-- A shape under an equal number of choices.
+pub shape-as : {c tag : ℕ} {p : Placed} {t : Run} {n k : ℕ} → k ≡ n → Shape c tag p t n → Shape c tag p t k
+shape-as {c} {tag} {p} {t} e s = subst (λ (y : ℕ). Shape c tag p t y) (sym e) s
+
+-- A node under an equal first byte.
+pub make-first : (g : Given) (tag : ℕ) {b c : ℕ} (e : ℕ) (p : Placed) (s : State) → c ≡ b → make g [] (tree tag b e p) s ≡ make g [] (tree tag c e p) s
+make-first g tag e p s i = ap (λ (n : ℕ). make g [] (tree tag n e p) s) (sym i)
