@@ -1,5 +1,6 @@
 #!/usr/bin/env python3
-"""Compares the model's trees with those of TypeScript's own parser, on the types of .d.ts files.
+"""Compares the model's trees with those of TypeScript's own parser, on the types of .d.ts files; then runs the program
+readers_run on the same texts beside the model.
 
     compare_typescript.py [FOLDER ..]     without a folder: those of the Debian packages below, as far as they are installed
 
@@ -7,7 +8,7 @@ Packages: node-typescript (needed: it has the parser); more types are in node-ty
 node-immutable, node-yargs, node-chalk, node-undici, node-acorn, node-postcss and what these bring along. A type that holds
 what document 01 does not read is left out, and the types in it stand for themselves. Brackets are kept. What is compared:
 the whole tree, with tags, choices and spellings, and that the type ends where its text does. Each difference is counted
-under what the model answered, with its first texts.
+under what the model answered, with its first texts. The program is compiled unproved, and compared as compare_rules.py does.
 """
 import collections
 import glob
@@ -18,6 +19,7 @@ import subprocess
 import sys
 
 import model as m
+from compare_rules import build, record, expected, run, WIDE
 
 OTHER = re.compile(r'[^\x00-\x7f]')                                       # the model cuts ASCII alone: any other letter is an X
 HERE = os.path.dirname(os.path.abspath(__file__))
@@ -59,6 +61,16 @@ def files(folders):
     return sorted({os.path.realpath(p) for d in folders for p in glob.glob(os.path.join(d, '**', '*.d.ts'), recursive=True)})
 
 
+def by_program(texts):
+    """How many of the texts the program reads otherwise than the model."""
+    build()
+    cases = [('types', t.encode(), m.cut(t), 0, True, WIDE) for t in texts]
+    different = run('O3', [record(c, expected(c)) for c in cases])
+    if different is None: sys.exit('the program failed')
+    for i in list(different)[:5]: print('read otherwise by the program: %r' % texts[i][:200])
+    return len(different)
+
+
 def main():
     paths = files(sys.argv[1:])
     if not paths: sys.exit('no .d.ts files')
@@ -91,7 +103,9 @@ def main():
     print('left out, with what they hold:', ', '.join('%s %d' % c for c in left.most_common()))
     for what, some in texts.items():
         for t in some: print('%s: %r' % (what, t[:200]))
-    sys.exit(counts['alike'] == 0)
+    different = by_program(sorted(seen))
+    print('the program: %d texts, %d different from the model' % (len(seen), different))
+    sys.exit(counts['alike'] == 0 or different > 0)
 
 
 if __name__ == '__main__':

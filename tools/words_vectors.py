@@ -439,7 +439,7 @@ def root():
     return d
 
 
-def written(crate, data, lines):
+def written(crate, data, lines, said=None):
     """Writes a program's records and the lines that it must print, or with --check says whether they are so."""
     told = "".join(x + "\n" for x in lines).encode()
     folder = os.path.join(root(), "crates", crate)
@@ -455,7 +455,7 @@ def written(crate, data, lines):
         for name, content in both:
             with open(name, "wb") as f:
                 f.write(content)
-    print(len(lines) - 1, "records and a cut one,", len(data), "bytes,", len(told), "bytes of lines")
+    print(said or "%d records and a cut one, %d bytes, %d bytes of lines" % (len(lines) - 1, len(data), len(told)))
 
 
 def main():

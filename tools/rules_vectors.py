@@ -1,0 +1,419 @@
+#!/usr/bin/env python3
+"""Writes crates/readers_run/data/vectors, the records that the program readers_run runs, and crates/readers_run/stdout,
+the line that it must print, from the answers of model.py. The same bytes each time.
+
+    rules_vectors.py                write both files (in the folder that holds crates.txt, or above it)
+    rules_vectors.py --check        say whether both are as this would write them
+    rules_vectors.py --list [ITEM]  each record's number from 0, the items that it is for, options, lent words, answer, text
+
+Items are those of the checklist: R1 to R41 are the reading rules of document 01 in its order, N1 to N10 its diagnostics,
+X1 to X23 its refusals (X15 is about keys). Each has a record here. The answer is refusal, place and half, or 0, nodes,
+names, diagnostics, end and its half; then three sums.
+"""
+import sys
+
+import model as m
+from rules_model import WIDE, Cases, expected, keyofs, read, record
+from words_vectors import written
+
+AMPLE = 403, 101, 40                                        # words lent for nodes, names, diagnostics
+ITEMS = ["R%d" % i for i in range(1, 42)] + ["N%d" % i for i in range(1, 11)] + ["X%d" % i for i in range(1, 24) if i != 15]
+
+# Items, and after the colon texts with ~ between them; # is a line break.
+EXAMPLES = r"""
+R1 R2 R3 R19 R20 R22 R23 R25 R36 R38 N5 X3: A ~ string[] ~ | A ~ A | B & C ~ () => A extends B ? C : D ~ T extends infer U extends number ? X : Y ~ (infer U extends number ? X : Y) ~ [A?, ...B[]] ~ [a?: A, B] ~ A<<T>() => T> ~ A#[B] ~ T extends U ? : V ~ new (this: A) => B
+R1: A extends [B?, ...C[]] ? (d: E) => F | G & keyof H : { [K in I]: J } ~ keyof [{ [K in A]: () => (B | C)[D] }] ~ new (a: [b: { [K in A]: B }]) => typeof c<D[]>
+R2: T extends (A extends B ? C : D) ? X : Y ~ T extends [A extends B ? C : D] ? X : Y ~ T extends A<B extends C ? D : E> ? X : Y ~ T extends A[B extends C ? D : E] ? X : Y ~ T extends `${A extends B ? C : D}` ? X : Y
+R2: T extends { [K in A extends B ? C : D]: E } ? X : Y ~ T extends { [K in A as B extends C ? D : E]: F } ? X : Y ~ T extends { [K in A]: B extends C ? D : E } ? X : Y ~ T extends this is A extends B ? C : D ? X : Y ~ T extends asserts x is A extends B ? C : D ? X : Y
+R2: T extends keyof A extends B ? C : D ? X : Y ~ T extends A | B extends C ? D : E ~ T extends [...a: A extends B ? C : D] ? X : Y ~ T extends [...A extends B ? C : D] ? X : Y ~ T extends import("m")<A extends B ? C : D> ? X : Y
+R3: (a: B) => C ~ <T>() => A ~ new () => A ~ abstract new () => A ~ () => () => A ~ () => A | B ~ () => A[]
+R4: A# extends B ? C : D ~ A#extends B ? C : D ~ A extends B ? C : D ~ A extends#B ? C : D ~ A | B extends C ? D : E ~ A | B#extends C ? D : E ~ (A)#extends B ? C : D
+R5: A extends B extends C ? D : E ? F : G ~ A extends B ? C extends D ? E : F : G extends H ? I : J ~ A extends B#? C : D ~ A extends B ? ~ A extends B ? C D ~ A extends B ~ A extends B ? C ~ A extends B : C ~ A extends B ? C : ~ A extends ~ A extends B ? C#: D ~ A extends B ? C :#D ~ A extends () => B ? C : D
+R6: <T>() => A ~ new () => A ~ abstract ~ abstract#new () => A ~ abstract new ~ abstract A ~ abstract new () => A ~ new ~ < ~ abstract.a ~ abstract[]
+R7: ()=>A ~ (...a)=>A ~ () ~ (...A) ~ (...) ~ (... ~ () =>
+R8: (a: B) => C ~ (a, b) => C ~ (a?) => C ~ (a = b) => C ~ (A) ~ (A?) ~ (A?) => B ~ (a) => b ~ (a)#=> b ~ (A) B ~ (A) = ~ (A:) ~ (A, B) ~ (A? B) ~ (A# : B) => C
+R9: (readonly A[]) ~ (readonly a: B) => C ~ (readonly#a: B) => C ~ (abstract out a: B) => C ~ (abstract out#a: B) => C ~ (this) => A ~ (this: A) => B ~ (out) => A ~ (public#: A) => B ~ (public a) => B ~ (readonly this: A) => B ~ (as a: B) => C ~ (readonly) => A ~ (readonly readonly) => A ~ (readonly public a?) => A ~ (out class) => A
+R10: (A | B) ~ (a.b) ~ ((A)) ~ (A)[] ~ (readonly A[])[] ~ (A & B)#[C] ~ (public)
+R11: abstract new <T>(a: A) => B ~ new <T>(a) => B ~ () A ~ () => ~ <T> A ~ new A ~ abstract new A ~ () ~ (a: B) ~ new () A ~ new <T>() A ~ <T>(a: A extends B ? C : D) => E ~ T extends (a: A extends B ? C : D) => E ? X : Y ~ <T>(a#) =># A ~ new new () => A
+R12: T extends () => A extends B ? C : D ? X : Y ~ T extends () => infer R extends S ? R : N ~ T extends () => infer R extends S ~ T extends new () => A extends B ? C : D ? X : Y ~ T extends () => x is A extends B ? C : D ? X : Y
+R13: T extends <U extends A extends B ? C : D>() => V ? X : Y ~ T extends <U = A extends B ? C : D>() => V ? X : Y ~ <U extends A extends B ? C : D>() => V ~ <U = A extends B ? C : D>() => V ~ T extends <U extends infer V extends A>() => B ? X : Y
+R14: (this?: A) => B ~ (...a?: B) => C ~ (a?: B, c) => d ~ (a,) => b ~ (,) => a ~ (a b) => c ~ (a,,b) => c ~ (...a) => B ~ (a?) => B ~ (this) => A ~ (this, a) => B ~ (string) => A ~ (class) => A ~ (a:) => b ~ (1) => A ~ (...a: B[]) => C ~ (a: B, ...c: D) => E ~ (this,) => A ~ (a#?#: B) => C
+R15: () => x is T ~ () => this is T ~ () => asserts is T ~ () => x#is T ~ () => asserts x is T ~ () => typeof is ~ () => class is T ~ () => x is y is z ~ new () => x is T ~ () => x is ~ () => x is T[] | U ~ () => string is T ~ () => x is#T ~ () => 1 is T
+R14 R16 X6 X7 X8 X9: (a, this) => B ~ (...this) => A ~ (this = A) => B ~ (a = b) => c ~ (this: A = b) => c ~ (...a, b) => c ~ (...a,) => c ~ (a, readonly ...b) => c ~ (a, readonly b) => c ~ ({b}: C) => D ~ (a, {b}) => c ~ (a, [b]) => c ~ (this, a: B, c) => D ~ <T>(this: A) => B ~ <T>(this: A, b: C) => D
+R16: (this: A) => B ~ (this) => A ~ (this: A<B>) => C ~ (this: () => A) => B
+R17 N4 N10: new (this: A<B, C>) => D ~ new (this) => A ~ new (this, a: B) => C ~ new (this: A<>) => B<> ~ new <T>(this: A.b, c: D) => E ~ abstract new (this: X) => Y ~ new (this: new (this: A) => B) => C ~ new <T, U>(this: `a${B}c`, d?: E) => F<> ~ new (this: A) => B ~ new (this#: A#) => B ~ new (this: (infer U extends A<> ? X<> : Y)) => Z ~ new (this: A
+R18: <T extends A = B>() => C ~ <string>() => C ~ <>() => C ~ <T,>() => A ~ <,>() => A ~ <T U>() => A ~ <class>() => A ~ <T ~ <T> ~ < ~ A<<>() => B> ~ <T, U = V>(a) => B ~ <T = A extends B ? C : D>() => E ~ <T =>() => A ~ <T = A extends B>() => C ~ <T extends>() => A ~ <T#extends A#= B#>() => C ~ <T,,U>() => A ~ <1>() => A
+R18 X10: <const T>() => A ~ <in>() => A ~ <out T>() => A ~ <out>() => A ~ <out#T>() => A ~ <out = A>() => B ~ <in T>() => A ~ <in out T>() => A ~ <T, const U>() => A ~ <const>() => A ~ <out out>() => A ~ <out class>() => A ~ <out, T>() => A
+R19 R20: A | () => B ~ & A & B ~ A | ~ A & ~ | ~ & ~ A | | B ~ A & | B ~ | & A ~ A & B | C & D ~ (A | B) & C ~ & A ~ | A | B ~ A | B ~ & | A ~ A | & B ~ A#| B ~ A |#B ~ |#A
+R20: A & new () => B ~ A | (() => B) ~ A | <T>() => B ~ A & keyof B ~ A | infer U ~ A & B | C ~ keyof A & unique B ~ A | B extends C & D ? E | F : G & H
+R21: keyof ~ keyof infer U ~ unique readonly keyof A ~ keyof | A ~ (keyof A)[] ~ keyof A[] ~ unique symbol ~ readonly A[] ~ keyof keyof A ~ keyof#A ~ unique ~ readonly ~ keyof () => A ~ keyof (() => A) ~ keyof A? ~ keyof.a ~ T extends keyof A[B extends C ? D : E] ? X : Y
+R22: infer ~ infer class ~ infer U ~ infer string ~ infer U extends A ~ infer U extends ~ T extends infer U#extends number ? X : Y ~ T extends infer U extends A extends B ? C : D ? X : Y ~ infer#U ~ infer U[] ~ infer.a
+R23 N10: (infer U#extends number ? X : Y) ~ T extends (infer U extends A ? B : C) ? X : Y ~ T extends [infer U extends A ? B : C] ? X : Y ~ (infer U extends A<> ? X : Y) ~ (infer U extends A<>) ~ [infer U extends A?] ~ (infer U extends infer V extends A ? B : C) ~ (infer U extends () => A ? B : C) ~ keyof infer U extends A ? B : C ~ (infer U extends new (this: A<B>) => C<> ? X : Y)
+R23: infer U extends A ? B : C ~ (infer U extends A#? X : Y) ~ [infer U extends A ? B : C, infer V extends D] ~ (infer U extends (infer V extends A ? B : C) ? X : Y) ~ (infer U extends [A<>, B?, C] ? X : Y) ~ (infer U extends A extends B ? C : D) ~ (infer U extends A<<T>() => U> ? X : Y) ~ (infer U extends A ? ) ~ A | infer U extends B ? C : D
+R24: (infer U extends number) ~ T extends (infer U extends number) ? X : Y ~ T extends infer U extends number ? X : Y ~ [infer U extends A] ~ A<infer U extends B> ~ T extends keyof infer U extends A ? X : Y ~ T extends A | infer U extends B ? X : Y ~ T extends infer U extends infer V extends A ? X : Y
+R25: A! ~ A? ~ A ? B ~ A[B] ~ A[] ~ A[-1] ~ A[- B] ~ A#! ~ A#? ~ A#[B] ~ A#[] ~ A[#] ~ A[#B] ~ A?! ~ A[B][C] ~ A[B ~ A[ ~ A ? () ~ A ? ( ~ A ? ((A ~ A ? - 5 ~ A ? - B ~ A?function ~ A?const ~ A?extends ~ A?{ ~ A?< ~ A?? ~ A?... ~ A?`a${B}` ~ A?=> ~ A[(] ~ A[((B))] ~ A?[] ~ A![] ~ A[]! ~ A[B]#[C] ~ A[B C] ~ A[=] ~ A ?#B ~ A ? (((() ~ A ? (] ~ A[A extends B ? C : D]
+R26: any ~ bigint ~ boolean ~ never ~ number ~ object ~ string ~ symbol ~ undefined ~ unknown ~ void ~ null ~ string.a ~ any.b.c ~ null.a ~ void.a ~ string#.a ~ string.#a ~ string. ~ any<A> ~ null[] ~ undefined.a<B>
+R27: this ~ this.a ~ this is A ~ this#is A ~ this is ~ this is this is A ~ this[] ~ this is A | B ~ this is#A ~ this<A> ~ (this) ~ this is A extends B ? C : D
+R28: 1 ~ 2n ~ 's' ~ "s" ~ -1 ~ -1n ~ - A ~ - ~ true ~ false ~ true.a ~ '' ~ -'a' ~ - 1 ~ -#1 ~ 1 2 ~ 0x1F ~ 1.5 ~ --1 ~ +1 ~ true[] ~ 'a' | "b"
+R29: asserts x ~ asserts x is T ~ asserts this ~ asserts#x ~ asserts ~ asserts.a ~ asserts x#is T ~ asserts is T ~ asserts is is T ~ asserts class is T ~ asserts x[] ~ asserts<A> ~ asserts "a" ~ asserts this is A | B ~ asserts this#is A ~ asserts x is ~ asserts asserts ~ asserts x is asserts y is T ~ asserts[] ~ asserts x.y
+R30: typeof a ~ typeof a.b<C> ~ typeof this.a ~ typeof import("m").a ~ typeof ~ typeof class ~ typeof a#<B> ~ typeof a. ~ typeof this ~ typeof a.class ~ typeof import("m") ~ typeof import("m").a<B> ~ typeof#a ~ typeof 1 ~ typeof a<> ~ typeof a[] ~ typeof typeof a ~ typeof import
+R31: import("m") ~ import("m").a.b<C> ~ import("m")<A> ~ import ~ import("m" ~ import("m"). ~ import "m" ~ import#("m") ~ import("m").class ~ import("m")<> ~ import("m")#<A> ~ import("m")[] ~ import('m').a#.b ~ import("m").1
+R31 X11: import(A) ~ import("m",) ~ import() ~ import(1) ~ import(`m`) ~ import("m", A) ~ import("m",, ~ import( ~ typeof import(A) ~ typeof import("m",)
+R32 X4: {} ~ {a: B} ~ { "a" in ~ { } in ~ { [ 5 in ~ { a in ~ { [K of T]: V } ~ { ~ { + [K in T]: V } ~ { readonly K in T } ~ { readonly readonly in ~ { readonly "a" in ~ { [ ~ { + ~ { - ~ { +readonly ~ { -readonly ~ { readonly ~ { readonly [ ~ { ] in ~ { [a: B]: C } ~ { a } | B ~ A | {} ~ { [K ~ { new () } ~ { [in in T] } ~ { readonly [K of T] } ~ { - A in
+R33: [] ~ [A] ~ (A) ~ ((A)) ~ (A ~ [A ~ (A)) ~ ([A]) ~ (#A#) ~ [[A], (B)] ~ (A | (B & (C))) ~ [(A), ((B))?]
+R34: `a` ~ `` ~ `a${A}b${B}c` ~ `${A}` ~ `a${A ~ `a${`b${C}`}` ~ `${A}`[] ~ `a` `b` ~ `${A}${B}${C}` ~ `${A extends B ? C : D}` ~ `a\`b${C}` ~ `${`${A}`}`
+R35: A ~ A.b.c ~ A.class ~ A. ~ A.1 ~ A#.b ~ A.#b ~ A<B> ~ A.b<C>.d ~ as.is ~ out<A> ~ class ~ => ~ A as B ~ public ~ is ~ as ~ out ~ infer.b ~ A..b ~ public.class.this ~ ...A ~ ) ~ const ~ in ~ extends
+R36: A<B> ~ A<B,> ~ A<> ~ A<,> ~ A<B C> ~ A< ~ A#<B> ~ A<=B> ~ A<<=B> ~ A<< ~ A<<T> ~ A<<= ~ A<= ~ A<B>.c ~ A<<<T>() => U>() => V> ~ A<B<C>> ~ typeof a<<T>() => U> ~ import("m")<<T>() => U> ~ A.b<<T>() => T> ~ A<<T>() => T, B> ~ A#<<T>() => T> ~ A<<T>(a: B<<U>() => V>) => W> ~ A<B><C> ~ A<#B> ~ A<<>() => B> ~ A<<= ~ A<<=>() => B> ~ A<<T>
+R37: { [K in T]: V } ~ { [K in T] } ~ { +readonly [K in T]-?: V } ~ { -readonly [K in T]+? } ~ { [K in T as U]?: V; } ~ { [K in T]: V;; } ~ { [K in T]: V, } ~ { [class in T]: V } ~ { [K in T]+: V } ~ { [K in T as]: V } ~ { [K in] } ~ { [K in T ~ { [K in T]: } ~ { [K in T]: V ~ { [K in T]- } ~ { [string in T]: V } ~ { [K in T]#;# } ~ { [K in T as U as V] } ~ { [K in T]?? } ~ { [K in T];: V } ~ { [this in T]: V }
+R37: [] ~ [A B] ~ [A ~ [a: B] ~ [a?: B] ~ [...a?: B] ~ [a: ...B] ~ [a: B?] ~ [...a?: ...B?] ~ [A?, B] ~ [A?, B, C?] ~ [A?, ...B, C] ~ [class: A] ~ [a?] ~ [a ? : B] ~ [a ? b] ~ [... ...A] ~ [a: b: c] ~ ["a": B] ~ [a: A, B?, c: C] ~ [this: A] ~ [a:] ~ [a?:] ~ [...] ~ [a: () => B] ~ [...a: B] ~ [a#: B] ~ [a#?#: B] ~ [1: A] ~ [a.b: C]
+R38: [(A[]?)] ~ [A?] ~ [(A?)] ~ [A?[]] ~ [A??] ~ [A?!] ~ [(A[]?), B] ~ [A?, (B)] ~ [((A?))] ~ [(A)?] ~ [A[]?] ~ [A | B?] ~ [keyof A?] ~ [(A?)?] ~ [infer U extends A?]
+R39: [...A?] ~ [...(A?)] ~ [...A?, B] ~ [...A??] ~ [B?, ...A?] ~ [...a: B?]
+R40: `${A B}` ~ `${}` ~ `a${A}b${B C}d` ~ `a${A, B}` ~ `a${}b` ~ `${A}${}` ~ `${A}}` ~ `${A}` B
+R41: [A,] ~ [,] ~ [A,,] ~ A<B,> ~ A<B,,> ~ <T,>() => A ~ (a,) => B ~ [A,#B#,] ~ [A,B,C,] ~ <T,U,>() => A ~ (a,b,) => C ~ A<,B> ~ [a: A,]
+N1: A<B<>, C<>> ~ [A<>?, B<>] ~ <>(a: A<>) => B<> ~ [a?: A<>, ...b?: B<>?, C<>] ~ new <>(this: A<>, b: B<>) => C<> ~ { [K in A<>as B<>]: C<> }
+N2: <>() => A ~ < >() => A ~ <#>() => A ~ new <>() => A ~ A<<>() => B>
+N3: A<> ~ A< > ~ A.b<#> ~ typeof a<> ~ import("m")<> ~ typeof import("m").a<> ~ A<B<>, C<>> ~ A<<T>() => B<>>
+N4: new (this: A<>) => B<> ~ new (this) => A ~ new (this: A) => B ~ abstract new (this: A[]) => x is B<> ~ new (this: A, b: B<>) => C ~ new <>(this: A<>) => B<>
+N5: [a?: A, b: B?] ~ [A?, B, C] ~ [A?, b: B] ~ [A?, ...B, C] ~ [A?, ...b: B] ~ [a?: A, b: B] ~ [A?, B, C?, D] ~ [...A?, B] ~ [a?: A, [B?, C]]
+N6: [a: ...B] ~ [a?: ...B] ~ [a: ...B[]] ~ [a: ... B | C]
+N7: [a: B?] ~ [a?: B?] ~ [a: (B?)] ~ [a: ...B?] ~ [...a: B?] ~ [a: B??]
+N8: [...a?: B] ~ [a?: A, ...b?: B] ~ [...a?: ...B?] ~ [A?, ...a?: ...B?] ~ [a?: ...A?, ...b?: B<>, C] ~ [...a?: B, C]
+N9: [a?:  A , b :  B ?] ~ [ ...#a ? : ... B ? ] ~ new ( this : A ) => B ~ A <  > ~ < > ( ) => A
+N10: (infer U extends A<> ? X : Y) ~ (infer U extends [A?, B] ? X<> : Y) ~ (infer U extends <>() => A ? X : Y) ~ (infer U extends (infer V extends A<> ? B : C<>) ? X : Y) ~ new (this: A<>) => B ~ [A<>, infer U extends B<> ? C<> : D]
+X3: T extends U ? : V ~ ; ~ A B ~ (A B) ~ [A} ~ A<B] ~ { [K in A]: B ) ~ () => ) ~ @ ~ #a
+X5: ? ~ ! ~ * ~ ?A ~ *A ~ !A ~ A | ?B ~ [?A] ~ A<*> ~ (!A) ~ keyof ?A ~ ? B : C
+X6: (readonly a: B) => C ~ (abstract out a: B) => C ~ (a, public b: C) => D ~ (readonly this) => A ~ (a, readonly#b) => c ~ (...readonly a) => b ~ (a, readonly: B) => C
+X7: (a = b) => c ~ (a: B = c) => d ~ (a? = b) => c ~ (...a = b) => c ~ (this = A) => B ~ (this: A = b) => c
+X8: (a, this) => B ~ (...this) => A ~ (a, this: B) => C ~ (this, this) => A ~ new (a, this) => B
+X9: (...a, b) => c ~ (...a,) => c ~ (...a: A, ...b) => c ~ (...a?: A, b) => c
+X18: A<=B> ~ A<<=B> ~ A<<= ~ A<<=>() => B> ~ typeof a<=B> ~ import("m")<= ~ A B ~ A<<1>() => B>
+X23: (infer U extends ) ? X : Y) ~ (infer U extends [A ? X : Y) ~ (infer U extends {} ? X : Y) ~ (infer U extends A<B C> ? X : Y) ~ (infer U extends (a = b) => c ? X : Y) ~ (infer U extends A<=B> ? X : Y) ~ infer U extends
+R23 X22: A extends `a${infer B}c` ? D : E ~ A extends [infer B, ...infer C] ? D : E ~ (infer U extends A<B, C> ? X : Y) ~ (infer U extends A.b<C.d> ? X.y : Z) ~ (infer U extends (infer V extends A<B> ? C : D) ? X : Y)
+"""
+
+
+def examples():
+    """Items and text of each example."""
+    for line in EXAMPLES.strip().split("\n"):
+        items, texts = line.split(": ", 1)
+        for t in texts.split(" ~ "):
+            yield items, t.replace("#", "\n") if t != "#a" else t
+
+
+def texts():
+    """Each text of the examples once, if its templates end."""
+    for t in dict.fromkeys(t for _, t in examples()):
+        try:
+            m.cut(t)
+        except IndexError:
+            continue
+        yield t
+
+
+def nested(n):
+    """Texts in each of which n type rules open inside the first."""
+    a = "A"
+    return ("(" * n + a + ")" * n, "A<" * n + a + ">" * n, "[" * n + a + "]" * n, "() => " * n + a, "A[" * n + a + "]" * n,
+            "`${" * n + a + "}`" * n, "{ [K in " * n + a + "]: B }" * n, "{ [K in A]: " * n + a + "}" * n, "{ [K in A as " * n + a + "] }" * n,
+            "new (a: " * n + a + ") => B" * n, "(this: " * n + a + ") => B" * n, "<T = " * n + a + ">() => B" * n, "<T extends " * n + a + ">() => B" * n,
+            "[...a: " * n + a + "]" * n, "this is " * n + a, "asserts x is " * n + a, "() => x is " * n + a, "import('m')<" * n + a + ">" * n,
+            "A extends B ? " * n + a + " : B" * n, "A extends B ? C : " * n + a, "typeof a<" * n + a + ">" * n,
+            "A extends (" * (n // 2) + a + ") ? B : C" * (n // 2) if n % 2 == 0 else "(" + "A extends (" * (n // 2) + a + ") ? B : C" * (n // 2) + ")")
+
+
+def lists(n):
+    """Texts in each of which one list has n entries."""
+    return ("|".join("A" * n), "&".join("A" * n), "[" + "A," * n + "]", "A<" + "A," * n + ">", "<" + "T," * n + ">() => A", "(" + "a," * n + ") => A",
+            "A" + ".b" * (n - 1), "import('m')" + ".b" * n, "`" + "${A}" * n + "`")
+
+
+def tall(h):
+    """Texts whose node has the height h, by a chain of each kind of node, as a first and as a later child."""
+    def k(n): return "keyof " * (n - 1) + "A"                               # of height n
+    return (k(h), "A" + "[]" * (h - 1), "A" + "!" * (h - 1), "A" + "!" * (h - 2) + "?", "A" + "[B]" * (h - 1), "[" + k(h - 1) + "]", "[A, " + k(h - 1) + "]",
+            "[" + k(h - 2) + "?]", "[..." + k(h - 2) + "]", "[a: " + k(h - 2) + "]", "A | " + k(h - 1) + " | B", "A & " + k(h - 1), "A<B, " + k(h - 1) + ">", "A[" + k(h - 1) + "]",
+            "A extends " + k(h - 1) + " ? B : C", "A extends B ? C : " + k(h - 1), "T extends infer U extends " + k(h - 2) + " ? X : Y", "(infer U extends " + k(h - 1) + ")",
+            "<T extends " + k(h - 2) + ">() => A", "<T = " + k(h - 2) + ">() => A", "(a: " + k(h - 2) + ") => A", "(this: " + k(h - 1) + ") => A", "() => " + k(h - 1),
+            "new (a: " + k(h - 2) + ") => A", "{ [K in " + k(h - 1) + "] }", "{ [K in A as " + k(h - 1) + "] }", "{ [K in A]: " + k(h - 1) + " }", "`${A}${" + k(h - 1) + "}`",
+            "this is " + k(h - 1), "asserts x is " + k(h - 1), "typeof a<" + k(h - 1) + ">", "import('m')<" + k(h - 1) + ">")
+
+
+class Vectors(list):
+    def add(self, items, text, lent=AMPLE, parens=False, start=0, words=None):
+        t = text.encode("latin1") if isinstance(text, str) else text
+        if words is None:
+            words = m.cut(text)
+        self.append((items, t, words, start, parens, lent))
+
+    def both(self, items, text, lent=AMPLE):
+        for parens in (False, True):
+            self.add(items, text, lent, parens)
+
+
+def least(text, parens=False):
+    """The fewest nodes, names and diagnostics' records with which a text is read as with more, or None if it is refused."""
+    t, words = text.encode("latin1"), m.cut(text)
+    x = read(t, words, 0, parens, WIDE)
+    if x[0][0] != 0:
+        return None
+    _, n, k, d, _, _ = x[0]
+    while read(t, words, 0, parens, (4 * n, k, WIDE[2]))[0][0] == 8:
+        n += 1
+    while read(t, words, 0, parens, (4 * n, k, 3 * d))[0][0] == 9:
+        d += 1
+    return n, k, d
+
+
+def words_of(room):
+    return 4 * room[0], room[1], 3 * room[2]
+
+
+def by_example(v):
+    """Each example under both options; where it is read, with just enough room and with one too few of each in turn."""
+    done = set()
+    for items, t in examples():
+        try:
+            m.cut(t)
+        except IndexError:                                                  # a template that does not end
+            unfinished(v, items, t)
+            continue
+        v.both(items, t)
+        if t in done or least(t) is None:
+            continue
+        done.add(t)
+        n, k, d = words_of(least(t))
+        for a in (n, n - 1):
+            for b in (k, k - 1):
+                for c in (d, d - 1):
+                    if min(b, c) >= 0:
+                        v.add(items + " X13 X14 X16 X17", t, (a, b, c))
+
+
+def unfinished(v, items, t):
+    """A template whose last piece the text does not hold: cut as if it ended, and the last token left out."""
+    whole = t + ("}`" if t.count("{") > t.count("}") else "`")
+    w = m.cut(whole)[:-1]
+    k, nl, _, n, b = m.unpack(w[-1])
+    v.add(items, whole[:b], AMPLE, False, 0, w[:-1] + [m.pack(0, 0, b, 0)])
+
+
+def by_kind(v):
+    """Each kind alone, after `A?`, after `A[` and after `(`: who starts a type, and what no rule takes (R25, R26, R35, X3)."""
+    spelled = {1: "w", 2: "1", 3: "1n", 4: "'s'", 5: "`t`", 6: "`h${", 7: "}m${", 8: "}t`", 41: "@", 83: "public", 107: "class"}
+    spelled.update((k, s.decode()) for k, s in m.SPELL.items())
+    for before in ("", "A?", "A[", "(", "A?(", "A?-", "(a"):
+        for k in sorted(spelled):
+            s = before + spelled[k]
+            w = m.cut(before)[:-1]
+            for tail in ("", "]" if before == "A[" else ")"):
+                x = w + [m.pack(k, 0, len(before), len(spelled[k]))] + [m.pack(m.K[c], 0, len(s), 1) for c in tail]
+                v.add("R8 R25 R26 R28 R35 X3", s + tail, AMPLE, False, 0, x + [m.pack(0, 0, len(s + tail), 0)])
+
+
+def mapped(v):
+    """Each pair of modifiers of a mapped type, with and without a name type, a type and a semicolon."""
+    for ro in ("", "readonly ", "+readonly ", "-readonly "):
+        for q in ("", "?", "+?", "-?"):
+            for name in ("", " as U"):
+                for t in ("", ": V"):
+                    v.add("R37", "{ %s[K in T%s]%s%s%s }" % (ro, name, q, t, ";" if name else ""))
+
+
+def elements(v):
+    """Each form of a tuple's element, alone and after an optional one."""
+    for dots in ("", "..."):
+        for label in ("", "a: ", "a?: ", "a: ...", "a?: ..."):
+            for t in ("A", "A?", "(A?)", "A[]"):
+                for before in ("", "B?, ", "b?: B, ", "...B, "):
+                    v.both("R37 R38 R39 N5 N6 N7 N8", "[%s%s%s%s]" % (before, dots, label, t))
+
+
+def deep(v):
+    for n in (63, 64):
+        for t in nested(n):
+            v.add("X12", t, WIDE)
+    v.add("X12 X3", "(" * 64 + "A", WIDE)
+    for n in (31, 32):
+        v.add("X12", "(a: " * n + "() => " * n + "A" + ") => B" * n, WIDE)
+        v.add("X12 R36", "A<<T>() => " * n + "A" + ">" * n, WIDE)
+    v.add("X12 R23", "(infer U extends " * 31 + "A" + ")" * 31, WIDE)
+    v.add("X12 R23", "(infer U extends " * 32 + "A" + ")" * 32, WIDE)
+    v.add("X12 R23", "(infer U extends " * 6 + "A" + " ? X : Y)" * 6, WIDE)
+
+
+def high(v):
+    for h in (256, 257):
+        for t in tall(h):
+            v.add("X13 X19 X20", t, WIDE)
+    for h in (256, 257):                                                    # brackets are nodes, or are not
+        v.both("X13 X19 R33", "(" + "keyof " * (h - 2) + "A)", WIDE)
+    v.add("X21 X13 X3", "keyof " * 300 + ")", WIDE)
+    t, words = keyofs(13106)                                                # as many as a text has bytes for
+    v.add("X21 X13", t, WIDE, False, 0, words)
+
+
+def long(v):
+    for t in lists(4095):
+        v.add("X13 R19 R41", t, WIDE)
+    for t in lists(4096):                                                   # and no node left: 7 comes before 8
+        v.add("X13 X17 R19 R41", t, (4 * 4096,) + WIDE[1:])
+    v.add("X13 R35", "A" + ".b" * 4999, WIDE)
+    bad = ["A"] * 4096
+    bad[3999] = ")"
+    v.add("X21 X3", "|".join(bad), WIDE)
+
+
+def short_of_room(v):
+    """Room and records at and one below what is needed where more is in use than is left at the end."""
+    for room in range(9):
+        v.add("R17 X22 X20", "new (this: A<B, C>) => D", (4 * room, 9, 9))
+        v.add("R17 X22 X20", "new (this: A<B, C>, d: E) => F", (4 * room, 9, 9))
+        v.add("R23 X22", "(infer U extends A<B, C> ? X : Y)", (4 * room, 9, 9))
+        v.add("R23 X22", "(infer U extends A<B, C>)", (4 * room, 9, 9))
+        v.add("R22 R23 X22", "infer U\nextends A<B, C> ? X : Y", (4 * room, 9, 9))      # reads `infer U`, and the trial held three nodes
+        v.add("R22 R23 X22 X14", "infer U\nextends [A<>, B<>] ? X : Y", (40, 9, 3 * room))
+        v.add("R22 R23 X22 X16", "infer U\nextends A.b.c ? X : Y", (40, room, 9))
+        v.add("R23 X22", "(infer U\nextends A<B, C> ? X : Y)", (4 * room, 9, 9))
+        v.add("R23 X22", "(infer U extends [A, B, C, D] ? X : Y)", (4 * room + 3, 9, 9))
+        v.add("R27 X20", "this is A", (4 * room, 9, 9))
+        v.add("R16 X20", "(this: A) => B", (4 * room, 9, 9))
+        v.add("X20", "<T>(a) => B", (4 * room, 9, 9))
+        v.add("X16", "(infer U extends A.b<C.d> ? X.y : Z)", (64, room, 9))
+        v.add("X16 R17", "new <T>(this: A.b<C>, d: E.f) => G", (64, room, 9))
+        v.add("X14 N8", "[a?: ...A?, ...b?: B<>, C]", (64, 9, 3 * room))
+        v.add("X14 N8", "[a?: ...A?, ...b?: B<>, C]", (64, 9, 3 * room + 2))
+    v.add("X16", "A" + ".b" * 100, (4, 101, 0))
+    v.add("X16", "A" + ".b" * 100, (4, 100, 0))
+    v.add("X16 X17", "A" + ".b" * 100 + " B)", (4, 0, 0))
+    for lent in ((0, 0, 0), (1, 0, 0), (3, 1, 1), (4, 0, 0), (4, 1, 0), (7, 1, 2), (0, 1, 3)):
+        for t in ("A", "any", "A<>", "()", "A["):
+            v.add("X13 X14 X16 X17", t, lent)
+
+
+def many_notes(v):
+    """32 and 33 diagnostics, and as many records, one more and one fewer."""
+    for n in (31, 32, 33):
+        for c in (0, 3, 93, 95, 96, 98, 99, 102):
+            v.add("X14 N3", "[" + "A<>," * n + "]", (640, 40, c))
+        v.add("X14 X23 N10", "(infer U extends [" + "A<>," * n + "] ? X : Y)", (640, 80, 120))
+        v.add("X14 N4 N10", "new (this: [" + "A<>," * (n - 1) + "]) => B", (640, 80, 120))
+        v.add("X14 N10", "new (this: [" + "A<>," * n + "]) => B", (640, 80, 120))
+        v.add("X14 N5", "[A?," + "B," * n + "]", (640, 80, 120))
+        v.add("X14 N2", "[" + "A<<>() => B>," * n + "]", (640, 80, 120))
+        v.add("X14 N6", "[" + "a: ...B," * n + "]", (640, 80, 120))
+        v.add("X14 N7", "[" + "a: B?," * n + "]", (640, 80, 120))
+        v.add("X14 N8", "[" + "...a?: B," * n + "]", (640, 80, 120))
+
+
+def in_a_trial(v):
+    """Each refusal inside a trial that a `?` would drop (X23)."""
+    def trial(t): return "(infer U extends " + t + " ? X : Y)"
+    v.add("X23 X3", trial("[A B]"))
+    v.add("X23 X5", trial("A<"))
+    v.add("X23 X4", trial("{ a: B }"))
+    v.add("X23 X7", trial("(a = b) => c"))
+    for n in (61, 62, 63):
+        v.add("X23 X12", trial("(" * n + "A" + ")" * n), WIDE)
+    for n in (254, 255, 256):
+        v.add("X23 X13", trial("keyof " * n + "A"), WIDE)
+    v.add("X23 X13", trial("|".join("A" * 4096)), WIDE)
+    for room in range(3, 10):
+        v.add("X23 X13", trial("[A, B, C]"), (4 * room, 20, 9))
+        v.add("X23 X13", trial("[A, B, C]"), (4 * room - 1, 20, 9))
+    for c in (0, 3, 6, 8, 9):
+        v.add("X23 X14", trial("[A<>, B<>, C<>]"), (99, 20, c))
+    v.add("X16 X22", trial("A.b.c.d"), (99, 3, 9))
+    v.add("X16 X22", trial("A.b.c.d"), (99, 2, 9))
+
+
+def orders(v):
+    """Two refusals at one node: 7 before 6 before 8, 9 before the node's own, a parameter's before a `=` (X17)."""
+    top = "keyof " * 255 + "A"
+    v.add("X17", "A<" + "A," * 4095 + top + ">", WIDE)                      # 7 and 6
+    for room in (255, 256, 257):
+        v.add("X17", "keyof " + top, (4 * room, 9, 9))                      # 6 and 8
+    for lent in ((0, 9, 0), (0, 9, 3), (4, 9, 0), (4, 0, 3), (0, 0, 0), (4, 0, 0), (4, 1, 3)):
+        v.add("X17", "A<>", lent)                                           # 9, 8, 11
+        v.add("X17", "(a = b) => c", lent)                                  # 8 before 4
+        v.add("X17 N4", "new (this) => A", lent)
+        v.add("X17 N7 N8", "[...a?: ...B?]", lent)
+    v.add("X17 X2", b"A", AMPLE, False, 9, [m.pack(9, 0, 0, 1), m.pack(0, 0, 1, 0)])    # 1 and 2
+    v.add("X17 X16", "A.b.c )", (4, 1, 0))
+    v.add("X17 X3", "[A.b.c, ", (99, 1, 0))
+
+
+def bad_lists(v):
+    """Refusal 1: text and tokens at and over their limits, no tokens, and starts."""
+    one = [m.pack(1, 0, 0, 1), m.pack(0, 0, 1, 0)]
+    v.add("X1", b"", AMPLE, False, 0, [])
+    v.add("X1", b"A", AMPLE, False, 0, [])
+    v.add("X1 X3", b"", AMPLE, False, 0, [m.pack(0, 0, 0, 0)])
+    for start in (0, 1, 2, 3, 1 << 31, (1 << 32) - 1):
+        v.add("X1", b"A", AMPLE, False, start, one)
+    for n in (m.TEXT, m.TEXT + 1):
+        s = b"'" + b"s" * (n - 2) + b"'"
+        v.add("X1", s, AMPLE, False, 0, [m.pack(4, 0, 0, min(n, m.TEXT)), m.pack(0, 0, n, 0)])
+    for n in (m.TOKENS, m.TOKENS + 1):                                      # a token a byte, and the Eof
+        t = "A&A&A&A&A&A|" * 1365 + "A"
+        v.add("X1", t + "!" * (n - 1 - len(t)), WIDE)
+    t = "A extends B ? C : D"
+    for start in range(len(m.cut(t)) + 2):
+        v.add("X1 X18", t, AMPLE, False, start)
+    for start in range(5):
+        v.add("X1 X18 R36", "A<<T>() => T>", AMPLE, False, start)
+
+
+def bad_words(v):
+    """Refusal 2: each way in which a word is bad, the lowest of two, and a last word that is no Eof."""
+    t = "A<B, keyof C>"
+    b, w = t.encode(), m.cut(t)
+    def put(*changes):
+        x = list(w)
+        for i, y in changes:
+            x[i] = y
+        v.add("X2", b, AMPLE, False, 0, x)
+    for i in range(len(w)):
+        k, nl, _, n, s = m.unpack(w[i])
+        for y in (m.pack(9, nl, s, n), m.pack(255, nl, s, n), w[i] | 1 << 49, w[i] | 1 << 54, m.pack(k, nl, s + 1, n), m.pack(k, nl, s, n + 1), m.pack(k, nl, s, 65536),
+                  m.pack(k, nl, max(0, s - 1), n), m.pack(0, nl, s, 0), m.pack(k, nl, s, 0), m.pack(16, nl, s, n), m.pack(64, nl, s, n), m.pack(41, nl, s, n), m.pack(k, 1, s, n)):
+            put((i, y))
+        put((i, w[i] | 1 << 50), (len(w) - 2, 0))
+    for n in range(1, len(w)):
+        v.add("X2", b, AMPLE, False, 0, w[:n])
+    v.add("X2", b, AMPLE, False, 0, w + [w[-1]])
+    v.add("X2", b"a\\b", AMPLE, False, 0, [m.pack(1, 0, 0, 3), m.pack(0, 0, 3, 0)])
+    v.add("X2", b"any", AMPLE, False, 0, [m.pack(1, 0, 0, 3), m.pack(0, 0, 3, 0)])
+    v.add("X2 R28", b"any", AMPLE, False, 0, [m.pack(2, 0, 0, 3), m.pack(0, 0, 3, 0)])
+
+
+def generated(v):
+    """Texts of a grammar, and copies damaged, from other starts, with other rooms, and with bad words."""
+    for c in Cases(1).generated(2600):
+        v.append(c)
+
+
+def cases():
+    v = Vectors()
+    for part in (by_example, by_kind, mapped, elements, deep, high, long, short_of_room, many_notes, in_a_trial, orders, bad_lists, bad_words, generated):
+        part(v)
+    missing = set(ITEMS) - set(i for c in v for i in c[0].split())
+    assert not missing, missing
+    return v
+
+
+def listed(item):
+    for i, c in enumerate(cases()):
+        if item is None or item in c[0].split():
+            print(i, c[0], "| start %d parens %d lent %d %d %d |" % (c[3:5] + tuple(c[5])), *expected(c), "|", repr(c[1].decode("latin1")[:100]))
+
+
+def main():
+    if sys.argv[1:2] == ["--list"]:
+        return listed(sys.argv[2] if len(sys.argv) > 2 else None)
+    c = cases()
+    data = b"".join(record(x, expected(x)) for x in c)
+    written("readers_run", data, ["%d vectors, 0 different" % len(c)], "%d records, %d bytes" % (len(c), len(data)))
+
+
+if __name__ == "__main__":
+    main()
