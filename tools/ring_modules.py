@@ -4,10 +4,12 @@
     ring_modules.py CRATE FILE     FILE: what `RT_CUT=0 rt dev CRATE` printed
 
 Run in the folder that holds crates.txt. It writes crates/CRATE/proofs/ring/+A+B+../Proof.antt, Proof/Base.antt with the
-measures (thirteen for each unread half of a token, and a rank for each reader), and a module for each reader, in which
-each need is answered by `search needs`. Invariants are left as `?`. A module that is there already is not written again.
+measures (thirteen for each unread half of a token, and a rank for each reader), and a module for each reader. Needs about
+numbers are answered; invariants, and what an answer says of the rules, are left as `?`. Then `needs.py generate CRATE` and
+`needs.py name CRATE READER FILE` write the paths of what is cited with an @. A module that is there already is not written
+again: move it away to have its new skeleton.
 """
-import os, re, sys
+import glob, os, re, sys
 
 RANKS = {12: 'return_type element then other name_type', 11: 'ty', 10: 'function conditional', 9: 'signature union',
          8: 'params type_params intersection', 7: 'param_list type_param operator', 6: 'param infer postfix',
@@ -21,6 +23,38 @@ HEAD = ['use Prim.Native.Nat.{ℕ, suc, _+_, _-_, _*_, _^_, _≤_, _<_}', 'use n
 
 def kebab(name): return name.replace('_', '-')
 def module(name): return 'Of' + ''.join(p.capitalize() for p in kebab(name).split('-'))
+
+
+def parts_of(text):
+    """The parts of a product, at its top."""
+    out, depth = [''], 0
+    for ch in text:
+        depth += (ch in '([{') - (ch in ')]}')
+        if ch == '×' and depth == 0: out.append('')
+        else: out[-1] += ch
+    return [p.strip() for p in out]
+
+
+def asked():
+    """What each function asks, in parts, by its name."""
+    out = {}
+    for file in sorted(glob.glob('crates/*/src/*.rt')):
+        for m in re.finditer(r'(?m)^ *(?:pub )?fn (\w+)\([^)]*\)[^\n]*\n(?: +requires \{ ⌜ (.*?) ⌝ \})?', open(file).read()):
+            if m.group(2) or kebab(m.group(1)) not in out: out[kebab(m.group(1))] = parts_of(m.group(2)) if m.group(2) else []
+    return out
+
+
+def answer(need, readers, asks):
+    """Numbers by omega, the table of classes and the sound list as they were given; `?` for what a law has to say."""
+    m = re.match(r'(.*?)-requires(-\d+)?$', need)
+    if m:
+        parts = ['@pre .1 .0' if 'classWords' in a else '@pre .1 .1' if a.startswith('Sound') else 'omega arith' for a in asks.get(m.group(1), [])]
+        if not parts: return 'search needs'
+        whole = parts[0] if len(parts) == 1 else '(%s)' % ', '.join(parts)
+        return '(omega arith, %s)' % whole if m.group(1) in readers else whole
+    if need.startswith('returns'): return '(?, (omega arith, λ z. omega arith))'
+    if need in ('loop-holds', 'loop-again'): return '(omega arith, omega arith, ?)'
+    return 'omega arith'
 
 
 def skeleton(file):
@@ -66,9 +100,9 @@ def base(members, uses, source):
     return '\n'.join(out)
 
 
-def reader(x, text, close, uses, ring):
+def reader(x, text, close, uses, ring, members, asks):
     """The module of a reader, its invariants and its needs."""
-    k = kebab(x)
+    k, readers = kebab(x), {kebab(m) for m in members}
     m = re.search(r'\(?λ t\.\s*' + re.escape(k) + r'-lts\.spec\s*\((.*?),?\s*\)\s*\(' + re.escape(k) + r'-at t\)\s*' + re.escape(k)
                   + r'\.Post(.*?)(?=\n    \(?λ t\.|\Z)', close, re.S)
     claims = [c.strip() for c in m.group(1).split(',') if c.strip()]
@@ -86,8 +120,8 @@ def reader(x, text, close, uses, ring):
     out.append('module _ (t : ℕ) where')
     for n in needs:
         args = re.search(r'(?m)^' + re.escape(k + '-' + n) + r'\s+t ([^=:]*?)=\s*\?$', text)
-        out.append('  pub %s : lts.Need-%s (R t) (%s-at t) %s.Post%s\n  %s %s =\n      search needs\n'
-                   % (n, n, k, k, ''.join(' ' + l for l in loops), n, (args.group(1) if args else 'c').strip()))
+        out.append('  pub %s : lts.Need-%s (R t) (%s-at t) %s.Post%s\n  %s %s =\n      %s\n'
+                   % (n, n, k, k, ''.join(' ' + l for l in loops), n, (args.group(1) if args else 'c').strip(), answer(n, readers, asks)))
     return '\n'.join(out), loops, needs
 
 
@@ -107,9 +141,9 @@ def main(crate, file):
     for x in members: top += ['use %s as %s' % (uses[kebab(x) + e], kebab(x) + e) for e in ('', '-lts')]
     top += ['use %s.{statement}' % ring, 'use %s.Tie.{close}' % ring, '', 'pub %s : {M : Type 1} → statement M' % spec, '%s =' % spec,
             '    close ' + ' '.join('μ-' + kebab(x) for x in members)]
-    count = 0
+    count, asks = 0, asked()
     for x in members:
-        body, loops, needs = reader(x, text, text[start:], uses, ring)
+        body, loops, needs = reader(x, text, text[start:], uses, ring, members, asks)
         write(os.path.join(at, 'Proof', module(x) + '.antt'), body)
         k, count = kebab(x), count + len(needs)
         top.append('    (λ t. %s-lts.spec (%s.R t) (%s-at t) %s.Post %s)' % (k, module(x), k, k, ' '.join([module(x) + '.' + l for l in loops] + ['(%s.%s t)' % (module(x), n) for n in needs])))
