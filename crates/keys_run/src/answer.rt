@@ -3,20 +3,22 @@ ghost use mathlib.Core.Path.{_≡_};
 ghost use Prim.Native.Nat.{_*_, _^_, _<_, _≤_};
 ghost use lib.ListN.{length};
 ghost use Rattle.keys.specs.Put.{far};
-use crate::line::bytes;
-use crate::line::next;
 use crate::record;
 use crate::sum;
 use keys::back::Answer;
 use keys::back::take_back;
 use keys::out::put_key;
 use keys::visits::walk;
+use lines::line::bytes;
+use lines::line::next;
+use lines::sum::dirty_words;
+use lines::sum::of_words;
 use words::limits::Tree;
 
 // All of the lent nodes, names and text as one number.
 fn left(nodes: &[u64], names: &[u64], text: &[u8]) -> u64 {
-    let a = sum::of_words(nodes, 1);
-    let b = sum::of_words(names, a);
+    let a = of_words(nodes, 1);
+    let b = of_words(names, a);
     sum::of_bytes(text, b)
 }
 
@@ -68,10 +70,10 @@ fn visited(
     requires { ⌜ (at < length (now out)) × (length (now visits) * 8 ≤ far) ⌝ }
     ensures { λ r. ⌜ r < length (now (out .exit)) ⌝ }
 {
-    sum::dirty_words(visits);
+    dirty_words(visits);
     let size = walk(nodes, names, last(count), Tree::TALLEST, visits);
     let p = next(out, at, size as u64);
-    next(out, p, sum::of_words(visits, 1))
+    next(out, p, of_words(visits, 1))
 }
 
 // The same in a buffer of its own, by the bytes lent for the key.
@@ -185,8 +187,8 @@ fn told(
 }
 
 fn dirty(nodes: &mut [u64], names: &mut [u64], text: &mut [u8], again: &mut [u8]) {
-    sum::dirty_words(nodes);
-    sum::dirty_words(names);
+    dirty_words(nodes);
+    dirty_words(names);
     sum::dirty_bytes(text);
     sum::dirty_bytes(again);
 }

@@ -3,7 +3,6 @@
 // the key's length (4 bytes each, lowest first), the key. A record that the file cuts short, or that is too large,
 // prints `cut`.
 mod answer;
-mod line;
 mod record;
 mod sum;
 
@@ -11,6 +10,7 @@ ghost use mathlib.Core.Path.{_≡_};
 ghost use Prim.Native.Nat.{_<_, _≤_};
 ghost use lib.ListN.{length};
 use crate::record::Rooms;
+use lines::line;
 
 // A record's line, by the buffers that it lends.
 fn lent(
@@ -70,7 +70,7 @@ fn shown(
     if key.len() < rooms.key {
         return line::cut(out, at);
     }
-    if !record::load(fd, key, rooms.key) {
+    if !lines::record::load(fd, key, rooms.key) {
         return line::cut(out, at);
     }
     let end = lent(out, at, head[0], rooms, key, nodes, names, text, again);

@@ -1,8 +1,7 @@
-// The parts of a record: numbers of four bytes, lowest first, and the room for the largest record.
+// The parts of a record: the numbers of its head, and the room for the largest record.
 ghost use mathlib.Core.Path.{_≡_};
-ghost use Prim.Native.Nat.{_+_, _^_, _<_, _≤_};
 ghost use lib.ListN.{length};
-ghost use Rattle.io.specs.Counts.{Counts};
+use lines::record::four;
 
 // The words of as many nodes as a key may have, of ten bits each.
 pub fn node_room() -> [u64; 838860]
@@ -37,21 +36,6 @@ pub fn visit_room() -> [u64; 4096]
     [0; 4096]
 }
 
-fn wide(b: u8) -> usize
-    ensures { λ r. ⌜ r < 256 ⌝ }
-{
-    b as usize
-}
-
-pub fn four(bytes: &[u8], i: usize) -> usize
-    requires { ⌜ i + 4 ≤ length (now bytes) ⌝ }
-    ensures { λ r. ⌜ r < 2 ^ 32 ⌝ }
-{
-    let low = wide(bytes[i]) + 0x100 * wide(bytes[i + 1]);
-    let high = wide(bytes[i + 2]) + 0x100 * wide(bytes[i + 3]);
-    low + 0x1_0000 * high
-}
-
 // How much a record lends, and its key's length.
 pub struct Rooms {
     pub nodes: usize,
@@ -70,12 +54,4 @@ pub fn lent_by(head: &[u8; 21]) -> Rooms {
         again: four(head, 13),
         key: four(head, 17),
     }
-}
-
-// Whether the next n bytes of a file are there: they then begin the buffer.
-pub fn load(fd: i32, bytes: &mut [u8], n: usize) -> bool
-    requires { ⌜ n ≤ length (now bytes) ⌝ }
-    ensures { λ _. ⌜ Counts n (now (bytes .exit)) ⌝ }
-{
-    io::read_full(fd, &mut bytes[..n]) == n
 }

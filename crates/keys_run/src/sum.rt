@@ -6,15 +6,6 @@ ghost use lib.ListN.{length};
 // The largest prime below 2^32: sums are numbers below it.
 const PRIME: u64 = 4294967291;
 
-// All bits of each word set.
-pub fn dirty_words(words: &mut [u64]) {
-    let mut i: usize = 0;
-    while i < words.len() {
-        words[i] = 18446744073709551615;
-        i += 1;
-    }
-}
-
 // All bits of each byte set.
 pub fn dirty_bytes(bytes: &mut [u8]) {
     let mut i: usize = 0;
@@ -41,32 +32,10 @@ fn more(sum: u64, x: u64) -> u64
     (sum * 1000003 + x) % PRIME
 }
 
-// A sum with a word more: its lower half, then its upper.
-fn more_word(sum: u64, x: u64) -> u64
-    requires { ⌜ sum < 4294967291 ⌝ }
-    ensures { λ r. ⌜ r < 4294967291 ⌝ }
-{
-    let low = more(sum, x % 4294967296);
-    more(low, x / 4294967296)
-}
-
 fn wide(b: u8) -> u64
     ensures { λ r. ⌜ r < 256 ⌝ }
 {
     b as u64
-}
-
-pub fn of_words(words: &[u64], from: u64) -> u64
-    requires { ⌜ from < 4294967291 ⌝ }
-    ensures { λ r. ⌜ r < 4294967291 ⌝ }
-{
-    let mut sum = from;
-    let mut i: usize = 0;
-    while i < words.len() {
-        sum = more_word(sum, words[i]);
-        i += 1;
-    }
-    sum
 }
 
 pub fn of_bytes(bytes: &[u8], from: u64) -> u64

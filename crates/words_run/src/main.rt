@@ -2,13 +2,13 @@
 // A record: op (1 byte), a, b, the text's length, the number of words (4 bytes each, lowest first), the text, the
 // words (8 bytes each, lowest first). A record that the file cuts short, or that is too large, prints `cut`.
 mod answer;
-mod line;
-mod record;
 
 ghost use mathlib.Core.Path.{_≡_};
 ghost use Prim.Native.Nat.{_<_, _≤_};
 ghost use lib.ListN.{length};
 ghost use Rattle.words.specs.Class.{classWords};
+use lines::line;
+use lines::record;
 use words::kind::class_words;
 
 // A record after its head: text and words are read, and its line goes to the buffer.
