@@ -35,13 +35,37 @@ use Rattle.readers.proofs.ring.+arguments+conditional+element+extends+f
 use Rattle.readers.proofs.ring.+arguments+conditional+element+extends+function+infer+intersection+mapped+name_type+named+operator+opt+other+param+param_list+params+parens+postfix+predicate+primary+return_type+signature+suffix+template+then+tuple+ty+type_param+type_params+union.Proof.Base.{arguments-at, ty-below}
 
 abbrev pub R : ℕ → lts.Claims
-R t = (opens-reads.Asked, opens-reads.Learnt, absent-reads.Asked, absent-reads.Learnt, opened-reads.Asked, opened-reads.Learnt, state-Kids-none-reads.Asked, state-Kids-none-reads.Learnt, kind-at-reads.Asked, kind-at-reads.Learnt, ty-below t, ty.Post, state-Listed-refused-reads.Asked, state-Listed-refused-reads.Learnt, link-reads.Asked, link-reads.Learnt, past-comma-reads.Asked, past-comma-reads.Learnt, first-byte-reads.Asked, first-byte-reads.Learnt, list-end-reads.Asked, list-end-reads.Learnt)
+R t = (
+  opens-reads.Asked,
+  opens-reads.Learnt,
+  absent-reads.Asked,
+  absent-reads.Learnt,
+  opened-reads.Asked,
+  opened-reads.Learnt,
+  state-Kids-none-reads.Asked,
+  state-Kids-none-reads.Learnt,
+  kind-at-reads.Asked,
+  kind-at-reads.Learnt,
+  ty-below t,
+  ty.Post,
+  state-Listed-refused-reads.Asked,
+  state-Listed-refused-reads.Learnt,
+  link-reads.Asked,
+  link-reads.Learnt,
+  past-comma-reads.Asked,
+  past-comma-reads.Learnt,
+  first-byte-reads.Asked,
+  first-byte-reads.Learnt,
+  list-end-reads.Asked,
+  list-end-reads.Learnt,
+)
 
 abbrev pub Inv-loop : lts.InvT-loop
 Inv-loop words classes nodes₀ names₀ notes₀ given m p₀ k₀ nodes names notes p k =
     Kept (length words) given nodes₀ names₀ notes₀ p₀ nodes names notes p × (Under (p .used) k)
-    ×
-    ((text : List ℕ) → Spelt text words → ArgumentsTurn (givenOf text words given) (below given (givenOf text words given)) (view m notes₀) (was m nodes₀ names₀ notes₀) k p nodes names notes)
+    × ((text : List ℕ) → Spelt text words
+    → ArgumentsTurn (givenOf text words given) (below given (givenOf text words given)) (view m notes₀)
+    (was m nodes₀ names₀ notes₀) k p nodes names notes)
 
 abbrev pub μ-loop : lts.MeasureT-loop
 μ-loop words classes nodes₀ names₀ notes₀ given m p₀ k₀ nodes names notes p k =
@@ -49,8 +73,7 @@ abbrev pub μ-loop : lts.MeasureT-loop
 
 module _ (t : ℕ) where
   pub opens-requires : lts.Need-opens-requires (R t) (arguments-at t) arguments.Post Inv-loop μ-loop
-  opens-requires c κs =
-      search needs
+  opens-requires c κs = search needs
 
   pub absent-requires : lts.Need-absent-requires (R t) (arguments-at t) arguments.Post Inv-loop μ-loop
   absent-requires c κs = search needs
@@ -69,9 +92,9 @@ module _ (t : ℕ) where
 
   pub opened-requires : lts.Need-opened-requires (R t) (arguments-at t) arguments.Post Inv-loop μ-loop
   opened-requires c κs =
+      let pre = c .before .before .before .before .before .before .pre in
       let opens = c .before .opens in
       let if1 = c .if1 in
-      let pre = c .before .before .before .before .before .before .pre in
       (pre .1 .1, opens .ensures .1 (not-false _ (if1 .left)) .0, opens .ensures .1 (not-false _ (if1 .left)) .1)
 
   pub none-requires : lts.Need-none-requires (R t) (arguments-at t) arguments.Post Inv-loop μ-loop
@@ -80,9 +103,9 @@ module _ (t : ℕ) where
   pub loop-holds : lts.Need-loop-holds (R t) (arguments-at t) arguments.Post Inv-loop μ-loop
   loop-holds c =
       let args = c .before .before .before .before .before .before .before .before .args in
+      let pre = c .before .before .before .before .before .before .before .before .pre in
       let opens = c .before .before .before .opens in
       let if1 = c .before .before .if1 in
-      let pre = c .before .before .before .before .before .before .before .before .pre in
       let opened = c .before .opened in
       let none = c .none in (
         omega (arith, pre),
@@ -92,8 +115,8 @@ module _ (t : ℕ) where
             turn-starts (args .m) (opened .result) (none .ensures) (opened .ensures .0 .used-is) (opened .ensures .0 .named-is)
             (opened .ensures .0 .noted-is)
             (arguments-some _ _ _ (sym (opens .ensures .0 text (args .notes .now) (args .given)) ∙ not-false _ (if1 .left))
-            ∙ ap
-            (looped g RAngle (λ l. below (args .given) g true) (endArguments g (below (args .given) g) (first g (view (args .m) (args .notes .now)))) (turns g) [])
+            ∙ ap (looped g RAngle (λ l. below (args .given) g true)
+            (endArguments g (below (args .given) g) (first g (view (args .m) (args .notes .now)))) (turns g) [])
             (sym (opened .ensures .1 text (args .notes .now) (args .given)))),
       )
 
@@ -142,16 +165,11 @@ module _ (t : ℕ) where
 
   pub link-requires : lts.Need-link-requires (R t) (arguments-at t) arguments.Post Inv-loop μ-loop
   link-requires c κs =
-      let good = c .before .before .before .before .before .before .before .before .before .before .before .before .before .before .before .before .before .before .before .before .before .before .before .before .before .good in
       let pre = c .before .before .before .before .before .before .before .before .before .before .before .before .before .before .before .before .before .before .before .before .before .before .before .before .before .pre in
-      let opened = c .before .before .before .before .before .before .before .before .before .before .before .before .before .before .before .before .before .before .opened in
-      let none = c .before .before .before .before .before .before .before .before .before .before .before .before .before .before .before .before .before .none in
       let loop = c .before .before .before .before .before .before .before .before .before .before .before .before .before .before .before .before .loop in
-      let kind-at = c .before .before .before .before .before .before .before .before .before .before .before .before .before .before .before .kind-at in
-      let if2 = c .before .before .before .before .before .before .before .before .before .before .before .before .before .before .if2 in
       let ty = c .before .before .before .before .before .before .before .before .before .before .ty in
       let if3 = c .before .before .if3 in
-      omega (arith, ty .ensures .1 .1 (if3 .left), if2, kind-at .ensures .0, kind-at .ensures .1, loop .inv .0, loop .inv .1, same-kids (none .ensures), opened .ensures .0, pre, good)
+      omega (arith, ty .ensures .1 .1 (if3 .left), loop .inv .1, pre)
 
   pub past-comma-requires : lts.Need-past-comma-requires (R t) (arguments-at t) arguments.Post Inv-loop μ-loop
   past-comma-requires c κs =
@@ -207,7 +225,6 @@ module _ (t : ℕ) where
   pub loop-again : lts.Need-loop-again (R t) (arguments-at t) arguments.Post Inv-loop μ-loop
   loop-again c =
       let args = c .before .before .before .before .before .before .before .before .before .before .before .before .before .before .before .before .before .before .before .before .before .before .before .before .before .before .before .before .before .before .before .before .args in
-      let none = c .before .before .before .before .before .before .before .before .before .before .before .before .before .before .before .before .before .before .before .before .before .before .before .before .none in
       let loop = c .before .before .before .before .before .before .before .before .before .before .before .before .before .before .before .before .before .before .before .before .before .before .before .loop in
       let kind-at = c .before .before .before .before .before .before .before .before .before .before .before .before .before .before .before .before .before .before .before .before .before .before .kind-at in
       let if2 = c .before .before .before .before .before .before .before .before .before .before .before .before .before .before .before .before .before .before .before .before .before .if2 in
@@ -216,7 +233,7 @@ module _ (t : ℕ) where
       let link = c .before .before .before .before .before .before .link in
       let past-comma = c .before .before .before .past-comma in
       let if4 = c .before .if4 in (
-        omega (arith, ty .kept, ty .ensures .1 .1 (if3 .left), same-kids (none .ensures)),
+        omega (arith, ty .kept, ty .ensures .1 .1 (if3 .left)),
         omega arith,
         λ text s.
             let w = loop .inv .2 text s in
@@ -246,15 +263,14 @@ module _ (t : ℕ) where
   pub returns-4 : lts.Need-returns-4 (R t) (arguments-at t) arguments.Post Inv-loop μ-loop
   returns-4 c =
       let args = c .before .before .before .before .before .before .before .before .before .before .before .before .before .before .before .before .args in
-      let first-byte = c .before .before .before .before .first-byte in
       let opened = c .before .before .before .before .before .before .before .before .before .opened in
-      let none = c .before .before .before .before .before .before .before .before .none in
       let loop = c .before .before .before .before .before .before .before .loop in
       let kind-at = c .before .before .before .before .before .before .kind-at in
       let if2 = c .before .before .before .before .before .if2 in
+      let first-byte = c .before .before .before .before .first-byte in
       let list-end = c .before .before .list-end in (
         λ text s.
             turn-ends text (args .words .now) (args .given) _ _ _ _ (loop .p) (loop .inv .2 text s)
             (is-here (args .words .now) (loop .p) (kind-at .ensures .0) (if2 .left)) (first-byte .ensures .0) (list-end .ensures .0),
-        (omega arith, λ z. omega (arith, kind-at .ensures .1, loop .inv .0, loop .inv .1, same-kids (none .ensures), opened .ensures .0)),
+        (omega arith, λ z. omega (arith, opened .ensures .0)),
       )

@@ -18,7 +18,18 @@ use Rattle.readers.proofs.ring.+arguments+conditional+element+extends+f
 use Rattle.readers.proofs.ring.+arguments+conditional+element+extends+function+infer+intersection+mapped+name_type+named+operator+opt+other+param+param_list+params+parens+postfix+predicate+primary+return_type+signature+suffix+template+then+tuple+ty+type_param+type_params+union.Proof.Base.{conditional-at, extends-below, union-below}
 
 abbrev pub R : ℕ → lts.Claims
-R t = (union-below t, union.Post, on-line-reads.Asked, on-line-reads.Learnt, kind-at-reads.Asked, kind-at-reads.Learnt, at-reads.Asked, at-reads.Learnt, extends-below t, extends.Post)
+R t = (
+  union-below t,
+  union.Post,
+  on-line-reads.Asked,
+  on-line-reads.Learnt,
+  kind-at-reads.Asked,
+  kind-at-reads.Learnt,
+  at-reads.Asked,
+  at-reads.Learnt,
+  extends-below t,
+  extends.Post,
+)
 
 module _ (t : ℕ) where
   pub union-requires : lts.Need-union-requires (R t) (conditional-at t) conditional.Post
@@ -52,9 +63,9 @@ module _ (t : ℕ) where
 
   pub returns-2 : lts.Need-returns-2 (R t) (conditional-at t) conditional.Post
   returns-2 c =
-      let if2 = c .if2 in
       let union = c .before .before .before .before .before .before .before .before .before .union in
-      let if1 = c .before .if1 in (
+      let if1 = c .before .if1 in
+      let if2 = c .if2 in (
         λ text s.
             let w = union .ensures .0 text s in
             says-passed w (if1 .left) (union-off _ _ _ _ (w .done (if1 .left) .is) (not-true _ (if2 .taken))),
@@ -75,15 +86,15 @@ module _ (t : ℕ) where
 
   pub returns-3 : lts.Need-returns-3 (R t) (conditional-at t) conditional.Post
   returns-3 c =
+      let union = c .before .before .before .before .before .before .before .before .before .before .before .before .union in
+      let if1 = c .before .before .before .before .if1 in
       let if2 = c .before .before .before .if2 in
       let on-line = c .before .on-line in
-      let if3 = c .if3 in
-      let union = c .before .before .before .before .before .before .before .before .before .before .before .before .union in
-      let if1 = c .before .before .before .before .if1 in (
+      let if3 = c .if3 in (
         λ text s.
             let w = union .ensures .0 text s in
-            says-passed w (if1 .left)
-            (union-apart _ _ _ _ (w .done (if1 .left) .is) (not-false _ (if2 .left)) (sym (on-line .ensures) ∙ not-true _ (if3 .taken))),
+            says-passed w (if1 .left) (union-apart _ _ _ _ (w .done (if1 .left) .is) (not-false _ (if2 .left))
+            (sym (on-line .ensures) ∙ not-true _ (if3 .taken))),
         (omega arith, λ z. omega (arith, union .ensures .1 .1 (if1 .left))),
       )
 
@@ -102,11 +113,11 @@ module _ (t : ℕ) where
   pub returns-4 : lts.Need-returns-4 (R t) (conditional-at t) conditional.Post
   returns-4 c =
       let args = c .before .before .before .before .before .before .before .before .before .before .before .before .before .before .before .before .before .before .before .before .before .before .args in
+      let union = c .before .before .before .before .before .before .before .before .before .before .before .before .before .before .union in
+      let if1 = c .before .before .before .before .before .before .if1 in
       let if2 = c .before .before .before .before .before .if2 in
       let on-line = c .before .before .before .on-line in
       let if3 = c .before .before .if3 in
-      let union = c .before .before .before .before .before .before .before .before .before .before .before .before .before .before .union in
-      let if1 = c .before .before .before .before .before .before .if1 in
       let kind-at = c .before .kind-at in
       let if4 = c .if4 in (
         λ text s.
@@ -157,11 +168,11 @@ module _ (t : ℕ) where
   pub returns-5 : lts.Need-returns-5 (R t) (conditional-at t) conditional.Post
   returns-5 c =
       let args = c .before .before .before .before .before .before .before .before .before .before .before .before .before .before .before .before .before .before .before .before .before .before .before .before .before .before .before .before .before .before .before .before .before .args in
+      let union = c .before .before .before .before .before .before .before .before .before .before .before .before .before .before .before .before .before .before .before .before .before .before .before .before .before .union in
+      let if1 = c .before .before .before .before .before .before .before .before .before .before .before .before .before .before .before .before .before .if1 in
       let if2 = c .before .before .before .before .before .before .before .before .before .before .before .before .before .before .before .before .if2 in
       let on-line = c .before .before .before .before .before .before .before .before .before .before .before .before .before .before .on-line in
       let if3 = c .before .before .before .before .before .before .before .before .before .before .before .before .before .if3 in
-      let union = c .before .before .before .before .before .before .before .before .before .before .before .before .before .before .before .before .before .before .before .before .before .before .before .before .before .union in
-      let if1 = c .before .before .before .before .before .before .before .before .before .before .before .before .before .before .before .before .before .if1 in
       let kind-at = c .before .before .before .before .before .before .before .before .before .before .before .before .kind-at in
       let if4 = c .before .before .before .before .before .before .before .before .before .before .before .if4 in
       let at = c .before .before .before .before .before .before .before .before .before .before .at in
@@ -169,7 +180,8 @@ module _ (t : ℕ) where
         λ text s.
             let got = union .ensures .0 text s .done (if1 .left) in
             says-same
-            (union-goes _ _ _ _ (got .is) (at .result .first) (at .ensures .0 .0) (not-false _ (if2 .left)) (sym (on-line .ensures) ∙ not-false _ (if3 .left))
+            (union-goes _ _ _ _ (got .is) (at .result .first) (at .ensures .0 .0) (not-false _ (if2 .left))
+            (sym (on-line .ensures) ∙ not-false _ (if3 .left))
             (is-here (args .words .now) (union .result .m) (kind-at .ensures .0) (if4 .left)))
             (extends .ensures .0 text _ (got .tree) s (got .stands) (at .ensures .0 .1)),
         (omega arith, λ z. omega (arith, union .ensures .1 .1 (if1 .left), extends .ensures .1 .1 z)),

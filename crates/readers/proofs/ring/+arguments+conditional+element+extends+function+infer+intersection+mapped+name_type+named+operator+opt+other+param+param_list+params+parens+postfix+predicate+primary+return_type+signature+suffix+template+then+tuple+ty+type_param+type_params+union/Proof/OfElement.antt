@@ -57,8 +57,8 @@ module _ (t : ℕ) where
         omega (arith, ty .ensures .1 .1 (if1 .left)),
         omega arith,
         omega arith,
-        omega (arith, ty .ensures .1 .1 (if1 .left), element-head .ensures .0 .name-is, element-head .ensures .1 .1),
-        omega (arith, ty .ensures .1 .1 (if1 .left), element-head .ensures .0 .name-is, element-head .ensures .1 .1),
+        omega (arith, ty .ensures .1 .1 (if1 .left)),
+        omega (arith, element-head .ensures .1 .1),
       )
 
   pub same-length-4 : lts.Need-same-length-4 (R t) (element-at t) element.Post

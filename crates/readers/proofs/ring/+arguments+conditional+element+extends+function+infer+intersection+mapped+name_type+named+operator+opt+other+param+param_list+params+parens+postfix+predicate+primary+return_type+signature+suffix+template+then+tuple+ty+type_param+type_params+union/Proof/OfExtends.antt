@@ -19,12 +19,24 @@ use Rattle.readers.proofs.ring.+arguments+conditional+element+extends+f
 use Rattle.readers.proofs.ring.+arguments+conditional+element+extends+function+infer+intersection+mapped+name_type+named+operator+opt+other+param+param_list+params+parens+postfix+predicate+primary+return_type+signature+suffix+template+then+tuple+ty+type_param+type_params+union.Proof.Base.{extends-at, then-below, ty-below}
 
 abbrev pub R : ℕ → lts.Claims
-R t = (ty-below t, ty.Post, kind-at-reads.Asked, kind-at-reads.Learnt, state-Answer-refused-reads.Asked, state-Answer-refused-reads.Learnt, one-reads.Asked, one-reads.Learnt, link-reads.Asked, link-reads.Learnt, then-below t, then.Post)
+R t = (
+  ty-below t,
+  ty.Post,
+  kind-at-reads.Asked,
+  kind-at-reads.Learnt,
+  state-Answer-refused-reads.Asked,
+  state-Answer-refused-reads.Learnt,
+  one-reads.Asked,
+  one-reads.Learnt,
+  link-reads.Asked,
+  link-reads.Learnt,
+  then-below t,
+  then.Post,
+)
 
 module _ (t : ℕ) where
   pub add-if2 : lts.Need-add-if2 (R t) (extends-at t) extends.Post
-  add-if2 c =
-      omega arith
+  add-if2 c = omega arith
 
   pub ty-requires : lts.Need-ty-requires (R t) (extends-at t) extends.Post
   ty-requires c κs =
@@ -71,43 +83,31 @@ module _ (t : ℕ) where
       let refused = c .refused in (
         λ text B u s st n.
             let got = ty .ensures .0 text s .done (if1 .left) in
-            says-as (refused .ensures)
-            (says-refused 2 (question-none _ _ _ _ _ (got .is) (is-not-here (args .words .now) (ty .result .m) (kind-at .ensures .0) (if2 .taken)))),
+            says-as (refused .ensures) (says-refused 2
+            (question-none _ _ _ _ _ (got .is) (is-not-here (args .words .now) (ty .result .m) (kind-at .ensures .0) (if2 .taken)))),
         (omega (arith, same-answer (refused .ensures)), λ z. omega (arith, same-answer (refused .ensures))),
       )
 
   pub one-requires : lts.Need-one-requires (R t) (extends-at t) extends.Post
   one-requires c κs =
-      let good = c .before .before .before .before .before .before .before .before .before .before .before .before .before .before .before .before .before .before .before .before .before .good in
-      let fits = c .before .before .before .before .before .before .before .before .before .before .before .before .before .before .before .before .before .before .before .before .before .fits in
       let pre = c .before .before .before .before .before .before .before .before .before .before .before .before .before .before .before .before .before .before .before .before .before .pre in
-      let ty = c .before .before .before .before .before .before .before .before .before .before .before .before .ty in
-      let if1 = c .before .before .before .before .if1 in
-      omega (arith, ty .ensures .1 .1 (if1 .left), pre, fits, good)
+      omega (arith, pre)
 
   pub link-requires : lts.Need-link-requires (R t) (extends-at t) extends.Post
   link-requires c κs =
-      let good = c .before .before .before .before .before .before .before .before .before .before .before .before .before .before .before .before .before .before .before .before .before .before .good in
-      let fits = c .before .before .before .before .before .before .before .before .before .before .before .before .before .before .before .before .before .before .before .before .before .before .fits in
       let pre = c .before .before .before .before .before .before .before .before .before .before .before .before .before .before .before .before .before .before .before .before .before .before .pre in
       let ty = c .before .before .before .before .before .before .before .before .before .before .before .before .before .ty in
       let if1 = c .before .before .before .before .before .if1 in
       let one = c .one in
-      omega (arith, same-kids (one .ensures), if1, ty .ensures .1 .1 (if1 .left), pre, fits, good)
+      omega (arith, same-kids (one .ensures), ty .ensures .1 .1 (if1 .left), pre)
 
   pub add-t15 : lts.Need-add-t15 (R t) (extends-at t) extends.Post
   add-t15 c =
-      let good = c .before .before .before .before .before .before .before .before .before .before .before .before .before .before .before .before .before .before .before .before .before .before .before .before .before .before .good in
-      let fits = c .before .before .before .before .before .before .before .before .before .before .before .before .before .before .before .before .before .before .before .before .before .before .before .before .before .before .fits in
       let pre = c .before .before .before .before .before .before .before .before .before .before .before .before .before .before .before .before .before .before .before .before .before .before .before .before .before .before .pre in
-      let ty = c .before .before .before .before .before .before .before .before .before .before .before .before .before .before .before .before .before .ty in
-      let if1 = c .before .before .before .before .before .before .before .before .before .if1 in
-      omega (arith, if1, ty .ensures .1 .1 (if1 .left), pre, fits, good)
+      omega (arith, pre)
 
   pub then-requires : lts.Need-then-requires (R t) (extends-at t) extends.Post
   then-requires c κs =
-      let good = c .before .before .before .before .before .before .before .before .before .before .before .before .before .before .before .before .before .before .before .before .before .before .before .before .before .before .before .before .before .good in
-      let fits = c .before .before .before .before .before .before .before .before .before .before .before .before .before .before .before .before .before .before .before .before .before .before .before .before .before .before .before .before .before .fits in
       let pre = c .before .before .before .before .before .before .before .before .before .before .before .before .before .before .before .before .before .before .before .before .before .before .before .before .before .before .before .before .before .pre in
       let ty = c .before .before .before .before .before .before .before .before .before .before .before .before .before .before .before .before .before .before .before .before .ty in
       let if1 = c .before .before .before .before .before .before .before .before .before .before .before .before .if1 in
@@ -120,8 +120,8 @@ module _ (t : ℕ) where
           pre .1 .0,
           pre .1 .1,
           omega arith,
-          omega (arith, same-kids (one .ensures), if2, kind-at .ensures .0, kind-at .ensures .1, if1, ty .ensures .1 .0, ty .ensures .1 .1 (if1 .left), pre, fits, good),
-          omega (arith, link .ensures .1, same-kids (one .ensures), kind-at .ensures .0, kind-at .ensures .1, ty .ensures .1 .0, ty .ensures .1 .1 (if1 .left)),
+          omega (arith, same-kids (one .ensures), if2, kind-at .ensures .1, ty .ensures .1 .0, ty .ensures .1 .1 (if1 .left), pre),
+          omega (arith, link .ensures .1, ty .ensures .1 .1 (if1 .left)),
           omega arith,
           omega arith,
         ),
@@ -145,8 +145,6 @@ module _ (t : ℕ) where
   pub returns-3 : lts.Need-returns-3 (R t) (extends-at t) extends.Post
   returns-3 c =
       let args = c .before .before .before .before .before .before .before .before .before .before .before .before .before .before .before .before .before .before .before .before .before .before .before .before .before .before .before .before .before .before .before .before .before .before .before .before .args in
-      let good = c .before .before .before .before .before .before .before .before .before .before .before .before .before .before .before .before .before .before .before .before .before .before .before .before .before .before .before .before .before .before .before .before .before .before .before .before .good in
-      let fits = c .before .before .before .before .before .before .before .before .before .before .before .before .before .before .before .before .before .before .before .before .before .before .before .before .before .before .before .before .before .before .before .before .before .before .before .before .fits in
       let pre = c .before .before .before .before .before .before .before .before .before .before .before .before .before .before .before .before .before .before .before .before .before .before .before .before .before .before .before .before .before .before .before .before .before .before .before .before .pre in
       let ty = c .before .before .before .before .before .before .before .before .before .before .before .before .before .before .before .before .before .before .before .before .before .before .before .before .before .before .before .ty in
       let if1 = c .before .before .before .before .before .before .before .before .before .before .before .before .before .before .before .before .before .before .before .if1 in
@@ -159,10 +157,8 @@ module _ (t : ℕ) where
             let got = ty .ensures .0 text s .done (if1 .left) in
             says-same (question-some _ _ _ _ _ (got .is) (is-here (args .words .now) (ty .result .m) (kind-at .ensures .0) (if2 .left)))
             (then .ensures .0 text B u (got .tree) s (st .is-node) (got .stands .is-node)
-            (link .ensures .0 0 B _ (got .tree) _ _ _ _ _ _ _ _ _ (built-child (one .ensures) st) (omega arith) (got .stands .is-node) (got .stands .high-is) (got .stands .laid))
+            (link .ensures .0 0 B _ (got .tree) _ _ _ _ _ _ _ _ _ (built-child (one .ensures) st) (omega arith) (got .stands .is-node)
+            (got .stands .high-is) (got .stands .laid))
             n),
-        (
-          omega arith,
-          λ z. omega (arith, same-kids (one .ensures), if2, kind-at .ensures .0, kind-at .ensures .1, if1, ty .ensures .1 .0, ty .ensures .1 .1 (if1 .left), pre, fits, good, z, then .ensures .1 .1 z),
-        ),
+        (omega arith, λ z. omega (arith, ty .ensures .1 .1 (if1 .left), pre, then .ensures .1 .1 z)),
       )

@@ -16,7 +16,16 @@ use Rattle.readers.proofs.ring.+arguments+conditional+element+extends+f
 use Rattle.readers.proofs.ring.+arguments+conditional+element+extends+function+infer+intersection+mapped+name_type+named+operator+opt+other+param+param_list+params+parens+postfix+predicate+primary+return_type+signature+suffix+template+then+tuple+ty+type_param+type_params+union.Proof.Base.{function-at, signature-below, type-params-below}
 
 abbrev pub R : ℕ → lts.Claims
-R t = (function-head-reads.Asked, function-head-reads.Learnt, type-params-below t, type-params.Post, state-Answer-refused-reads.Asked, state-Answer-refused-reads.Learnt, signature-below t, signature.Post)
+R t = (
+  function-head-reads.Asked,
+  function-head-reads.Learnt,
+  type-params-below t,
+  type-params.Post,
+  state-Answer-refused-reads.Asked,
+  state-Answer-refused-reads.Learnt,
+  signature-below t,
+  signature.Post,
+)
 
 module _ (t : ℕ) where
   pub function-head-requires : lts.Need-function-head-requires (R t) (function-at t) function.Post
@@ -49,27 +58,27 @@ module _ (t : ℕ) where
       let if1 = c .before .if1 in
       let refused = c .refused in (
         λ text s.
-            says-as (refused .ensures)
-            (says-stop (if1 .taken) (function-from text (args .words .now) (args .given) _ (args .on) _ (function-head .ensures .0) ∙ then-refused _ (type-params .ensures .0 text s .refused (if1 .taken)))),
+            says-as (refused .ensures) (says-stop (if1 .taken)
+            (function-from text (args .words .now) (args .given) _ (args .on) _ (function-head .ensures .0) ∙ then-refused _
+            (type-params .ensures .0 text s .refused (if1 .taken)))),
         (omega (arith, same-answer (refused .ensures)), λ z. omega (arith, same-answer (refused .ensures))),
       )
 
   pub signature-requires : lts.Need-signature-requires (R t) (function-at t) function.Post
   signature-requires c κs =
-      let good = c .before .before .before .before .before .before .before .before .before .before .before .before .before .before .before .before .before .before .before .before .good in
       let pre = c .before .before .before .before .before .before .before .before .before .before .before .before .before .before .before .before .before .before .before .before .pre in
       let function-head = c .before .before .before .before .before .before .before .before .before .before .before .before .before .before .before .function-head in
       let type-params = c .before .before .before .before .before .before .before .before .before .before .before .type-params in
       let if1 = c .before .before .before .if1 in (
-        omega (arith, type-params .ensures .1 .1 (if1 .left), function-head .ensures .0 .name-is, function-head .ensures .1),
+        omega (arith, type-params .ensures .1 .1 (if1 .left), function-head .ensures .1),
         (
           pre .1 .0,
           pre .1 .1,
           omega arith,
-          omega (arith, if1, type-params .ensures .1 .0, type-params .kept, type-params .ensures .1 .1 (if1 .left), function-head .ensures .0 .name-is, function-head .ensures .1, pre, good),
-          omega (arith, if1, type-params .ensures .1 .0, type-params .kept, type-params .ensures .1 .1 (if1 .left), function-head .ensures .0 .name-is, function-head .ensures .1, pre, good),
-          omega (arith, type-params .ensures .1 .1 (if1 .left), function-head .ensures .0 .name-is, function-head .ensures .1),
-          omega (arith, type-params .ensures .1 .1 (if1 .left), function-head .ensures .0 .name-is, function-head .ensures .1),
+          omega arith,
+          omega arith,
+          omega (arith, function-head .ensures .1),
+          omega (arith, function-head .ensures .1),
         ),
       )
 
@@ -93,6 +102,7 @@ module _ (t : ℕ) where
             let got = type-params .ensures .0 text s .done (if1 .left) in
             says-moved _ _ _ (function-head .ensures .1 .0)
             (says-same (function-from text (args .words .now) (args .given) _ (args .on) _ (function-head .ensures .0) ∙ then-read _ (got .is))
-            (signature .ensures .0 text _ (got .list) s (got .each) (got .built) (got .there-is) (got .count-is) (function-head .ensures .0 .name-is ∙ sym (function-head .ensures .1 .0 .named-is)))),
+            (signature .ensures .0 text _ (got .list) s (got .each) (got .built) (got .there-is) (got .count-is)
+            (function-head .ensures .0 .name-is ∙ sym (function-head .ensures .1 .0 .named-is)))),
         (omega arith, λ z. omega (arith, type-params .ensures .1 .1 (if1 .left), signature .ensures .1 .1 z)),
       )

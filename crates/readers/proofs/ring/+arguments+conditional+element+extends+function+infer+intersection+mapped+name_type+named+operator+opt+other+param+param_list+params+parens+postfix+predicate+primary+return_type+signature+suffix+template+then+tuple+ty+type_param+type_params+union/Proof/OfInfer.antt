@@ -23,7 +23,26 @@ use Rattle.readers.proofs.ring.+arguments+conditional+element+extends+f
 use Rattle.readers.proofs.ring.+arguments+conditional+element+extends+function+infer+intersection+mapped+name_type+named+operator+opt+other+param+param_list+params+parens+postfix+predicate+primary+return_type+signature+suffix+template+then+tuple+ty+type_param+type_params+union.Proof.Base.{infer-at, ty-below}
 
 abbrev pub R : ℕ → lts.Claims
-R t = (infer-head-reads.Asked, infer-head-reads.Learnt, state-Answer-refused-reads.Asked, state-Answer-refused-reads.Learnt, at-reads.Asked, at-reads.Learnt, kind-at-reads.Asked, kind-at-reads.Learnt, state-Kids-none-reads.Asked, state-Kids-none-reads.Learnt, put-reads.Asked, put-reads.Learnt, ty-below t, ty.Post, dropped-reads.Asked, dropped-reads.Learnt, infer-node-reads.Asked, infer-node-reads.Learnt)
+R t = (
+  infer-head-reads.Asked,
+  infer-head-reads.Learnt,
+  state-Answer-refused-reads.Asked,
+  state-Answer-refused-reads.Learnt,
+  at-reads.Asked,
+  at-reads.Learnt,
+  kind-at-reads.Asked,
+  kind-at-reads.Learnt,
+  state-Kids-none-reads.Asked,
+  state-Kids-none-reads.Learnt,
+  put-reads.Asked,
+  put-reads.Learnt,
+  ty-below t,
+  ty.Post,
+  dropped-reads.Asked,
+  dropped-reads.Learnt,
+  infer-node-reads.Asked,
+  infer-node-reads.Learnt,
+)
 
 module _ (t : ℕ) where
   pub infer-head-requires : lts.Need-infer-head-requires (R t) (infer-at t) infer.Post
@@ -40,7 +59,6 @@ module _ (t : ℕ) where
   pub returns : lts.Need-returns (R t) (infer-at t) infer.Post
   returns c =
       let args = c .before .before .before .before .before .before .before .before .before .before .before .args in
-      let good = c .before .before .before .before .before .before .before .before .before .before .before .good in
       let pre = c .before .before .before .before .before .before .before .before .before .before .before .pre in
       let infer-head = c .before .before .before .before .before .infer-head in
       let if1 = c .before .if1 in
@@ -49,8 +67,9 @@ module _ (t : ℕ) where
             let g = givenOf text (args .words .now) (args .given) in
             let T = below (args .given) g in
             says-as (refused .ensures)
-            (says-stop (if1 .taken) (infer-refused g T (args .on) (view (args .m) (args .notes .now)) (infer-head .ensures .0 text (args .notes .now) (args .given) s .refused (if1 .taken)))),
-        (omega (arith, same-answer (refused .ensures), pre, good), λ z. omega (arith, same-answer (refused .ensures))),
+            (says-stop (if1 .taken) (infer-refused g T (args .on) (view (args .m) (args .notes .now))
+            (infer-head .ensures .0 text (args .notes .now) (args .given) s .refused (if1 .taken)))),
+        (omega (arith, same-answer (refused .ensures), pre), λ z. omega (arith, same-answer (refused .ensures))),
       )
 
   pub at-requires : lts.Need-at-requires (R t) (infer-at t) infer.Post
@@ -77,7 +96,6 @@ module _ (t : ℕ) where
   pub returns-2 : lts.Need-returns-2 (R t) (infer-at t) infer.Post
   returns-2 c =
       let args = c .before .before .before .before .before .before .before .before .before .before .before .before .before .before .before .before .before .before .before .args in
-      let good = c .before .before .before .before .before .before .before .before .before .before .before .before .before .before .before .before .before .before .before .good in
       let pre = c .before .before .before .before .before .before .before .before .before .before .before .before .before .before .before .before .before .before .before .pre in
       let infer-head = c .before .before .before .before .before .before .before .before .before .before .before .before .before .infer-head in
       let if1 = c .before .before .before .before .before .before .before .before .before .if1 in
@@ -93,7 +111,7 @@ module _ (t : ℕ) where
             (infer-head .ensures .0 text (args .notes .now) (args .given) s .done (if1 .left)) (args .nodes .now) (at .ensures .0 .0)
             (at .ensures .0 .1)
             (is-not-here (args .words .now) (infer-head .result .m) (kind-at .ensures .0) (if2 .taken)) (none .ensures) (put .ensures .0),
-        (omega (arith, if1, pre, good), λ z. omega (arith, if1, pre, good, z)),
+        (omega (arith, pre), λ z. omega (arith, z)),
       )
 
   pub add-t19 : lts.Need-add-t19 (R t) (infer-at t) infer.Post
@@ -140,24 +158,20 @@ module _ (t : ℕ) where
 
   pub infer-node-requires : lts.Need-infer-node-requires (R t) (infer-at t) infer.Post
   infer-node-requires c κs =
-      let good = c .before .before .before .before .before .before .before .before .before .before .before .before .before .before .before .before .before .before .before .before .before .before .before .before .before .before .before .before .before .before .good in
       let pre = c .before .before .before .before .before .before .before .before .before .before .before .before .before .before .before .before .before .before .before .before .before .before .before .before .before .before .before .before .before .before .pre in
       let infer-head = c .before .before .before .before .before .before .before .before .before .before .before .before .before .before .before .before .before .before .before .before .before .before .before .before .infer-head in
-      let if1 = c .before .before .before .before .before .before .before .before .before .before .before .before .before .before .before .before .before .before .before .before .if1 in
       let at = c .before .before .before .before .before .before .before .before .before .before .before .before .before .before .before .before .before .before .at in
-      let kind-at = c .before .before .before .before .before .before .before .before .before .before .before .before .before .before .before .before .before .kind-at in
-      let if2 = c .before .before .before .before .before .before .before .before .before .before .before .before .before .before .before .before .if2 in
       let ty = c .before .before .before .before .before .before .before .before .before .before .before .ty in
       let if3 = c .before .before .before .if3 in (
         pre .1 .1,
-        omega (arith, if3, ty .ensures .1 .0, ty .kept, ty .ensures .1 .1 (if3 .left), if2, kind-at .ensures .0, kind-at .ensures .1, at .ensures .0, at .ensures .1, if1, infer-head .kept, pre, good),
-        omega (arith, if3, ty .ensures .1 .0, ty .kept, ty .ensures .1 .1 (if3 .left), if2, kind-at .ensures .0, kind-at .ensures .1, at .ensures .0, at .ensures .1, if1, infer-head .kept, pre, good),
-        omega (arith, if3, ty .ensures .1 .0, ty .kept, ty .ensures .1 .1 (if3 .left), if2, kind-at .ensures .0, kind-at .ensures .1, at .ensures .0, at .ensures .1, if1, infer-head .kept, pre, good),
-        omega (arith, if3, ty .ensures .1 .0, ty .kept, ty .ensures .1 .1 (if3 .left), if2, kind-at .ensures .0, kind-at .ensures .1, at .ensures .0, at .ensures .1, if1, infer-head .kept, pre, good),
-        omega (arith, if3, ty .ensures .1 .0, ty .kept, ty .ensures .1 .1 (if3 .left), if2, kind-at .ensures .0, kind-at .ensures .1, at .ensures .0, at .ensures .1, if1, infer-head .kept, pre, good),
-        omega (arith, if3, ty .ensures .1 .0, ty .kept, ty .ensures .1 .1 (if3 .left), if2, kind-at .ensures .0, kind-at .ensures .1, at .ensures .0, at .ensures .1, if1, infer-head .kept, pre, good),
-        omega (arith, if3, ty .ensures .1 .0, ty .kept, ty .ensures .1 .1 (if3 .left), if2, kind-at .ensures .0, kind-at .ensures .1, at .ensures .0, at .ensures .1, if1, infer-head .kept, pre, good),
-        omega (arith, if3, ty .ensures .1 .0, ty .kept, ty .ensures .1 .1 (if3 .left), if2, kind-at .ensures .0, kind-at .ensures .1, at .ensures .0, at .ensures .1, if1, infer-head .kept, pre, good),
+        omega arith,
+        omega (arith, ty .ensures .1 .0, ty .ensures .1 .1 (if3 .left), at .ensures .0, at .ensures .1, infer-head .kept, pre),
+        omega arith,
+        omega (arith, ty .ensures .1 .0, ty .ensures .1 .1 (if3 .left), at .ensures .0, at .ensures .1, infer-head .kept, pre),
+        omega (arith, ty .ensures .1 .1 (if3 .left)),
+        omega arith,
+        omega (arith, ty .ensures .1 .1 (if3 .left)),
+        omega (arith, ty .ensures .1 .1 (if3 .left)),
       )
 
   pub same-length-7 : lts.Need-same-length-7 (R t) (infer-at t) infer.Post
@@ -174,8 +188,6 @@ module _ (t : ℕ) where
   pub returns-4 : lts.Need-returns-4 (R t) (infer-at t) infer.Post
   returns-4 c =
       let args = c .before .before .before .before .before .before .before .before .before .before .before .before .before .before .before .before .before .before .before .before .before .before .before .before .before .before .before .before .before .before .before .before .before .args in
-      let dropped = c .before .before .before .before .dropped in
-      let good = c .before .before .before .before .before .before .before .before .before .before .before .before .before .before .before .before .before .before .before .before .before .before .before .before .before .before .before .before .before .before .before .before .before .good in
       let pre = c .before .before .before .before .before .before .before .before .before .before .before .before .before .before .before .before .before .before .before .before .before .before .before .before .before .before .before .before .before .before .before .before .before .pre in
       let infer-head = c .before .before .before .before .before .before .before .before .before .before .before .before .before .before .before .before .before .before .before .before .before .before .before .before .before .before .before .infer-head in
       let if1 = c .before .before .before .before .before .before .before .before .before .before .before .before .before .before .before .before .before .before .before .before .before .before .before .if1 in
@@ -184,6 +196,7 @@ module _ (t : ℕ) where
       let if2 = c .before .before .before .before .before .before .before .before .before .before .before .before .before .before .before .before .before .before .before .if2 in
       let ty = c .before .before .before .before .before .before .before .before .before .before .before .before .before .before .ty in
       let if3 = c .before .before .before .before .before .before .if3 in
+      let dropped = c .before .before .before .before .dropped in
       let infer-node = c .before .before .infer-node in (
         λ text s.
             let g = givenOf text (args .words .now) (args .given) in
@@ -193,5 +206,5 @@ module _ (t : ℕ) where
             (at .ensures .0 .1)
             (is-here (args .words .now) (infer-head .result .m) (kind-at .ensures .0) (if2 .left)) (ty .ensures .0 text s) (if3 .left) (omega arith)
             (dropped .ensures) (infer-node .ensures .0),
-        (omega arith, λ z. omega (arith, if2, if1, pre, good, z)),
+        (omega arith, λ z. omega (arith, pre, z)),
       )

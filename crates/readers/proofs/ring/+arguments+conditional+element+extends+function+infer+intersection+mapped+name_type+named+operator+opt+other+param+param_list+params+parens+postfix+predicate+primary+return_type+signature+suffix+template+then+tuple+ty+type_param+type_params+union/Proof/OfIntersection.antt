@@ -31,13 +31,32 @@ use Rattle.readers.proofs.ring.+arguments+conditional+element+extends+f
 use Rattle.readers.proofs.ring.+arguments+conditional+element+extends+function+infer+intersection+mapped+name_type+named+operator+opt+other+param+param_list+params+parens+postfix+predicate+primary+return_type+signature+suffix+template+then+tuple+ty+type_param+type_params+union.Proof.Base.{intersection-at, operator-below}
 
 abbrev pub R : ℕ → lts.Claims
-R t = (past-reads.Asked, past-reads.Learnt, operator-below t, operator.Post, lone-reads.Asked, lone-reads.Learnt, one-reads.Asked, one-reads.Learnt, kind-at-reads.Asked, kind-at-reads.Learnt, link-reads.Asked, link-reads.Learnt, at-reads.Asked, at-reads.Learnt, put-list-reads.Asked, put-list-reads.Learnt)
+R t = (
+  past-reads.Asked,
+  past-reads.Learnt,
+  operator-below t,
+  operator.Post,
+  lone-reads.Asked,
+  lone-reads.Learnt,
+  one-reads.Asked,
+  one-reads.Learnt,
+  kind-at-reads.Asked,
+  kind-at-reads.Learnt,
+  link-reads.Asked,
+  link-reads.Learnt,
+  at-reads.Asked,
+  at-reads.Learnt,
+  put-list-reads.Asked,
+  put-list-reads.Learnt,
+)
 
 abbrev pub Inv-loop : lts.InvT-loop
 Inv-loop words classes nodes₀ names₀ notes₀ given on m p₀ k₀ nodes names notes p k =
     Kept (length words) given nodes₀ names₀ notes₀ p₀ nodes names notes p × ((1 ≤ k .count) × Under (p .used) k)
-    ×
-    ((text : List ℕ) (B : Was) (u : Placed) → Spelt text words → IsNode 0 u → BuiltAt B (runIn 0 u) k₀ p₀ nodes₀ names₀ notes₀ → PartsTurn (givenOf text words given) (below given (givenOf text words given)) Amp node.intersection (operators.operator (givenOf text words given) (below given (givenOf text words given)) on) (view m notes₀) u (view p₀ notes₀) B k p nodes names notes)
+    × ((text : List ℕ) (B : Was) (u : Placed) → Spelt text words → IsNode 0 u → BuiltAt B (runIn 0 u) k₀ p₀ nodes₀ names₀ notes₀
+    → PartsTurn (givenOf text words given) (below given (givenOf text words given)) Amp node.intersection
+    (operators.operator (givenOf text words given) (below given (givenOf text words given)) on) (view m notes₀) u
+    (view p₀ notes₀) B k p nodes names notes)
 
 abbrev pub μ-loop : lts.MeasureT-loop
 μ-loop words classes nodes₀ names₀ notes₀ given on m p₀ k₀ nodes names notes p k =
@@ -95,11 +114,11 @@ module _ (t : ℕ) where
   pub returns-2 : lts.Need-returns-2 (R t) (intersection-at t) intersection.Post Inv-loop μ-loop
   returns-2 c =
       let args = c .before .before .before .before .before .before .before .before .before .before .before .before .before .before .before .before .before .before .before .before .args in
-      let lone = c .before .lone in
-      let if2 = c .if2 in
       let past = c .before .before .before .before .before .before .before .before .before .before .before .before .before .before .before .past in
       let operator = c .before .before .before .before .before .before .before .before .before .before .before .operator in
-      let if1 = c .before .before .before .if1 in (
+      let if1 = c .before .before .before .if1 in
+      let lone = c .before .lone in
+      let if2 = c .if2 in (
         λ text s.
             let g = givenOf text (args .words .now) (args .given) in
             let T = below (args .given) g in
@@ -137,11 +156,8 @@ module _ (t : ℕ) where
 
   pub add-t25 : lts.Need-add-t25 (R t) (intersection-at t) intersection.Post Inv-loop μ-loop
   add-t25 c =
-      let good = c .before .before .before .before .before .before .before .before .before .before .before .before .before .before .before .before .before .before .before .before .before .before .before .before .before .good in
       let pre = c .before .before .before .before .before .before .before .before .before .before .before .before .before .before .before .before .before .before .before .before .before .before .before .before .before .pre in
-      let operator = c .before .before .before .before .before .before .before .before .before .before .before .before .before .before .before .before .operator in
-      let if1 = c .before .before .before .before .before .before .before .before .if1 in
-      omega (arith, if1, operator .ensures .1 .1 (if1 .left), pre, good)
+      omega (arith, pre)
 
   pub operator-requires-2 : lts.Need-operator-requires-2 (R t) (intersection-at t) intersection.Post Inv-loop μ-loop
   operator-requires-2 c κs =
@@ -176,11 +192,11 @@ module _ (t : ℕ) where
   pub returns-3 : lts.Need-returns-3 (R t) (intersection-at t) intersection.Post Inv-loop μ-loop
   returns-3 c =
       let args = c .before .before .before .before .before .before .before .before .before .before .before .before .before .before .before .before .before .before .before .before .before .before .before .before .before .before .before .before .before .before .before .before .before .before .before .before .before .args in
-      let lone = c .before .before .before .before .before .before .before .before .before .before .before .before .before .before .before .before .before .before .lone in
-      let if2 = c .before .before .before .before .before .before .before .before .before .before .before .before .before .before .before .before .before .if2 in
       let past = c .before .before .before .before .before .before .before .before .before .before .before .before .before .before .before .before .before .before .before .before .before .before .before .before .before .before .before .before .before .before .before .before .past in
       let operator = c .before .before .before .before .before .before .before .before .before .before .before .before .before .before .before .before .before .before .before .before .before .before .before .before .before .before .before .before .operator in
       let if1 = c .before .before .before .before .before .before .before .before .before .before .before .before .before .before .before .before .before .before .before .before .if1 in
+      let lone = c .before .before .before .before .before .before .before .before .before .before .before .before .before .before .before .before .before .before .lone in
+      let if2 = c .before .before .before .before .before .before .before .before .before .before .before .before .before .before .before .before .before .if2 in
       let one = c .before .before .before .before .before .before .before .before .before .before .before .before .before .before .before .before .one in
       let loop = c .before .before .before .before .before .before .before .before .before .before .before .before .before .before .before .loop in
       let kind-at = c .before .before .before .before .before .before .before .before .before .before .before .before .before .before .kind-at in
@@ -191,7 +207,8 @@ module _ (t : ℕ) where
             let g = givenOf text (args .words .now) (args .given) in
             let T = below (args .given) g in
             let part = operators.operator g T (args .on) in
-            let w = first-turn text (args .words .now) (args .given) T Amp 6 part (args .m) (past .result) (args .nodes .now) (args .names .now) (args .notes .now)
+            let w = first-turn text (args .words .now) (args .given) T Amp 6 part (args .m) (past .result) (args .nodes .now) (args .names .now)
+            (args .notes .now)
             (intersection-is g T (args .on) (view (args .m) (args .notes .now))) (past .ensures .0) (past .ensures .1) (operator .ensures .0 text s)
             (if1 .left) (lone .ensures) (if2 .left) (one .ensures) (λ B u n b. loop .inv .2 text B u s n b) in
             part-refused text (args .words .now) (args .given) T Amp 6 part (view (args .m) (args .notes .now)) w
@@ -201,44 +218,35 @@ module _ (t : ℕ) where
 
   pub link-requires : lts.Need-link-requires (R t) (intersection-at t) intersection.Post Inv-loop μ-loop
   link-requires c κs =
-      let good = c .before .before .before .before .before .before .before .before .before .before .before .before .before .before .before .before .before .before .before .before .before .before .before .before .before .before .before .before .before .before .before .before .before .before .before .before .before .before .before .good in
       let pre = c .before .before .before .before .before .before .before .before .before .before .before .before .before .before .before .before .before .before .before .before .before .before .before .before .before .before .before .before .before .before .before .before .before .before .before .before .before .before .before .pre in
-      let past = c .before .before .before .before .before .before .before .before .before .before .before .before .before .before .before .before .before .before .before .before .before .before .before .before .before .before .before .before .before .before .before .before .before .before .past in
       let operator = c .before .before .before .before .before .before .before .before .before .before .before .before .before .before .before .before .before .before .before .before .before .before .before .before .before .before .before .before .before .before .operator in
       let if1 = c .before .before .before .before .before .before .before .before .before .before .before .before .before .before .before .before .before .before .before .before .before .before .if1 in
-      let one = c .before .before .before .before .before .before .before .before .before .before .before .before .before .before .before .before .before .before .one in
       let loop = c .before .before .before .before .before .before .before .before .before .before .before .before .before .before .before .before .before .loop in
-      let kind-at = c .before .before .before .before .before .before .before .before .before .before .before .before .before .before .before .before .kind-at in
-      let if3 = c .before .before .before .before .before .before .before .before .before .before .before .before .before .before .before .if3 in
       let operator2 = c .before .before .before .before .before .before .before .before .before .before .operator2 in
       let if4 = c .before .before .if4 in
-      omega (arith, operator2 .ensures .1 .1 (if4 .left), if3, kind-at .ensures .0, kind-at .ensures .1, loop .inv .0, loop .inv .1, same-kids (one .ensures), if1, operator .ensures .1 .0, operator .ensures .1 .1 (if1 .left), past .ensures .1, pre, good)
+      omega (arith, operator2 .ensures .1 .1 (if4 .left), loop .inv .1, operator .ensures .1 .1 (if1 .left), pre)
 
   pub loop-less : lts.Need-loop-less (R t) (intersection-at t) intersection.Post Inv-loop μ-loop
   loop-less c =
-      let past = c .before .before .before .before .before .before .before .before .before .before .before .before .before .before .before .before .before .before .before .before .before .before .before .before .before .before .before .before .before .before .before .before .before .before .before .before .before .past in
       let operator = c .before .before .before .before .before .before .before .before .before .before .before .before .before .before .before .before .before .before .before .before .before .before .before .before .before .before .before .before .before .before .before .before .before .operator in
       let if1 = c .before .before .before .before .before .before .before .before .before .before .before .before .before .before .before .before .before .before .before .before .before .before .before .before .before .if1 in
       let one = c .before .before .before .before .before .before .before .before .before .before .before .before .before .before .before .before .before .before .before .before .before .one in
       let loop = c .before .before .before .before .before .before .before .before .before .before .before .before .before .before .before .before .before .before .before .before .loop in
-      let kind-at = c .before .before .before .before .before .before .before .before .before .before .before .before .before .before .before .before .before .before .before .kind-at in
       let operator2 = c .before .before .before .before .before .before .before .before .before .before .before .before .before .operator2 in
       let if4 = c .before .before .before .before .before .if4 in
-      omega (arith, operator2 .ensures .1 .1 (if4 .left), kind-at .ensures .0, kind-at .ensures .1, loop .inv .0, loop .inv .1, same-kids (one .ensures), operator .ensures .1 .0, operator .ensures .1 .1 (if1 .left), past .ensures .1)
+      omega (arith, operator2 .ensures .1 .1 (if4 .left), loop .inv .1, same-kids (one .ensures), operator .ensures .1 .1 (if1 .left))
 
   pub loop-again : lts.Need-loop-again (R t) (intersection-at t) intersection.Post Inv-loop μ-loop
   loop-again c =
       let args = c .before .before .before .before .before .before .before .before .before .before .before .before .before .before .before .before .before .before .before .before .before .before .before .before .before .before .before .before .before .before .before .before .before .before .before .before .before .before .before .before .before .before .args in
       let operator = c .before .before .before .before .before .before .before .before .before .before .before .before .before .before .before .before .before .before .before .before .before .before .before .before .before .before .before .before .before .before .before .before .before .operator in
-      let if1 = c .before .before .before .before .before .before .before .before .before .before .before .before .before .before .before .before .before .before .before .before .before .before .before .before .before .if1 in
-      let one = c .before .before .before .before .before .before .before .before .before .before .before .before .before .before .before .before .before .before .before .before .before .one in
       let loop = c .before .before .before .before .before .before .before .before .before .before .before .before .before .before .before .before .before .before .before .before .loop in
       let kind-at = c .before .before .before .before .before .before .before .before .before .before .before .before .before .before .before .before .before .before .before .kind-at in
       let if3 = c .before .before .before .before .before .before .before .before .before .before .before .before .before .before .before .before .before .before .if3 in
       let operator2 = c .before .before .before .before .before .before .before .before .before .before .before .before .before .operator2 in
       let if4 = c .before .before .before .before .before .if4 in
       let link = c .before .before .link in (
-        omega (arith, operator2 .kept, operator2 .ensures .1 .1 (if4 .left), same-kids (one .ensures), operator .kept, operator .ensures .1 .1 (if1 .left)),
+        omega (arith, operator2 .kept, operator2 .ensures .1 .1 (if4 .left)),
         omega arith,
         λ text B u s n b.
             let g = givenOf text (args .words .now) (args .given) in
@@ -278,11 +286,11 @@ module _ (t : ℕ) where
   pub returns-4 : lts.Need-returns-4 (R t) (intersection-at t) intersection.Post Inv-loop μ-loop
   returns-4 c =
       let args = c .before .before .before .before .before .before .before .before .before .before .before .before .before .before .before .before .before .before .before .before .before .before .before .before .before .before .before .before .before .args in
-      let lone = c .before .before .before .before .before .before .before .before .before .before .lone in
-      let if2 = c .before .before .before .before .before .before .before .before .before .if2 in
       let past = c .before .before .before .before .before .before .before .before .before .before .before .before .before .before .before .before .before .before .before .before .before .before .before .before .past in
       let operator = c .before .before .before .before .before .before .before .before .before .before .before .before .before .before .before .before .before .before .before .before .operator in
       let if1 = c .before .before .before .before .before .before .before .before .before .before .before .before .if1 in
+      let lone = c .before .before .before .before .before .before .before .before .before .before .lone in
+      let if2 = c .before .before .before .before .before .before .before .before .before .if2 in
       let one = c .before .before .before .before .before .before .before .before .one in
       let loop = c .before .before .before .before .before .before .before .loop in
       let kind-at = c .before .before .before .before .before .before .kind-at in
@@ -293,7 +301,8 @@ module _ (t : ℕ) where
             let g = givenOf text (args .words .now) (args .given) in
             let T = below (args .given) g in
             let part = operators.operator g T (args .on) in
-            let w = first-turn text (args .words .now) (args .given) T Amp 6 part (args .m) (past .result) (args .nodes .now) (args .names .now) (args .notes .now)
+            let w = first-turn text (args .words .now) (args .given) T Amp 6 part (args .m) (past .result) (args .nodes .now) (args .names .now)
+            (args .notes .now)
             (intersection-is g T (args .on) (view (args .m) (args .notes .now))) (past .ensures .0) (past .ensures .1) (operator .ensures .0 text s)
             (if1 .left) (lone .ensures) (if2 .left) (one .ensures) (λ B u n b. loop .inv .2 text B u s n b) in
             parts-put text (args .words .now) (args .given) T Amp 6 part (view (args .m) (args .notes .now)) w

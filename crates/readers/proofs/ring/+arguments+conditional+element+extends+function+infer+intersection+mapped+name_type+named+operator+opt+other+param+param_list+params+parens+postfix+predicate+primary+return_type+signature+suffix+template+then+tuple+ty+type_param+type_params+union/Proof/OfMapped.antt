@@ -22,7 +22,20 @@ use Rattle.readers.proofs.ring.+arguments+conditional+element+extends+f
 use Rattle.readers.proofs.ring.+arguments+conditional+element+extends+function+infer+intersection+mapped+name_type+named+operator+opt+other+param+param_list+params+parens+postfix+predicate+primary+return_type+signature+suffix+template+then+tuple+ty+type_param+type_params+union.Proof.Base.{mapped-at, name-type-below, ty-below}
 
 abbrev pub R : ℕ → lts.Claims
-R t = (mapped-head-reads.Asked, mapped-head-reads.Learnt, state-Answer-refused-reads.Asked, state-Answer-refused-reads.Learnt, ty-below t, ty.Post, at-reads.Asked, at-reads.Learnt, one-reads.Asked, one-reads.Learnt, name-type-below t, name-type.Post)
+R t = (
+  mapped-head-reads.Asked,
+  mapped-head-reads.Learnt,
+  state-Answer-refused-reads.Asked,
+  state-Answer-refused-reads.Learnt,
+  ty-below t,
+  ty.Post,
+  at-reads.Asked,
+  at-reads.Learnt,
+  one-reads.Asked,
+  one-reads.Learnt,
+  name-type-below t,
+  name-type.Post,
+)
 
 module _ (t : ℕ) where
   pub mapped-head-requires : lts.Need-mapped-head-requires (R t) (mapped-at t) mapped.Post
@@ -39,7 +52,6 @@ module _ (t : ℕ) where
   pub returns : lts.Need-returns (R t) (mapped-at t) mapped.Post
   returns c =
       let args = c .before .before .before .before .before .before .before .before .before .before .before .args in
-      let good = c .before .before .before .before .before .before .before .before .before .before .before .good in
       let pre = c .before .before .before .before .before .before .before .before .before .before .before .pre in
       let mapped-head = c .before .before .before .before .before .mapped-head in
       let if1 = c .before .if1 in
@@ -47,7 +59,7 @@ module _ (t : ℕ) where
         λ curly text s.
             says-as (refused .ensures)
             (says-stop (if1 .taken) (mapped-step _ _ _ curly ∙ then-refused _ (mapped-head .ensures .0 text _ (args .given) s .refused (if1 .taken)))),
-        (omega (arith, same-answer (refused .ensures), pre, good), λ z. omega (arith, same-answer (refused .ensures))),
+        (omega (arith, same-answer (refused .ensures), pre), λ z. omega (arith, same-answer (refused .ensures))),
       )
 
   pub ty-requires : lts.Need-ty-requires (R t) (mapped-at t) mapped.Post
@@ -96,7 +108,7 @@ module _ (t : ℕ) where
       let if2 = c .before .before .before .before .before .before .if2 in
       let at = c .before .before .before .before .at in
       let one = c .before .before .before .one in (
-        omega (arith, same-kids (one .ensures), ty .ensures .1 .1 (if2 .left)),
+        omega (arith, ty .ensures .1 .1 (if2 .left)),
         (
           pre .1 .0,
           pre .1 .1,
@@ -126,7 +138,6 @@ module _ (t : ℕ) where
   pub returns-3 : lts.Need-returns-3 (R t) (mapped-at t) mapped.Post
   returns-3 c =
       let args = c .before .before .before .before .before .before .before .before .before .before .before .before .before .before .before .before .before .before .before .before .before .before .before .before .before .before .before .before .before .before .before .before .before .before .before .before .args in
-      let good = c .before .before .before .before .before .before .before .before .before .before .before .before .before .before .before .before .before .before .before .before .before .before .before .before .before .before .before .before .before .before .before .before .before .before .before .before .good in
       let pre = c .before .before .before .before .before .before .before .before .before .before .before .before .before .before .before .before .before .before .before .before .before .before .before .before .before .before .before .before .before .before .before .before .before .before .before .before .pre in
       let mapped-head = c .before .before .before .before .before .before .before .before .before .before .before .before .before .before .before .before .before .before .before .before .before .before .before .before .before .before .before .before .before .before .mapped-head in
       let if1 = c .before .before .before .before .before .before .before .before .before .before .before .before .before .before .before .before .before .before .before .before .before .before .before .before .before .before .if1 in
@@ -141,7 +152,8 @@ module _ (t : ℕ) where
             says-same (mapped-read _ _ _ curly (at .ensures .0 .0) (head .such) (head .is) (got .is))
             (name-type .ensures .0 text _ (head .what .1) (got .tree) s (got .stands .is-node)
             (built-as (one .ensures)
-            (built-one (head .what .1 ∷ []) (got .stands .is-node) (got .stands .high-is) (laid-on (head .what .1 ∷ []) (laid-spoken _ _ (head .spoken)) (got .stands .laid))))
+            (built-one (head .what .1 ∷ []) (got .stands .is-node) (got .stands .high-is)
+            (laid-on (head .what .1 ∷ []) (laid-spoken _ _ (head .spoken)) (got .stands .laid))))
             (at .ensures .0 .1)),
-        (omega arith, λ z. omega (arith, ty .ensures .1 .1 (if2 .left), if1, pre, good, z, name-type .ensures .1 .1 z)),
+        (omega arith, λ z. omega (arith, ty .ensures .1 .1 (if2 .left), pre, name-type .ensures .1 .1 z)),
       )

@@ -20,7 +20,22 @@ use Rattle.readers.proofs.ring.+arguments+conditional+element+extends+f
 use Rattle.readers.proofs.ring.+arguments+conditional+element+extends+function+infer+intersection+mapped+name_type+named+operator+opt+other+param+param_list+params+parens+postfix+predicate+primary+return_type+signature+suffix+template+then+tuple+ty+type_param+type_params+union.Proof.Base.{name-type-at, opt-below}
 
 abbrev pub R : ℕ → lts.Claims
-R t = (opt-below t, opt.Post, link-opt-reads.Asked, link-opt-reads.Learnt, mapped-middle-reads.Asked, mapped-middle-reads.Learnt, state-Answer-refused-reads.Asked, state-Answer-refused-reads.Learnt, opt-bit-reads.Asked, opt-bit-reads.Learnt, mapped-choices-reads.Asked, mapped-choices-reads.Learnt, mapped-node-reads.Asked, mapped-node-reads.Learnt)
+R t = (
+  opt-below t,
+  opt.Post,
+  link-opt-reads.Asked,
+  link-opt-reads.Learnt,
+  mapped-middle-reads.Asked,
+  mapped-middle-reads.Learnt,
+  state-Answer-refused-reads.Asked,
+  state-Answer-refused-reads.Learnt,
+  opt-bit-reads.Asked,
+  opt-bit-reads.Learnt,
+  mapped-choices-reads.Asked,
+  mapped-choices-reads.Learnt,
+  mapped-node-reads.Asked,
+  mapped-node-reads.Learnt,
+)
 
 module _ (t : ℕ) where
   pub opt-requires : lts.Need-opt-requires (R t) (name-type-at t) name-type.Post
@@ -48,12 +63,10 @@ module _ (t : ℕ) where
 
   pub link-opt-requires : lts.Need-link-opt-requires (R t) (name-type-at t) name-type.Post
   link-opt-requires c κs =
-      let good = c .before .before .before .before .before .before .before .before .before .before .before .before .before .before .before .before .before .before .good in
-      let fits = c .before .before .before .before .before .before .before .before .before .before .before .before .before .before .before .before .before .before .fits in
       let pre = c .before .before .before .before .before .before .before .before .before .before .before .before .before .before .before .before .before .before .pre in
       let opt = c .before .before .before .before .before .before .before .before .before .before .opt in
       let if1 = c .before .before .if1 in
-      omega (arith, opt .ensures .1 .1 (if1 .left), pre, fits, good)
+      omega (arith, opt .ensures .1 .1 (if1 .left), pre)
 
   pub mapped-middle-requires : lts.Need-mapped-middle-requires (R t) (name-type-at t) name-type.Post
   mapped-middle-requires c κs =
@@ -128,24 +141,22 @@ module _ (t : ℕ) where
       let if3 = c .if3 in (
         λ text B key u s i b n.
             says-stop (if3 .taken)
-            (mapped-asked _ _ _ _ _ _ _ (opt .ensures .0 text s .done (if1 .left) .is) (mapped-middle .ensures .0 text _ (args .given) .done (if2 .left)) ∙ then-refused _
+            (mapped-asked _ _ _ _ _ _ _ (opt .ensures .0 text s .done (if1 .left) .is)
+            (mapped-middle .ensures .0 text _ (args .given) .done (if2 .left)) ∙ then-refused _
             (opt2 .ensures .0 text s .refused (if3 .taken))),
         (omega arith, λ z. omega arith),
       )
 
   pub link-opt-requires-2 : lts.Need-link-opt-requires-2 (R t) (name-type-at t) name-type.Post
   link-opt-requires-2 c κs =
-      let good = c .before .before .before .before .before .before .before .before .before .before .before .before .before .before .before .before .before .before .before .before .before .before .before .before .before .before .before .before .before .before .before .before .before .before .before .before .before .before .good in
-      let fits = c .before .before .before .before .before .before .before .before .before .before .before .before .before .before .before .before .before .before .before .before .before .before .before .before .before .before .before .before .before .before .before .before .before .before .before .before .before .before .fits in
       let pre = c .before .before .before .before .before .before .before .before .before .before .before .before .before .before .before .before .before .before .before .before .before .before .before .before .before .before .before .before .before .before .before .before .before .before .before .before .before .before .pre in
       let opt = c .before .before .before .before .before .before .before .before .before .before .before .before .before .before .before .before .before .before .before .before .before .before .before .before .before .before .before .before .before .before .opt in
       let if1 = c .before .before .before .before .before .before .before .before .before .before .before .before .before .before .before .before .before .before .before .before .before .before .if1 in
       let link-opt = c .before .before .before .before .before .before .before .before .before .before .before .before .before .before .before .before .before .before .before .link-opt in
       let mapped-middle = c .before .before .before .before .before .before .before .before .before .before .before .before .before .before .before .before .mapped-middle in
-      let if2 = c .before .before .before .before .before .before .before .before .before .before .before .before .before .before .if2 in
       let opt2 = c .before .before .before .before .before .before .before .before .before .before .opt2 in
       let if3 = c .before .before .if3 in
-      omega (arith, opt2 .ensures .1 .1 (if3 .left), if2, mapped-middle .ensures .1, link-opt .ensures .1, if1, opt .ensures .1 .0, opt .ensures .1 .1 (if1 .left), pre, fits, good)
+      omega (arith, opt2 .ensures .1 .1 (if3 .left), mapped-middle .ensures .1, link-opt .ensures .1, opt .ensures .1 .1 (if1 .left), pre)
 
   pub opt-bit-requires : lts.Need-opt-bit-requires (R t) (name-type-at t) name-type.Post
   opt-bit-requires c κs = search needs
@@ -155,19 +166,11 @@ module _ (t : ℕ) where
 
   pub mapped-choices-requires : lts.Need-mapped-choices-requires (R t) (name-type-at t) name-type.Post
   mapped-choices-requires c κs =
-      let good = c .before .before .before .before .before .before .before .before .before .before .before .before .before .before .before .before .before .before .before .before .before .before .before .before .before .before .before .before .before .before .before .before .before .before .before .before .before .before .before .before .before .before .before .good in
-      let fits = c .before .before .before .before .before .before .before .before .before .before .before .before .before .before .before .before .before .before .before .before .before .before .before .before .before .before .before .before .before .before .before .before .before .before .before .before .before .before .before .before .before .before .before .fits in
       let pre = c .before .before .before .before .before .before .before .before .before .before .before .before .before .before .before .before .before .before .before .before .before .before .before .before .before .before .before .before .before .before .before .before .before .before .before .before .before .before .before .before .before .before .before .pre in
       let opt = c .before .before .before .before .before .before .before .before .before .before .before .before .before .before .before .before .before .before .before .before .before .before .before .before .before .before .before .before .before .before .before .before .before .before .before .opt in
       let if1 = c .before .before .before .before .before .before .before .before .before .before .before .before .before .before .before .before .before .before .before .before .before .before .before .before .before .before .before .if1 in
-      let link-opt = c .before .before .before .before .before .before .before .before .before .before .before .before .before .before .before .before .before .before .before .before .before .before .before .before .link-opt in
       let mapped-middle = c .before .before .before .before .before .before .before .before .before .before .before .before .before .before .before .before .before .before .before .before .before .mapped-middle in
-      let if2 = c .before .before .before .before .before .before .before .before .before .before .before .before .before .before .before .before .before .before .before .if2 in
-      let opt2 = c .before .before .before .before .before .before .before .before .before .before .before .before .before .before .before .opt2 in
-      let if3 = c .before .before .before .before .before .before .before .if3 in
-      let link-opt2 = c .before .before .before .before .link-opt2 in
-      let opt-bit = c .before .opt-bit in
-      omega (arith, opt-bit .ensures .0, opt-bit .ensures .1, link-opt2 .ensures .1, if3, opt2 .ensures .1 .0, opt2 .ensures .1 .1 (if3 .left), if2, mapped-middle .ensures .1, link-opt .ensures .1, if1, opt .ensures .1 .0, opt .ensures .1 .1 (if1 .left), pre, fits, good)
+      omega (arith, mapped-middle .ensures .1, opt .ensures .1 .1 (if1 .left), pre)
 
   pub mapped-node-requires : lts.Need-mapped-node-requires (R t) (name-type-at t) name-type.Post
   mapped-node-requires c κs =
@@ -175,15 +178,13 @@ module _ (t : ℕ) where
       let opt = c .before .before .before .before .before .before .before .before .before .before .before .before .before .before .before .before .before .before .before .before .before .before .before .before .before .before .before .before .before .before .before .before .before .before .before .before .before .opt in
       let if1 = c .before .before .before .before .before .before .before .before .before .before .before .before .before .before .before .before .before .before .before .before .before .before .before .before .before .before .before .before .before .if1 in
       let link-opt = c .before .before .before .before .before .before .before .before .before .before .before .before .before .before .before .before .before .before .before .before .before .before .before .before .before .before .link-opt in
-      let mapped-middle = c .before .before .before .before .before .before .before .before .before .before .before .before .before .before .before .before .before .before .before .before .before .before .before .mapped-middle in
       let opt2 = c .before .before .before .before .before .before .before .before .before .before .before .before .before .before .before .before .before .opt2 in
       let if3 = c .before .before .before .before .before .before .before .before .before .if3 in
-      let link-opt2 = c .before .before .before .before .before .before .link-opt2 in
-      let opt-bit = c .before .before .before .opt-bit in (
+      let link-opt2 = c .before .before .before .before .before .before .link-opt2 in (
         pre .1 .1,
-        omega (arith, opt-bit .ensures .0, opt-bit .ensures .1, link-opt2 .ensures .1, opt2 .ensures .1 .0, opt2 .ensures .1 .1 (if3 .left), mapped-middle .ensures .1, link-opt .ensures .1, opt .ensures .1 .0, opt .ensures .1 .1 (if1 .left)),
+        omega (arith, link-opt2 .ensures .1, opt2 .ensures .1 .1 (if3 .left), link-opt .ensures .1, opt .ensures .1 .0, opt .ensures .1 .1 (if1 .left)),
         omega arith,
-        omega (arith, opt-bit .ensures .0, opt-bit .ensures .1, link-opt2 .ensures .1, opt2 .ensures .1 .0, opt2 .ensures .1 .1 (if3 .left), mapped-middle .ensures .1, link-opt .ensures .1, opt .ensures .1 .0, opt .ensures .1 .1 (if1 .left)),
+        omega (arith, link-opt2 .ensures .1, opt2 .ensures .1 .1 (if3 .left), opt .ensures .1 .0, opt .ensures .1 .1 (if1 .left)),
         omega arith,
         omega arith,
       )
@@ -211,7 +212,6 @@ module _ (t : ℕ) where
   pub returns-4 : lts.Need-returns-4 (R t) (name-type-at t) name-type.Post
   returns-4 c =
       let args = c .before .before .before .before .before .before .before .before .before .before .before .before .before .before .before .before .before .before .before .before .before .before .before .before .before .before .before .before .before .before .before .before .before .before .before .before .before .before .before .before .before .before .before .before .before .before .before .before .args in
-      let mapped-choices = c .before .before .before .before .mapped-choices in
       let opt = c .before .before .before .before .before .before .before .before .before .before .before .before .before .before .before .before .before .before .before .before .before .before .before .before .before .before .before .before .before .before .before .before .before .before .before .before .before .before .before .before .opt in
       let if1 = c .before .before .before .before .before .before .before .before .before .before .before .before .before .before .before .before .before .before .before .before .before .before .before .before .before .before .before .before .before .before .before .before .if1 in
       let link-opt = c .before .before .before .before .before .before .before .before .before .before .before .before .before .before .before .before .before .before .before .before .before .before .before .before .before .before .before .before .before .link-opt in
@@ -222,6 +222,7 @@ module _ (t : ℕ) where
       let link-opt2 = c .before .before .before .before .before .before .before .before .before .link-opt2 in
       let opt-bit = c .before .before .before .before .before .before .opt-bit in
       let opt-bit2 = c .before .before .before .before .before .opt-bit2 in
+      let mapped-choices = c .before .before .before .before .mapped-choices in
       let mapped-node = c .before .before .mapped-node in (
         λ text B key u s i b n.
             let x = opt .ensures .0 text s .done (if1 .left) in
@@ -232,10 +233,11 @@ module _ (t : ℕ) where
             (link-opt2 .ensures .0 B _ (y .tree) _ _ _ _ _ _ _ _ _ first (omega (arith, opt2 .kept)) (y .is-opt) (y .high-is)
             (laid-moved _ _ _ (mapped-middle .ensures .1 .0) (y .laid)))
             n
-            (mapped-shaped (args .readonly) key (x .tree) _ (y .tree) i (x .is-opt) (y .is-opt) (mapped-choices .ensures) (opt-bit .ensures .0) (opt-bit2 .ensures .0)
+            (mapped-shaped (args .readonly) key (x .tree) _ (y .tree) i (x .is-opt) (y .is-opt) (mapped-choices .ensures) (opt-bit .ensures .0)
+            (opt-bit2 .ensures .0)
             (x .high-is) (y .high-is))),
         (
           omega arith,
-          λ z. omega (arith, opt-bit2 .ensures .0, opt-bit2 .ensures .1, opt-bit .ensures .0, opt-bit .ensures .1, link-opt2 .ensures .1, opt2 .ensures .1 .0, opt2 .ensures .1 .1 (if3 .left), mapped-middle .ensures .1, link-opt .ensures .1, opt .ensures .1 .0, opt .ensures .1 .1 (if1 .left)),
+          λ z. omega (arith, opt2 .ensures .1 .1 (if3 .left), mapped-middle .ensures .1, opt .ensures .1 .0, opt .ensures .1 .1 (if1 .left)),
         ),
       )

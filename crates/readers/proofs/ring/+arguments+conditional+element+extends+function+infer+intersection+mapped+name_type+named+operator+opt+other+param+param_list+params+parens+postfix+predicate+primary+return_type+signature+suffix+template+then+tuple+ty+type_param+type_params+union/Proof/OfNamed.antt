@@ -20,7 +20,18 @@ use Rattle.readers.proofs.ring.+arguments+conditional+element+extends+f
 use Rattle.readers.proofs.ring.+arguments+conditional+element+extends+function+infer+intersection+mapped+name_type+named+operator+opt+other+param+param_list+params+parens+postfix+predicate+primary+return_type+signature+suffix+template+then+tuple+ty+type_param+type_params+union.Proof.Base.{arguments-below, named-at}
 
 abbrev pub R : ℕ → lts.Claims
-R t = (named-head-reads.Asked, named-head-reads.Learnt, state-Answer-refused-reads.Asked, state-Answer-refused-reads.Learnt, arguments-below t, arguments.Post, at-reads.Asked, at-reads.Learnt, named-node-reads.Asked, named-node-reads.Learnt)
+R t = (
+  named-head-reads.Asked,
+  named-head-reads.Learnt,
+  state-Answer-refused-reads.Asked,
+  state-Answer-refused-reads.Learnt,
+  arguments-below t,
+  arguments.Post,
+  at-reads.Asked,
+  at-reads.Learnt,
+  named-node-reads.Asked,
+  named-node-reads.Learnt,
+)
 
 module _ (t : ℕ) where
   pub named-head-requires : lts.Need-named-head-requires (R t) (named-at t) named.Post
@@ -37,15 +48,14 @@ module _ (t : ℕ) where
   pub returns : lts.Need-returns (R t) (named-at t) named.Post
   returns c =
       let args = c .before .before .before .before .before .before .before .before .before .before .before .args in
-      let good = c .before .before .before .before .before .before .before .before .before .before .before .good in
       let pre = c .before .before .before .before .before .before .before .before .before .before .before .pre in
       let named-head = c .before .before .before .before .before .named-head in
       let if1 = c .before .if1 in
       let refused = c .refused in (
         λ text s.
-            says-as (refused .ensures)
-            (says-stop (if1 .taken) (name-at _ _ _ ∙ then-refused _ (named-head .ensures .0 text _ (args .given) s .refused (if1 .taken)))),
-        (omega (arith, same-answer (refused .ensures), pre, good), λ z. omega (arith, same-answer (refused .ensures))),
+            says-as (refused .ensures) (says-stop (if1 .taken)
+            (name-at _ _ _ ∙ then-refused _ (named-head .ensures .0 text _ (args .given) s .refused (if1 .taken)))),
+        (omega (arith, same-answer (refused .ensures), pre), λ z. omega (arith, same-answer (refused .ensures))),
       )
 
   pub arguments-requires : lts.Need-arguments-requires (R t) (named-at t) named.Post
@@ -98,7 +108,7 @@ module _ (t : ℕ) where
         omega arith,
         omega arith,
         omega arith,
-        omega (arith, arguments .ensures .1 .0, arguments .ensures .1 .1 (if2 .left), named-head .ensures .1),
+        omega (arith, arguments .ensures .1 .1 (if2 .left), named-head .ensures .1),
       )
 
   pub same-length-5 : lts.Need-same-length-5 (R t) (named-at t) named.Post
@@ -115,7 +125,6 @@ module _ (t : ℕ) where
   pub returns-3 : lts.Need-returns-3 (R t) (named-at t) named.Post
   returns-3 c =
       let args = c .before .before .before .before .before .before .before .before .before .before .before .before .before .before .before .before .before .before .before .before .before .before .before .before .before .before .before .args in
-      let good = c .before .before .before .before .before .before .before .before .before .before .before .before .before .before .before .before .before .before .before .before .before .before .before .before .before .before .before .good in
       let pre = c .before .before .before .before .before .before .before .before .before .before .before .before .before .before .before .before .before .before .before .before .before .before .before .before .before .before .before .pre in
       let named-head = c .before .before .before .before .before .before .before .before .before .before .before .before .before .before .before .before .before .before .before .before .before .named-head in
       let if1 = c .before .before .before .before .before .before .before .before .before .before .before .before .before .before .before .before .before .if1 in
@@ -127,7 +136,8 @@ module _ (t : ℕ) where
             let head = named-head .ensures .0 text (args .notes .now) (args .given) s .done (if1 .left) in
             let got = arguments .ensures .0 text s .done (if2 .left) in
             says-same (named-read _ _ _ (at .ensures .0 .0) (head .is) (got .is))
-            (named-node .ensures .0 text _ (head .what) (got .list) _ _ (built-behind (namesOf (head .what)) (laid-spoken _ _ (head .spoken)) (got .built))
+            (named-node .ensures .0 text _ (head .what) (got .list) _ _
+            (built-behind (namesOf (head .what)) (laid-spoken _ _ (head .spoken)) (got .built))
             (at .ensures .0 .1) (head .such) (got .there-is) (got .count-is) (got .each)),
-        (omega arith, λ z. omega (arith, arguments .ensures .1 .1 (if2 .left), if1, pre, good, z)),
+        (omega arith, λ z. omega (arith, arguments .ensures .1 .1 (if2 .left), pre)),
       )

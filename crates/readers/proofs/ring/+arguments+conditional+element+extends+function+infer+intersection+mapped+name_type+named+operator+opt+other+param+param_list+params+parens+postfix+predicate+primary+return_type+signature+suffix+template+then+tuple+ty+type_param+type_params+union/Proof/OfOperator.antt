@@ -17,7 +17,18 @@ use Rattle.readers.proofs.ring.+arguments+conditional+element+extends+f
 use Rattle.readers.proofs.ring.+arguments+conditional+element+extends+function+infer+intersection+mapped+name_type+named+operator+opt+other+param+param_list+params+parens+postfix+predicate+primary+return_type+signature+suffix+template+then+tuple+ty+type_param+type_params+union.Proof.Base.{infer-below, operator-at, postfix-below}
 
 abbrev pub R : ℕ → lts.Claims
-R t = (past-operators-reads.Asked, past-operators-reads.Learnt, kind-at-reads.Asked, kind-at-reads.Learnt, infer-below t, infer.Post, put-operators-reads.Asked, put-operators-reads.Learnt, postfix-below t, postfix.Post)
+R t = (
+  past-operators-reads.Asked,
+  past-operators-reads.Learnt,
+  kind-at-reads.Asked,
+  kind-at-reads.Learnt,
+  infer-below t,
+  infer.Post,
+  put-operators-reads.Asked,
+  put-operators-reads.Learnt,
+  postfix-below t,
+  postfix.Post,
+)
 
 module _ (t : ℕ) where
   pub past-operators-requires : lts.Need-past-operators-requires (R t) (operator-at t) operator.Post
@@ -55,8 +66,9 @@ module _ (t : ℕ) where
             let T = below (args .given) g in
             operand-refused text (args .words .now) (args .given) (args .m) (past-operators .result) (args .nodes .now) (args .names .now)
             (args .notes .now) (past-operators .ensures .0 text (args .notes .now) (args .given) T (args .on))
-            (operand-infer g T (args .on) (view (past-operators .result) (args .notes .now)) (is-here (args .words .now) (past-operators .result) (kind-at .ensures .0) (if1 .taken)))
-            (past-operators .ensures .1 .0) (infer .ensures .0 text s) (if2 .taken),
+            (operand-infer g T (args .on) (view (past-operators .result) (args .notes .now))
+            (is-here (args .words .now) (past-operators .result) (kind-at .ensures .0) (if1 .taken))) (past-operators .ensures .1 .0)
+            (infer .ensures .0 text s) (if2 .taken),
         (omega arith, λ z. omega arith),
       )
 
@@ -64,13 +76,12 @@ module _ (t : ℕ) where
   put-operators-requires c κs =
       let pre = c .before .before .before .before .before .before .before .before .before .before .before .before .before .before .before .before .before .before .before .before .pre in
       let past-operators = c .before .before .before .before .before .before .before .before .before .before .before .before .before .before .before .past-operators in
-      let kind-at = c .before .before .before .before .before .before .before .before .before .before .before .before .before .before .kind-at in
       let infer = c .before .before .before .before .before .before .before .before .before .infer in
       let if2 = c .before .if2 in (
         pre .1 .1,
         omega arith,
         omega arith,
-        omega (arith, kind-at .ensures .0, kind-at .ensures .1, past-operators .ensures .1),
+        omega (arith, past-operators .ensures .1),
         omega arith,
         omega (arith, infer .ensures .1 .1 (if2 .left)),
         omega arith,
@@ -100,8 +111,9 @@ module _ (t : ℕ) where
             let T = below (args .given) g in
             operand-about text (args .words .now) (args .given) (args .m) (past-operators .result) (args .nodes .now) (args .names .now)
             (args .notes .now) (past-operators .ensures .0 text (args .notes .now) (args .given) T (args .on))
-            (operand-infer g T (args .on) (view (past-operators .result) (args .notes .now)) (is-here (args .words .now) (past-operators .result) (kind-at .ensures .0) (if1 .taken)))
-            (past-operators .ensures .1 .0) (infer .ensures .0 text s)
+            (operand-infer g T (args .on) (view (past-operators .result) (args .notes .now))
+            (is-here (args .words .now) (past-operators .result) (kind-at .ensures .0) (if1 .taken))) (past-operators .ensures .1 .0)
+            (infer .ensures .0 text s)
             (if2 .left) (λ B u h n. put-operators .ensures .0 text B u _ _ h n),
         (omega arith, λ z. omega (arith, infer .ensures .1 .1 (if2 .left))),
       )
@@ -133,8 +145,9 @@ module _ (t : ℕ) where
             let T = below (args .given) g in
             operand-refused text (args .words .now) (args .given) (args .m) (past-operators .result) (args .nodes .now) (args .names .now)
             (args .notes .now) (past-operators .ensures .0 text (args .notes .now) (args .given) T (args .on))
-            (operand-postfix g T (args .on) (view (past-operators .result) (args .notes .now)) (is-not-here (args .words .now) (past-operators .result) (kind-at .ensures .0) (if1 .left)))
-            (past-operators .ensures .1 .0) (postfix .ensures .0 text s) (if3 .taken),
+            (operand-postfix g T (args .on) (view (past-operators .result) (args .notes .now))
+            (is-not-here (args .words .now) (past-operators .result) (kind-at .ensures .0) (if1 .left))) (past-operators .ensures .1 .0)
+            (postfix .ensures .0 text s) (if3 .taken),
         (omega arith, λ z. omega arith),
       )
 
@@ -142,13 +155,12 @@ module _ (t : ℕ) where
   put-operators-requires-2 c κs =
       let pre = c .before .before .before .before .before .before .before .before .before .before .before .before .before .before .before .before .before .before .before .before .pre in
       let past-operators = c .before .before .before .before .before .before .before .before .before .before .before .before .before .before .before .past-operators in
-      let kind-at = c .before .before .before .before .before .before .before .before .before .before .before .before .before .before .kind-at in
       let postfix = c .before .before .before .before .before .before .before .before .before .postfix in
       let if3 = c .before .if3 in (
         pre .1 .1,
         omega arith,
         omega arith,
-        omega (arith, kind-at .ensures .0, kind-at .ensures .1, past-operators .ensures .1),
+        omega (arith, past-operators .ensures .1),
         omega arith,
         omega (arith, postfix .ensures .1 .1 (if3 .left)),
         omega arith,
@@ -178,8 +190,9 @@ module _ (t : ℕ) where
             let T = below (args .given) g in
             operand-about text (args .words .now) (args .given) (args .m) (past-operators .result) (args .nodes .now) (args .names .now)
             (args .notes .now) (past-operators .ensures .0 text (args .notes .now) (args .given) T (args .on))
-            (operand-postfix g T (args .on) (view (past-operators .result) (args .notes .now)) (is-not-here (args .words .now) (past-operators .result) (kind-at .ensures .0) (if1 .left)))
-            (past-operators .ensures .1 .0) (postfix .ensures .0 text s)
+            (operand-postfix g T (args .on) (view (past-operators .result) (args .notes .now))
+            (is-not-here (args .words .now) (past-operators .result) (kind-at .ensures .0) (if1 .left))) (past-operators .ensures .1 .0)
+            (postfix .ensures .0 text s)
             (if3 .left) (λ B u h n. put-operators2 .ensures .0 text B u _ _ h n),
         (omega arith, λ z. omega (arith, postfix .ensures .1 .1 (if3 .left))),
       )

@@ -19,8 +19,7 @@ R t = (kind-at-reads.Asked, kind-at-reads.Learnt, taken-reads.Asked, taken-reads
 
 module _ (t : ℕ) where
   pub kind-at-requires : lts.Need-kind-at-requires (R t) (opt-at t) opt.Post
-  kind-at-requires c κs =
-      search needs
+  kind-at-requires c κs = search needs
 
   pub taken-requires : lts.Need-taken-requires (R t) (opt-at t) opt.Post
   taken-requires c κs = search needs
@@ -58,8 +57,6 @@ module _ (t : ℕ) where
   pub returns-2 : lts.Need-returns-2 (R t) (opt-at t) opt.Post
   returns-2 c =
       let args = c .before .before .before .before .before .before .before .before .before .before .before .before .before .before .before .before .before .args in
-      let good = c .before .before .before .before .before .before .before .before .before .before .before .before .before .before .before .before .before .good in
-      let fits = c .before .before .before .before .before .before .before .before .before .before .before .before .before .before .before .before .before .fits in
       let pre = c .before .before .before .before .before .before .before .before .before .before .before .before .before .before .before .before .before .pre in
       let kind-at = c .before .before .before .before .before .before .before .before .before .before .before .before .kind-at in
       let if1 = c .before .before .before .before .before .before .before .before .before .before .before .if1 in
@@ -68,5 +65,5 @@ module _ (t : ℕ) where
             let g = givenOf text (args .words .now) (args .given) in
             opt-present g (args .mark) (below (args .given) g (args .on)) (args .m) _ _ _
             (is-here (args .words .now) (args .m) (kind-at .ensures .0) (if1 .left)) (ty .ensures .0 text s),
-        (omega arith, λ z. omega (arith, pre, fits, good, z, ty .ensures .1 .1 z)),
+        (omega arith, λ z. omega (arith, pre, ty .ensures .1 .1 z)),
       )

@@ -39,11 +39,10 @@ module _ (t : ℕ) where
 
   pub link-requires : lts.Need-link-requires (R t) (other-at t) other.Post
   link-requires c κs =
-      let good = c .before .before .before .before .before .before .before .before .before .before .before .before .before .before .before .before .before .before .good in
       let pre = c .before .before .before .before .before .before .before .before .before .before .before .before .before .before .before .before .before .before .pre in
       let ty = c .before .before .before .before .before .before .before .before .before .before .ty in
       let if1 = c .before .before .if1 in
-      omega (arith, ty .ensures .1 .1 (if1 .left), pre, good)
+      omega (arith, ty .ensures .1 .1 (if1 .left), pre)
 
   pub put-requires : lts.Need-put-requires (R t) (other-at t) other.Post
   put-requires c κs =

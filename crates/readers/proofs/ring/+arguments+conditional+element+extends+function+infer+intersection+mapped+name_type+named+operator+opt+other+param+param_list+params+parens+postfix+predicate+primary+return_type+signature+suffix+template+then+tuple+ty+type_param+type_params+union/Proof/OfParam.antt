@@ -24,7 +24,24 @@ use Rattle.readers.proofs.ring.+arguments+conditional+element+extends+f
 use Rattle.readers.proofs.ring.+arguments+conditional+element+extends+function+infer+intersection+mapped+name_type+named+operator+opt+other+param+param_list+params+parens+postfix+predicate+primary+return_type+signature+suffix+template+then+tuple+ty+type_param+type_params+union.Proof.Base.{opt-below, param-at}
 
 abbrev pub R : ℕ → lts.Claims
-R t = (param-head-reads.Asked, param-head-reads.Learnt, state-Answer-refused-reads.Asked, state-Answer-refused-reads.Learnt, opt-below t, opt.Post, state-Kids-none-reads.Asked, state-Kids-none-reads.Learnt, link-opt-reads.Asked, link-opt-reads.Learnt, opt-bit-reads.Asked, opt-bit-reads.Learnt, at-reads.Asked, at-reads.Learnt, put-reads.Asked, put-reads.Learnt)
+R t = (
+  param-head-reads.Asked,
+  param-head-reads.Learnt,
+  state-Answer-refused-reads.Asked,
+  state-Answer-refused-reads.Learnt,
+  opt-below t,
+  opt.Post,
+  state-Kids-none-reads.Asked,
+  state-Kids-none-reads.Learnt,
+  link-opt-reads.Asked,
+  link-opt-reads.Learnt,
+  opt-bit-reads.Asked,
+  opt-bit-reads.Learnt,
+  at-reads.Asked,
+  at-reads.Learnt,
+  put-reads.Asked,
+  put-reads.Learnt,
+)
 
 module _ (t : ℕ) where
   pub param-head-requires : lts.Need-param-head-requires (R t) (param-at t) param.Post
@@ -41,15 +58,15 @@ module _ (t : ℕ) where
   pub returns : lts.Need-returns (R t) (param-at t) param.Post
   returns c =
       let args = c .before .before .before .before .before .before .before .before .before .before .before .args in
-      let good = c .before .before .before .before .before .before .before .before .before .before .before .good in
       let pre = c .before .before .before .before .before .before .before .before .before .before .before .pre in
       let param-head = c .before .before .before .before .before .param-head in
       let if1 = c .before .if1 in
       let refused = c .refused in (
         λ text s.
             says-as (refused .ensures)
-            (says-stop (if1 .taken) (parameter-is _ _ _ ∙ then-refused _ (param-head .ensures .0 text (args .notes .now) (args .given) s .refused (if1 .taken)))),
-        (omega (arith, same-answer (refused .ensures), pre, good), λ z. omega (arith, same-answer (refused .ensures))),
+            (says-stop (if1 .taken) (parameter-is _ _ _ ∙ then-refused _
+            (param-head .ensures .0 text (args .notes .now) (args .given) s .refused (if1 .taken)))),
+        (omega (arith, same-answer (refused .ensures), pre), λ z. omega (arith, same-answer (refused .ensures))),
       )
 
   pub opt-requires : lts.Need-opt-requires (R t) (param-at t) param.Post
@@ -84,13 +101,11 @@ module _ (t : ℕ) where
 
   pub link-opt-requires : lts.Need-link-opt-requires (R t) (param-at t) param.Post
   link-opt-requires c κs =
-      let good = c .before .before .before .before .before .before .before .before .before .before .before .before .before .before .before .before .before .before .before .before .before .before .before .before .before .before .good in
       let pre = c .before .before .before .before .before .before .before .before .before .before .before .before .before .before .before .before .before .before .before .before .before .before .before .before .before .before .pre in
-      let if1 = c .before .before .before .before .before .before .before .before .before .before .before .before .before .before .before .before .if1 in
       let opt = c .before .before .before .before .before .before .before .before .before .before .before .opt in
       let if2 = c .before .before .before .if2 in
       let none = c .none in
-      omega (arith, same-kids (none .ensures), opt .ensures .1 .1 (if2 .left), if1, pre, good)
+      omega (arith, same-kids (none .ensures), opt .ensures .1 .1 (if2 .left), pre)
 
   pub opt-bit-requires : lts.Need-opt-bit-requires (R t) (param-at t) param.Post
   opt-bit-requires c κs = search needs
@@ -101,11 +116,7 @@ module _ (t : ℕ) where
   pub add-choices : lts.Need-add-choices (R t) (param-at t) param.Post
   add-choices c =
       let param-head = c .before .before .before .before .before .before .before .before .before .before .before .before .before .before .before .before .before .before .before .before .before .before .before .before .before .param-head in
-      let opt = c .before .before .before .before .before .before .before .before .before .before .before .before .before .before .before .before .opt in
-      let if2 = c .before .before .before .before .before .before .before .before .if2 in
-      let none = c .before .before .before .before .before .none in
-      let link-opt = c .before .before .before .before .link-opt in
-      omega (arith, link-opt .ensures .1, same-kids (none .ensures), opt .ensures .1 .0, opt .ensures .1 .1 (if2 .left), param-head .ensures .1)
+      omega (arith, param-head .ensures .1)
 
   pub at-requires : lts.Need-at-requires (R t) (param-at t) param.Post
   at-requires c κs =
@@ -122,8 +133,7 @@ module _ (t : ℕ) where
   pub same-length-5 : lts.Need-same-length-5 (R t) (param-at t) param.Post
   same-length-5 c =
       let opt = c .before .before .before .before .before .before .before .before .before .before .before .before .before .before .before .before .before .before .before .before .before .opt in
-      let link-opt = c .before .before .before .before .before .before .before .before .before .link-opt in
-      omega (arith, link-opt .kept, opt .kept)
+      omega (arith, opt .kept)
 
   pub same-length-6 : lts.Need-same-length-6 (R t) (param-at t) param.Post
   same-length-6 c =
@@ -164,7 +174,18 @@ module _ (t : ℕ) where
             (shape-as (omega (arith, ap optBit (x .high-is)))
             (shape-parameter rest (head .what .0) (head .what .1) (x .tree) (x .is-opt)))),
         (
-          omega (arith, at .ensures .0, at .ensures .1, opt-bit .ensures .0, opt-bit .ensures .1, link-opt .ensures .1, same-kids (none .ensures), opt .ensures .1 .0, opt .ensures .1 .1 (if2 .left), param-head .ensures .1),
+          omega (
+            arith,
+            at .ensures .0,
+            at .ensures .1,
+            opt-bit .ensures .0,
+            opt-bit .ensures .1,
+            link-opt .ensures .1,
+            same-kids (none .ensures),
+            opt .ensures .1 .0,
+            opt .ensures .1 .1 (if2 .left),
+            param-head .ensures .1,
+          ),
           λ z. omega (arith, if2, opt .ensures .1 .1 (if2 .left), if1, pre, good, z),
         ),
       )

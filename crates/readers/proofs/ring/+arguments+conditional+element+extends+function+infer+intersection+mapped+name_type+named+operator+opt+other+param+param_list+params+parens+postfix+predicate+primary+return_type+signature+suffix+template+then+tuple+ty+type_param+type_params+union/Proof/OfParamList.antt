@@ -31,13 +31,28 @@ use Rattle.readers.proofs.ring.+arguments+conditional+element+extends+f
 use Rattle.readers.proofs.ring.+arguments+conditional+element+extends+function+infer+intersection+mapped+name_type+named+operator+opt+other+param+param_list+params+parens+postfix+predicate+primary+return_type+signature+suffix+template+then+tuple+ty+type_param+type_params+union.Proof.Base.{param-below, param-list-at}
 
 abbrev pub R : ℕ → lts.Claims
-R t = (kind-at-reads.Asked, kind-at-reads.Learnt, no-param-reads.Asked, no-param-reads.Learnt, function-Params-refused-reads.Asked, function-Params-refused-reads.Learnt, param-below t, param.Post, link-reads.Asked, link-reads.Learnt, separated-reads.Asked, separated-reads.Learnt, all-reads.Asked, all-reads.Learnt)
+R t = (
+  kind-at-reads.Asked,
+  kind-at-reads.Learnt,
+  no-param-reads.Asked,
+  no-param-reads.Learnt,
+  function-Params-refused-reads.Asked,
+  function-Params-refused-reads.Learnt,
+  param-below t,
+  param.Post,
+  link-reads.Asked,
+  link-reads.Learnt,
+  separated-reads.Asked,
+  separated-reads.Learnt,
+  all-reads.Asked,
+  all-reads.Learnt,
+)
 
 abbrev pub Inv-loop : lts.InvT-loop
 Inv-loop words classes nodes₀ names₀ notes₀ given this p₀ k₀ count₀ nodes names notes p k count =
     Kept (length words) given nodes₀ names₀ notes₀ p₀ nodes names notes p × ((count ≤ p .used) × Under (p .used) k)
-    ×
-    ((text : List ℕ) (B : Was) (t : Run) (th : Opt ThisParameter) → Spelt text words → BuiltAt B t k₀ p₀ nodes₀ names₀ notes₀ → ParametersTurn (givenOf text words given) (below given (givenOf text words given)) th (view p₀ notes₀) B t count k p nodes names notes)
+    × ((text : List ℕ) (B : Was) (t : Run) (th : Opt ThisParameter) → Spelt text words → BuiltAt B t k₀ p₀ nodes₀ names₀ notes₀
+    → ParametersTurn (givenOf text words given) (below given (givenOf text words given)) th (view p₀ notes₀) B t count k p nodes names notes)
 
 abbrev pub μ-loop : lts.MeasureT-loop
 μ-loop words classes nodes₀ names₀ notes₀ given this p₀ k₀ count₀ nodes names notes p k count =
@@ -45,8 +60,7 @@ abbrev pub μ-loop : lts.MeasureT-loop
 
 module _ (t : ℕ) where
   pub loop-holds : lts.Need-loop-holds (R t) (param-list-at t) param-list.Post Inv-loop μ-loop
-  loop-holds c =
-      (omega arith, omega arith, λ text B r th s b. turn-none _ _ th r b)
+  loop-holds c = (omega arith, omega arith, λ text B r th s b. turn-none _ _ th r b)
 
   pub kind-at-requires : lts.Need-kind-at-requires (R t) (param-list-at t) param-list.Post Inv-loop μ-loop
   kind-at-requires c κs = search needs
@@ -69,17 +83,18 @@ module _ (t : ℕ) where
   pub returns : lts.Need-returns (R t) (param-list-at t) param-list.Post Inv-loop μ-loop
   returns c =
       let args = c .before .before .before .before .before .before .before .before .before .before .args in
-      let no-param = c .before .before .no-param in
       let loop = c .before .before .before .before .before .loop in
       let kind-at = c .before .before .before .before .kind-at in
       let if1 = c .before .before .before .if1 in
+      let no-param = c .before .before .no-param in
       let if2 = c .before .if2 in
       let refused = c .refused in (
         λ text B r th s b i.
             let w = loop .inv .2 text B r th s b in
             rest-refused (refused .ensures) (if2 .taken)
             (w .is ∙ parameters-why _ _ th (w .fuel) (w .list) _
-            (is-not-here (args .words .now) (loop .p) (kind-at .ensures .0) (if1 .taken)) (no-param .ensures text (loop .notes) (args .given)) (if2 .taken)),
+            (is-not-here (args .words .now) (loop .p) (kind-at .ensures .0) (if1 .taken)) (no-param .ensures text (loop .notes) (args .given))
+            (if2 .taken)),
         (omega (arith, same-params (refused .ensures)), λ z. omega (arith, same-params (refused .ensures))),
       )
 
@@ -109,10 +124,10 @@ module _ (t : ℕ) where
   pub returns-2 : lts.Need-returns-2 (R t) (param-list-at t) param-list.Post Inv-loop μ-loop
   returns-2 c =
       let args = c .before .before .before .before .before .before .before .before .before .before .before .before .before .before .before .before .before .before .before .before .before .before .args in
-      let no-param = c .before .before .before .before .before .before .before .before .before .before .before .before .before .before .no-param in
       let loop = c .before .before .before .before .before .before .before .before .before .before .before .before .before .before .before .before .before .loop in
       let kind-at = c .before .before .before .before .before .before .before .before .before .before .before .before .before .before .before .before .kind-at in
       let if1 = c .before .before .before .before .before .before .before .before .before .before .before .before .before .before .before .if1 in
+      let no-param = c .before .before .before .before .before .before .before .before .before .before .before .before .before .before .no-param in
       let if2 = c .before .before .before .before .before .before .before .before .before .before .before .before .before .if2 in
       let param = c .before .before .before .before .before .before .before .before .before .param in
       let if3 = c .before .if3 in
@@ -129,27 +144,18 @@ module _ (t : ℕ) where
 
   pub link-requires : lts.Need-link-requires (R t) (param-list-at t) param-list.Post Inv-loop μ-loop
   link-requires c κs =
-      let good = c .before .before .before .before .before .before .before .before .before .before .before .before .before .before .before .before .before .before .before .before .before .before .before .good in
       let pre = c .before .before .before .before .before .before .before .before .before .before .before .before .before .before .before .before .before .before .before .before .before .before .before .pre in
       let loop = c .before .before .before .before .before .before .before .before .before .before .before .before .before .before .before .before .before .before .loop in
-      let kind-at = c .before .before .before .before .before .before .before .before .before .before .before .before .before .before .before .before .before .kind-at in
-      let if1 = c .before .before .before .before .before .before .before .before .before .before .before .before .before .before .before .before .if1 in
-      let if2 = c .before .before .before .before .before .before .before .before .before .before .before .before .before .before .if2 in
       let param = c .before .before .before .before .before .before .before .before .before .before .param in
       let if3 = c .before .before .if3 in
-      omega (arith, param .ensures .1 .1 (if3 .left), if2, if1, kind-at .ensures .0, kind-at .ensures .1, loop .inv .0, loop .inv .1, pre, good)
+      omega (arith, param .ensures .1 .1 (if3 .left), loop .inv .1, pre)
 
   pub add-count : lts.Need-add-count (R t) (param-list-at t) param-list.Post Inv-loop μ-loop
   add-count c =
-      let good = c .before .before .before .before .before .before .before .before .before .before .before .before .before .before .before .before .before .before .before .before .before .before .before .before .before .before .good in
-      let pre = c .before .before .before .before .before .before .before .before .before .before .before .before .before .before .before .before .before .before .before .before .before .before .before .before .before .before .pre in
       let loop = c .before .before .before .before .before .before .before .before .before .before .before .before .before .before .before .before .before .before .before .before .before .loop in
-      let kind-at = c .before .before .before .before .before .before .before .before .before .before .before .before .before .before .before .before .before .before .before .before .kind-at in
-      let if1 = c .before .before .before .before .before .before .before .before .before .before .before .before .before .before .before .before .before .before .before .if1 in
-      let if2 = c .before .before .before .before .before .before .before .before .before .before .before .before .before .before .before .before .before .if2 in
       let param = c .before .before .before .before .before .before .before .before .before .before .before .before .before .param in
       let if3 = c .before .before .before .before .before .if3 in
-      omega (arith, param .ensures .1 .0, param .ensures .1 .1 (if3 .left), if2, if1, kind-at .ensures .0, kind-at .ensures .1, loop .inv .0, loop .inv .1, pre, good)
+      omega (arith, param .ensures .1 .1 (if3 .left), loop .inv .1)
 
   pub kind-at-requires-2 : lts.Need-kind-at-requires-2 (R t) (param-list-at t) param-list.Post Inv-loop μ-loop
   kind-at-requires-2 c κs = search needs
@@ -183,14 +189,13 @@ module _ (t : ℕ) where
   pub returns-3 : lts.Need-returns-3 (R t) (param-list-at t) param-list.Post Inv-loop μ-loop
   returns-3 c =
       let args = c .before .before .before .before .before .before .before .before .before .before .before .before .before .before .before .before .before .before .before .before .before .before .before .before .before .before .before .before .before .before .before .args in
-      let no-param = c .before .before .before .before .before .before .before .before .before .before .before .before .before .before .before .before .before .before .before .before .before .before .before .no-param in
       let loop = c .before .before .before .before .before .before .before .before .before .before .before .before .before .before .before .before .before .before .before .before .before .before .before .before .before .before .loop in
       let kind-at = c .before .before .before .before .before .before .before .before .before .before .before .before .before .before .before .before .before .before .before .before .before .before .before .before .before .kind-at in
       let if1 = c .before .before .before .before .before .before .before .before .before .before .before .before .before .before .before .before .before .before .before .before .before .before .before .before .if1 in
+      let no-param = c .before .before .before .before .before .before .before .before .before .before .before .before .before .before .before .before .before .before .before .before .before .before .before .no-param in
       let if2 = c .before .before .before .before .before .before .before .before .before .before .before .before .before .before .before .before .before .before .before .before .before .before .if2 in
       let param = c .before .before .before .before .before .before .before .before .before .before .before .before .before .before .before .before .before .before .param in
       let if3 = c .before .before .before .before .before .before .before .before .before .before .if3 in
-      let link = c .before .before .before .before .before .before .before .link in
       let kind-at2 = c .before .before .before .before .kind-at2 in
       let separated = c .before .before .before .separated in
       let if4 = c .before .if4 in
@@ -203,10 +208,7 @@ module _ (t : ℕ) where
             (is-not-here (args .words .now) (loop .p) (kind-at .ensures .0) (if1 .taken))
             (why-none _ (no-param .ensures text (loop .notes) (args .given)) (if2 .left))
             _ (got .is) (separates-as Dot3 (kind-at2 .ensures .0) (separated .ensures .0)) (if4 .taken)),
-        (
-          omega (arith, same-params (refused3 .ensures), kind-at2 .ensures .0, kind-at2 .ensures .1, link .ensures .1, param .ensures .1 .0, param .ensures .1 .1 (if3 .left), kind-at .ensures .0, kind-at .ensures .1, loop .inv .0, loop .inv .1),
-          λ z. omega (arith, same-params (refused3 .ensures)),
-        ),
+        (omega (arith, same-params (refused3 .ensures), param .ensures .1 .0), λ z. omega (arith, same-params (refused3 .ensures))),
       )
 
   pub loop-less : lts.Need-loop-less (R t) (param-list-at t) param-list.Post Inv-loop μ-loop
@@ -218,10 +220,10 @@ module _ (t : ℕ) where
   pub loop-again : lts.Need-loop-again (R t) (param-list-at t) param-list.Post Inv-loop μ-loop
   loop-again c =
       let args = c .before .before .before .before .before .before .before .before .before .before .before .before .before .before .before .before .before .before .before .before .before .before .before .before .before .before .before .before .before .before .before .args in
-      let no-param = c .before .before .before .before .before .before .before .before .before .before .before .before .before .before .before .before .before .before .before .before .before .before .before .no-param in
       let loop = c .before .before .before .before .before .before .before .before .before .before .before .before .before .before .before .before .before .before .before .before .before .before .before .before .before .before .loop in
       let kind-at = c .before .before .before .before .before .before .before .before .before .before .before .before .before .before .before .before .before .before .before .before .before .before .before .before .before .kind-at in
       let if1 = c .before .before .before .before .before .before .before .before .before .before .before .before .before .before .before .before .before .before .before .before .before .before .before .before .if1 in
+      let no-param = c .before .before .before .before .before .before .before .before .before .before .before .before .before .before .before .before .before .before .before .before .before .before .before .no-param in
       let if2 = c .before .before .before .before .before .before .before .before .before .before .before .before .before .before .before .before .before .before .before .before .before .before .if2 in
       let param = c .before .before .before .before .before .before .before .before .before .before .before .before .before .before .before .before .before .before .param in
       let if3 = c .before .before .before .before .before .before .before .before .before .before .if3 in
@@ -241,7 +243,8 @@ module _ (t : ℕ) where
             (omega (arith, param .ensures .1 .1 (if3 .left))) (omega (arith, param .ensures .1 .0, param .ensures .1 .1 (if3 .left)))
             (got .stands .is-node)
             (built-moved (separated .ensures .1)
-            (link .ensures .0 5 B _ (got .tree) _ _ _ _ _ _ _ _ _ (w .built) (omega arith) (got .stands .is-node) (got .stands .high-is) (got .stands .laid))),
+            (link .ensures .0 5 B _ (got .tree) _ _ _ _ _ _ _ _ _ (w .built) (omega arith) (got .stands .is-node) (got .stands .high-is)
+            (got .stands .laid))),
       )
 
   pub all-requires : lts.Need-all-requires (R t) (param-list-at t) param-list.Post Inv-loop μ-loop
@@ -259,7 +262,6 @@ module _ (t : ℕ) where
   pub returns-4 : lts.Need-returns-4 (R t) (param-list-at t) param-list.Post Inv-loop μ-loop
   returns-4 c =
       let args = c .before .before .before .before .before .before .before .before .args in
-      let good = c .before .before .before .before .before .before .before .before .good in
       let pre = c .before .before .before .before .before .before .before .before .pre in
       let loop = c .before .before .before .loop in
       let kind-at = c .before .before .kind-at in
@@ -268,5 +270,5 @@ module _ (t : ℕ) where
         λ text B r th s b i.
             rest-all _ _ th r _ (loop .inv .2 text B r th s b) (is-here (args .words .now) (loop .p) (kind-at .ensures .0) (if1 .left)) i
             (all .ensures),
-        (omega (arith, same-params (all .ensures), pre, good), λ z. omega (arith, same-params (all .ensures))),
+        (omega (arith, same-params (all .ensures), pre), λ z. omega (arith, same-params (all .ensures))),
       )

@@ -23,7 +23,26 @@ use Rattle.readers.proofs.ring.+arguments+conditional+element+extends+f
 use Rattle.readers.proofs.ring.+arguments+conditional+element+extends+function+infer+intersection+mapped+name_type+named+operator+opt+other+param+param_list+params+parens+postfix+predicate+primary+return_type+signature+suffix+template+then+tuple+ty+type_param+type_params+union.Proof.Base.{opt-below, param-list-below, params-at}
 
 abbrev pub R : ℕ → lts.Claims
-R t = (params-head-reads.Asked, params-head-reads.Learnt, function-Params-refused-reads.Asked, function-Params-refused-reads.Learnt, function-This-none-reads.Asked, function-This-none-reads.Learnt, param-list-below t, param-list.Post, opt-below t, opt.Post, this-kids-reads.Asked, this-kids-reads.Learnt, freed-reads.Asked, freed-reads.Learnt, separated-reads.Asked, separated-reads.Learnt, this-of-reads.Asked, this-of-reads.Learnt)
+R t = (
+  params-head-reads.Asked,
+  params-head-reads.Learnt,
+  function-Params-refused-reads.Asked,
+  function-Params-refused-reads.Learnt,
+  function-This-none-reads.Asked,
+  function-This-none-reads.Learnt,
+  param-list-below t,
+  param-list.Post,
+  opt-below t,
+  opt.Post,
+  this-kids-reads.Asked,
+  this-kids-reads.Learnt,
+  freed-reads.Asked,
+  freed-reads.Learnt,
+  separated-reads.Asked,
+  separated-reads.Learnt,
+  this-of-reads.Asked,
+  this-of-reads.Learnt,
+)
 
 module _ (t : ℕ) where
   pub params-head-requires : lts.Need-params-head-requires (R t) (params-at t) params.Post
@@ -36,13 +55,12 @@ module _ (t : ℕ) where
 
   pub returns : lts.Need-returns (R t) (params-at t) params.Post
   returns c =
-      let good = c .before .before .before .before .before .before .before .before .good in
       let pre = c .before .before .before .before .before .before .before .before .pre in
       let params-head = c .before .before .before .params-head in
       let if1 = c .before .if1 in
       let refused = c .refused in (
         λ text B r s b. params-refused (refused .ensures) (if1 .taken) (opens-refused _ _ _ _ _ (params-head .ensures .0) (if1 .taken)),
-        (omega (arith, same-params (refused .ensures), pre, good), λ z. omega (arith, same-params (refused .ensures))),
+        (omega (arith, same-params (refused .ensures), pre), λ z. omega (arith, same-params (refused .ensures))),
       )
 
   pub none-requires : lts.Need-none-requires (R t) (params-at t) params.Post
@@ -110,14 +128,11 @@ module _ (t : ℕ) where
 
   pub this-kids-requires : lts.Need-this-kids-requires (R t) (params-at t) params.Post
   this-kids-requires c κs =
-      let good = c .before .before .before .before .before .before .before .before .before .before .before .before .before .before .before .before .before .before .before .before .before .before .good in
       let pre = c .before .before .before .before .before .before .before .before .before .before .before .before .before .before .before .before .before .before .before .before .before .before .pre in
       let params-head = c .before .before .before .before .before .before .before .before .before .before .before .before .before .before .before .before .before .params-head in
-      let if1 = c .before .before .before .before .before .before .before .before .before .before .before .before .before .before .before .if1 in
-      let if2 = c .before .before .before .before .before .before .before .before .before .before .before .before .before .if2 in
       let opt = c .before .before .before .before .before .before .before .before .before .opt in
       let if3 = c .before .if3 in
-      omega (arith, opt .ensures .1 .1 (if3 .left), if2, if1, params-head .ensures .1, pre, good)
+      omega (arith, opt .ensures .1 .1 (if3 .left), params-head .ensures .1, pre)
 
   pub freed-requires : lts.Need-freed-requires (R t) (params-at t) params.Post
   freed-requires c κs = search needs
@@ -150,7 +165,6 @@ module _ (t : ℕ) where
   pub returns-4 : lts.Need-returns-4 (R t) (params-at t) params.Post
   returns-4 c =
       let args = c .before .before .before .before .before .before .before .before .before .before .before .before .before .before .before .before .before .before .before .before .before .before .before .before .before .before .before .before .before .before .args in
-      let good = c .before .before .before .before .before .before .before .before .before .before .before .before .before .before .before .before .before .before .before .before .before .before .before .before .before .before .before .before .before .before .good in
       let pre = c .before .before .before .before .before .before .before .before .before .before .before .before .before .before .before .before .before .before .before .before .before .before .before .before .before .before .before .before .before .before .pre in
       let params-head = c .before .before .before .before .before .before .before .before .before .before .before .before .before .before .before .before .before .before .before .before .before .before .before .before .before .params-head in
       let if1 = c .before .before .before .before .before .before .before .before .before .before .before .before .before .before .before .before .before .before .before .before .before .before .before .if1 in
@@ -162,15 +176,39 @@ module _ (t : ℕ) where
       let separated = c .before .before .before .separated in
       let if4 = c .before .if4 in
       let refused3 = c .refused3 in
-      let low = freed-low (args .is-new) (args .m .used) (opt .result .m .used) (args .given .room) (omega (arith, pre)) (omega (arith, opt .ensures .1 .0)) in
+      let low = freed-low (args .is-new) (args .m .used) (opt .result .m .used) (args .given .room) (omega arith)
+      (omega (arith, opt .ensures .1 .0)) in
       let few = freed-low (args .is-new) (args .m .named) (opt .result .m .named) (opt .result .m .at)
-      (omega (arith, opt .ensures .1 .0, opt .ensures .1 .1 (if3 .left), params-head .ensures .1, pre)) (omega (arith, opt .ensures .1 .0)) in (
+      (omega (arith, opt .ensures .1 .0, opt .ensures .1 .1 (if3 .left), pre)) (omega (arith, opt .ensures .1 .0)) in (
         λ text B r s b.
             params-refused (refused3 .ensures) (if4 .taken)
-            (params-this-stops _ _ _ _ _ _ (params-head .ensures .0) (if1 .left) (if2 .left) (opt .ensures .0 text s) (if3 .left) (freed .ensures .0) (separated .ensures .0) (if4 .taken)),
+            (params-this-stops _ _ _ _ _ _ (params-head .ensures .0) (if1 .left) (if2 .left) (opt .ensures .0 text s) (if3 .left) (freed .ensures .0)
+            (separated .ensures .0) (if4 .taken)),
         (
-          omega (arith, low, few, same-params (refused3 .ensures), if4, separated .ensures .1, freed .ensures .1, this-kids .ensures .1, this-kids .kept, if3, opt .ensures .1 .0, opt .kept, opt .ensures .1 .1 (if3 .left), if2, if1, params-head .ensures .1, pre, good),
-          λ z. omega (arith, low, few, same-params (refused3 .ensures), if4, separated .ensures .1, freed .ensures .1, this-kids .ensures .1, this-kids .kept, if3, opt .ensures .1 .0, opt .kept, opt .ensures .1 .1 (if3 .left), if2, if1, params-head .ensures .1, pre, good, z),
+          omega (
+            arith,
+            few,
+            same-params (refused3 .ensures),
+            separated .ensures .1,
+            freed .ensures .1,
+            this-kids .ensures .1,
+            opt .ensures .1 .0,
+            opt .ensures .1 .1 (if3 .left),
+            params-head .ensures .1,
+            pre,
+          ),
+          λ z. omega (
+            arith,
+            same-params (refused3 .ensures),
+            separated .ensures .1,
+            freed .ensures .1,
+            this-kids .ensures .1,
+            opt .ensures .1 .0,
+            opt .ensures .1 .1 (if3 .left),
+            params-head .ensures .1,
+            pre,
+            z,
+          ),
         ),
       )
 
@@ -184,32 +222,99 @@ module _ (t : ℕ) where
   pub param-list-requires-2 : lts.Need-param-list-requires-2 (R t) (params-at t) params.Post
   param-list-requires-2 c κs =
       let args = c .before .before .before .before .before .before .before .before .before .before .before .before .before .before .before .before .before .before .before .before .before .before .before .before .before .before .before .before .before .before .before .before .before .args in
-      let good = c .before .before .before .before .before .before .before .before .before .before .before .before .before .before .before .before .before .before .before .before .before .before .before .before .before .before .before .before .before .before .before .before .before .good in
       let pre = c .before .before .before .before .before .before .before .before .before .before .before .before .before .before .before .before .before .before .before .before .before .before .before .before .before .before .before .before .before .before .before .before .before .pre in
       let params-head = c .before .before .before .before .before .before .before .before .before .before .before .before .before .before .before .before .before .before .before .before .before .before .before .before .before .before .before .before .params-head in
-      let if1 = c .before .before .before .before .before .before .before .before .before .before .before .before .before .before .before .before .before .before .before .before .before .before .before .before .before .before .if1 in
-      let if2 = c .before .before .before .before .before .before .before .before .before .before .before .before .before .before .before .before .before .before .before .before .before .before .before .before .if2 in
       let opt = c .before .before .before .before .before .before .before .before .before .before .before .before .before .before .before .before .before .before .before .before .opt in
       let if3 = c .before .before .before .before .before .before .before .before .before .before .before .before .if3 in
       let this-kids = c .before .before .before .before .before .before .before .before .before .before .this-kids in
       let freed = c .before .before .before .before .before .before .before .freed in
       let separated = c .before .before .before .before .before .before .separated in
-      let if4 = c .before .before .before .before .if4 in
       let this-of = c .before .before .before .this-of in
-      let low = freed-low (args .is-new) (args .m .used) (opt .result .m .used) (args .given .room) (omega (arith, pre)) (omega (arith, opt .ensures .1 .0)) in
+      let low = freed-low (args .is-new) (args .m .used) (opt .result .m .used) (args .given .room) (omega arith)
+      (omega (arith, opt .ensures .1 .0)) in
       let few = freed-low (args .is-new) (args .m .named) (opt .result .m .named) (opt .result .m .at)
-      (omega (arith, opt .ensures .1 .0, opt .ensures .1 .1 (if3 .left), params-head .ensures .1, pre)) (omega (arith, opt .ensures .1 .0)) in
+      (omega (arith, opt .ensures .1 .0, opt .ensures .1 .1 (if3 .left), pre)) (omega (arith, opt .ensures .1 .0)) in
       let high = freed-high (args .is-new) (args .m .used) (opt .result .m .used) (args .m .used) (omega arith)
       (omega (arith, opt .ensures .1 .1 (if3 .left), params-head .ensures .1)) in
       let bit = bit-low (opt .result .high) in (
-        omega (arith, low, few, high, bit, this-of .ensures .0, if4, separated .ensures .1, freed .ensures .1, this-kids .ensures .1, this-kids .kept, if3, opt .ensures .1 .0, opt .kept, opt .ensures .1 .1 (if3 .left), if2, if1, params-head .ensures .1, pre, good),
+        omega (
+          arith,
+          high,
+          bit,
+          this-of .ensures .0,
+          separated .ensures .1,
+          freed .ensures .1,
+          this-kids .ensures .1,
+          opt .ensures .1 .0,
+          opt .ensures .1 .1 (if3 .left),
+          params-head .ensures .1,
+          pre,
+        ),
         (
           pre .1 .0,
           pre .1 .1,
-          omega (arith, low, few, high, bit, this-of .ensures .0, if4, separated .ensures .1, freed .ensures .1, this-kids .ensures .1, this-kids .kept, if3, opt .ensures .1 .0, opt .kept, opt .ensures .1 .1 (if3 .left), if2, if1, params-head .ensures .1, pre, good),
-          omega (arith, low, few, high, bit, this-of .ensures .0, if4, separated .ensures .1, freed .ensures .1, this-kids .ensures .1, this-kids .kept, if3, opt .ensures .1 .0, opt .kept, opt .ensures .1 .1 (if3 .left), if2, if1, params-head .ensures .1, pre, good),
-          omega (arith, low, few, high, bit, this-of .ensures .0, if4, separated .ensures .1, freed .ensures .1, this-kids .ensures .1, this-kids .kept, if3, opt .ensures .1 .0, opt .kept, opt .ensures .1 .1 (if3 .left), if2, if1, params-head .ensures .1, pre, good),
-          omega (arith, low, few, high, bit, this-of .ensures .0, if4, separated .ensures .1, freed .ensures .1, this-kids .ensures .1, this-kids .kept, if3, opt .ensures .1 .0, opt .kept, opt .ensures .1 .1 (if3 .left), if2, if1, params-head .ensures .1, pre, good),
+          omega (
+            arith,
+            low,
+            few,
+            high,
+            bit,
+            this-of .ensures .0,
+            separated .ensures .1,
+            freed .ensures .1,
+            this-kids .ensures .1,
+            this-kids .kept,
+            opt .ensures .1 .0,
+            opt .kept,
+            opt .ensures .1 .1 (if3 .left),
+            params-head .ensures .1,
+            pre,
+          ),
+          omega (
+            arith,
+            low,
+            few,
+            high,
+            bit,
+            this-of .ensures .0,
+            separated .ensures .1,
+            freed .ensures .1,
+            this-kids .ensures .1,
+            opt .ensures .1 .0,
+            opt .ensures .1 .1 (if3 .left),
+            params-head .ensures .1,
+            pre,
+          ),
+          omega (
+            arith,
+            low,
+            few,
+            high,
+            bit,
+            this-of .ensures .0,
+            separated .ensures .1,
+            freed .ensures .1,
+            this-kids .ensures .1,
+            opt .ensures .1 .0,
+            opt .ensures .1 .1 (if3 .left),
+            params-head .ensures .1,
+            pre,
+          ),
+          omega (
+            arith,
+            low,
+            few,
+            high,
+            bit,
+            this-of .ensures .0,
+            separated .ensures .1,
+            freed .ensures .1,
+            this-kids .ensures .1,
+            opt .ensures .1 .0,
+            opt .ensures .1 .1 (if3 .left),
+            params-head .ensures .1,
+            pre,
+          ),
         ),
       )
 
@@ -232,7 +337,6 @@ module _ (t : ℕ) where
   pub returns-5 : lts.Need-returns-5 (R t) (params-at t) params.Post
   returns-5 c =
       let args = c .before .before .before .before .before .before .before .before .before .before .before .before .before .before .before .before .before .before .before .before .before .before .before .before .before .before .before .before .before .before .before .before .before .before .before .before .before .before .before .before .args in
-      let good = c .before .before .before .before .before .before .before .before .before .before .before .before .before .before .before .before .before .before .before .before .before .before .before .before .before .before .before .before .before .before .before .before .before .before .before .before .before .before .before .before .good in
       let pre = c .before .before .before .before .before .before .before .before .before .before .before .before .before .before .before .before .before .before .before .before .before .before .before .before .before .before .before .before .before .before .before .before .before .before .before .before .before .before .before .before .pre in
       let params-head = c .before .before .before .before .before .before .before .before .before .before .before .before .before .before .before .before .before .before .before .before .before .before .before .before .before .before .before .before .before .before .before .before .before .before .before .params-head in
       let if1 = c .before .before .before .before .before .before .before .before .before .before .before .before .before .before .before .before .before .before .before .before .before .before .before .before .before .before .before .before .before .before .before .before .before .if1 in
@@ -245,19 +349,52 @@ module _ (t : ℕ) where
       let if4 = c .before .before .before .before .before .before .before .before .before .before .before .if4 in
       let this-of = c .before .before .before .before .before .before .before .before .before .before .this-of in
       let param-list2 = c .before .before .before .before .before .before .param-list2 in
-      let low = freed-low (args .is-new) (args .m .used) (opt .result .m .used) (args .given .room) (omega (arith, pre)) (omega (arith, opt .ensures .1 .0)) in
+      let low = freed-low (args .is-new) (args .m .used) (opt .result .m .used) (args .given .room) (omega arith)
+      (omega (arith, opt .ensures .1 .0)) in
       let few = freed-low (args .is-new) (args .m .named) (opt .result .m .named) (opt .result .m .at)
-      (omega (arith, opt .ensures .1 .0, opt .ensures .1 .1 (if3 .left), params-head .ensures .1, pre)) (omega (arith, opt .ensures .1 .0)) in
+      (omega (arith, opt .ensures .1 .0, opt .ensures .1 .1 (if3 .left))) (omega (arith, opt .ensures .1 .0)) in
       let high = freed-high (args .is-new) (args .m .used) (opt .result .m .used) (args .m .used) (omega arith)
       (omega (arith, opt .ensures .1 .1 (if3 .left), params-head .ensures .1)) in
       let bit = bit-low (opt .result .high) in (
         λ text B r s b.
             params-this _ _ _ _ _ _ (params-head .ensures .0) (if1 .left) (if2 .left) (opt .ensures .0 text s) (if3 .left) (freed .ensures .0)
             (separated .ensures .0)
-            (if4 .left) (separated .ensures .1) (this-kids .ensures .0) b (omega (arith, opt .kept)) (omega (arith, pre)) (this-of .ensures)
+            (if4 .left) (separated .ensures .1) (this-kids .ensures .0) b (omega (arith, opt .kept)) (omega arith) (this-of .ensures)
             (λ run th built i. param-list2 .ensures .0 text B run th s built i),
         (
-          omega (arith, low, few, high, bit, param-list2 .ensures .1 .0, param-list2 .kept, this-of .ensures .0, if4, separated .ensures .1, freed .ensures .1, this-kids .ensures .1, this-kids .kept, if3, opt .ensures .1 .0, opt .kept, opt .ensures .1 .1 (if3 .left), if2, if1, params-head .ensures .1, pre, good),
-          λ z. omega (arith, low, few, high, bit, param-list2 .ensures .1 .0, param-list2 .kept, this-of .ensures .0, if4, separated .ensures .1, freed .ensures .1, this-kids .ensures .1, this-kids .kept, if3, opt .ensures .1 .0, opt .kept, opt .ensures .1 .1 (if3 .left), if2, if1, params-head .ensures .1, pre, good, z, param-list2 .ensures .1 .1 z),
+          omega (
+            arith,
+            low,
+            few,
+            high,
+            bit,
+            param-list2 .ensures .1 .0,
+            this-of .ensures .0,
+            separated .ensures .1,
+            freed .ensures .1,
+            this-kids .ensures .1,
+            opt .ensures .1 .0,
+            opt .ensures .1 .1 (if3 .left),
+            params-head .ensures .1,
+            pre,
+          ),
+          λ z. omega (
+            arith,
+            low,
+            few,
+            high,
+            bit,
+            param-list2 .ensures .1 .0,
+            this-of .ensures .0,
+            separated .ensures .1,
+            freed .ensures .1,
+            this-kids .ensures .1,
+            opt .ensures .1 .0,
+            opt .ensures .1 .1 (if3 .left),
+            params-head .ensures .1,
+            pre,
+            z,
+            param-list2 .ensures .1 .1 z,
+          ),
         ),
       )

@@ -16,8 +16,7 @@ R t = (ty-below t, ty.Post, at-reads.Asked, at-reads.Learnt, parens-node-reads.A
 
 module _ (t : ℕ) where
   pub add-t11 : lts.Need-add-t11 (R t) (parens-at t) parens.Post
-  add-t11 c =
-      omega arith
+  add-t11 c = omega arith
 
   pub ty-requires : lts.Need-ty-requires (R t) (parens-at t) parens.Post
   ty-requires c κs =
@@ -62,7 +61,6 @@ module _ (t : ℕ) where
 
   pub returns-2 : lts.Need-returns-2 (R t) (parens-at t) parens.Post
   returns-2 c =
-      let good = c .before .before .before .before .before .before .before .before .before .before .before .before .before .before .before .before .before .before .before .before .before .before .good in
       let pre = c .before .before .before .before .before .before .before .before .before .before .before .before .before .before .before .before .before .before .before .before .before .before .pre in
       let ty = c .before .before .before .before .before .before .before .before .before .before .before .before .before .ty in
       let if1 = c .before .before .before .before .before .if1 in
@@ -72,5 +70,5 @@ module _ (t : ℕ) where
             let got = ty .ensures .0 text s .done (if1 .left) in
             says-same (brackets-from _ _ _ (at .result .first) (at .ensures .0 .0) (got .is))
             (parens-node .ensures .0 text _ (got .tree) _ _ (got .stands) (at .ensures .0 .1)),
-        (omega arith, λ z. omega (arith, ty .ensures .1 .1 (if1 .left), pre, good, z)),
+        (omega arith, λ z. omega (arith, ty .ensures .1 .1 (if1 .left), pre)),
       )

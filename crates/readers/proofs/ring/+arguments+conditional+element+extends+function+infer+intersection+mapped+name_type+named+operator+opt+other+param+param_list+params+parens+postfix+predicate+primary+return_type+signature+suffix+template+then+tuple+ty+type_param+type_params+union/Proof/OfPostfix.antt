@@ -28,8 +28,8 @@ R t = (primary-below t, primary.Post, at-reads.Asked, at-reads.Learnt, suffixed-
 abbrev pub Inv-loop : lts.InvT-loop
 Inv-loop words classes nodes₀ names₀ notes₀ given p₀ high₀ b nodes names notes p high =
     Kept (length words) given nodes₀ names₀ notes₀ p₀ nodes names notes p × ((1 ≤ p .used) × (high ≤ tallest))
-    ×
-    ((text : List ℕ) (B : Was) (u : Placed) → Spelt text words → Stands 0 B u high₀ p₀ nodes₀ names₀ notes₀ → b .name ≡ B .named → SuffixTurn (givenOf text words given) (below given (givenOf text words given)) (b .first) u (view p₀ notes₀) B high p nodes names notes)
+    × ((text : List ℕ) (B : Was) (u : Placed) → Spelt text words → Stands 0 B u high₀ p₀ nodes₀ names₀ notes₀ → b .name ≡ B .named
+    → SuffixTurn (givenOf text words given) (below given (givenOf text words given)) (b .first) u (view p₀ notes₀) B high p nodes names notes)
 
 abbrev pub μ-loop : lts.MeasureT-loop
 μ-loop words classes nodes₀ names₀ notes₀ given p₀ high₀ b nodes names notes p high =
@@ -88,12 +88,12 @@ module _ (t : ℕ) where
   pub suffix-requires : lts.Need-suffix-requires (R t) (postfix-at t) postfix.Post Inv-loop μ-loop
   suffix-requires c κs =
       let args = c .before .before .before .before .before .before .before .before .before .before .before .before .before .before .before .before .before .before .before .before .before .before .before .before .args in
-      let suffixed = c .before .before .before .before .suffixed in
-      let if2 = c .before .before .before .if2 in
       let pre = c .before .before .before .before .before .before .before .before .before .before .before .before .before .before .before .before .before .before .before .before .before .before .before .before .pre in
       let primary = c .before .before .before .before .before .before .before .before .before .before .before .before .before .before .before .before .primary in
       let if1 = c .before .before .before .before .before .before .before .before .if1 in
-      let loop = c .before .before .before .before .before .loop in (
+      let loop = c .before .before .before .before .before .loop in
+      let suffixed = c .before .before .before .before .suffixed in
+      let if2 = c .before .before .before .if2 in (
         omega (arith, primary .ensures .1 .1 (if1 .left)),
         (
           pre .1 .0,
@@ -129,43 +129,41 @@ module _ (t : ℕ) where
   pub returns-2 : lts.Need-returns-2 (R t) (postfix-at t) postfix.Post Inv-loop μ-loop
   returns-2 c =
       let args = c .before .before .before .before .before .before .before .before .before .before .before .before .before .before .before .before .before .before .before .before .before .before .before .before .before .before .before .before .before .before .before .before .before .args in
-      let suffixed = c .before .before .before .before .before .before .before .before .before .before .before .before .before .suffixed in
-      let if2 = c .before .before .before .before .before .before .before .before .before .before .before .before .if2 in
       let primary = c .before .before .before .before .before .before .before .before .before .before .before .before .before .before .before .before .before .before .before .before .before .before .before .before .before .primary in
       let if1 = c .before .before .before .before .before .before .before .before .before .before .before .before .before .before .before .before .before .if1 in
       let at = c .before .before .before .before .before .before .before .before .before .before .before .before .before .before .before .at in
       let loop = c .before .before .before .before .before .before .before .before .before .before .before .before .before .before .loop in
+      let suffixed = c .before .before .before .before .before .before .before .before .before .before .before .before .before .suffixed in
+      let if2 = c .before .before .before .before .before .before .before .before .before .before .before .before .if2 in
       let suffix = c .before .before .before .before .before .before .before .before .suffix in
       let if3 = c .if3 in (
         λ text s.
             let g = givenOf text (args .words .now) (args .given) in
             let T = below (args .given) g in
-            let w = marks-turn text (args .words .now) (args .given) T (args .m) (args .nodes .now) (args .names .now) (args .notes .now) {b = at .result} (primary .ensures .0 text s) (if1 .left) (at .ensures .0 .0) (at .ensures .0 .1)
+            let w = marks-turn text (args .words .now) (args .given) T (args .m) (args .nodes .now) (args .names .now) (args .notes .now)
+            {b = at .result} (primary .ensures .0 text s) (if1 .left) (at .ensures .0 .0) (at .ensures .0 .1)
             (λ B u h n. loop .inv .2 text B u s h n) in
             mark-refused text (args .words .now) (args .given) T (at .result .first) w
             (sym (suffixed .ensures text (loop .notes) (args .given)) ∙ if2 .taken)
-            (suffix .ensures .0 text (was (args .m) (args .nodes .now) (args .names .now) (args .notes .now)) (w .tree) s (w .stands) (at .ensures .0 .1))
-            (if3 .taken),
+            (suffix .ensures .0 text (was (args .m) (args .nodes .now) (args .names .now) (args .notes .now)) (w .tree) s (w .stands)
+            (at .ensures .0 .1)) (if3 .taken),
         (omega arith, λ z. omega arith),
       )
 
   pub loop-less : lts.Need-loop-less (R t) (postfix-at t) postfix.Post Inv-loop μ-loop
   loop-less c =
-      let primary = c .before .before .before .before .before .before .before .before .before .before .before .before .before .before .before .before .before .before .before .before .before .before .before .before .before .before .primary in
-      let if1 = c .before .before .before .before .before .before .before .before .before .before .before .before .before .before .before .before .before .before .if1 in
-      let at = c .before .before .before .before .before .before .before .before .before .before .before .before .before .before .before .before .at in
       let loop = c .before .before .before .before .before .before .before .before .before .before .before .before .before .before .before .loop in
       let suffix = c .before .before .before .before .before .before .before .before .before .suffix in
       let if3 = c .before .if3 in
-      omega (arith, suffix .ensures .1 .1 (if3 .left), loop .inv .0, loop .inv .1, at .ensures .0, at .ensures .1, primary .ensures .1 .0, primary .ensures .1 .1 (if1 .left))
+      omega (arith, suffix .ensures .1 .1 (if3 .left), loop .inv .1)
 
   pub loop-again : lts.Need-loop-again (R t) (postfix-at t) postfix.Post Inv-loop μ-loop
   loop-again c =
       let args = c .before .before .before .before .before .before .before .before .before .before .before .before .before .before .before .before .before .before .before .before .before .before .before .before .before .before .before .before .before .before .before .before .before .before .args in
-      let suffixed = c .before .before .before .before .before .before .before .before .before .before .before .before .before .before .suffixed in
-      let if2 = c .before .before .before .before .before .before .before .before .before .before .before .before .before .if2 in
       let at = c .before .before .before .before .before .before .before .before .before .before .before .before .before .before .before .before .at in
       let loop = c .before .before .before .before .before .before .before .before .before .before .before .before .before .before .before .loop in
+      let suffixed = c .before .before .before .before .before .before .before .before .before .before .before .before .before .before .suffixed in
+      let if2 = c .before .before .before .before .before .before .before .before .before .before .before .before .before .if2 in
       let suffix = c .before .before .before .before .before .before .before .before .before .suffix in
       let if3 = c .before .if3 in (
         omega (arith, suffix .ensures .1 .1 (if3 .left)),
@@ -191,16 +189,17 @@ module _ (t : ℕ) where
   pub returns-3 : lts.Need-returns-3 (R t) (postfix-at t) postfix.Post Inv-loop μ-loop
   returns-3 c =
       let args = c .before .before .before .before .before .before .before .before .before .before .before .before .before .before .before .before .before .before .before .before .before .args in
-      let suffixed = c .before .suffixed in
-      let if2 = c .if2 in
       let primary = c .before .before .before .before .before .before .before .before .before .before .before .before .before .primary in
       let if1 = c .before .before .before .before .before .if1 in
       let at = c .before .before .before .at in
-      let loop = c .before .before .loop in (
+      let loop = c .before .before .loop in
+      let suffixed = c .before .suffixed in
+      let if2 = c .if2 in (
         λ text s.
             let g = givenOf text (args .words .now) (args .given) in
             let T = below (args .given) g in
-            let w = marks-turn text (args .words .now) (args .given) T (args .m) (args .nodes .now) (args .names .now) (args .notes .now) {b = at .result} (primary .ensures .0 text s) (if1 .left) (at .ensures .0 .0) (at .ensures .0 .1)
+            let w = marks-turn text (args .words .now) (args .given) T (args .m) (args .nodes .now) (args .names .now) (args .notes .now)
+            {b = at .result} (primary .ensures .0 text s) (if1 .left) (at .ensures .0 .0) (at .ensures .0 .1)
             (λ B u h n. loop .inv .2 text B u s h n) in
             marks-end text (args .words .now) (args .given) T (at .result .first) w
             (sym (suffixed .ensures text (loop .notes) (args .given)) ∙ if2 .left),

@@ -28,7 +28,22 @@ use Rattle.readers.proofs.ring.+arguments+conditional+element+extends+f
 use Rattle.readers.proofs.ring.+arguments+conditional+element+extends+function+infer+intersection+mapped+name_type+named+operator+opt+other+param+param_list+params+parens+postfix+predicate+primary+return_type+signature+suffix+template+then+tuple+ty+type_param+type_params+union.Proof.Base.{opt-below, predicate-at}
 
 abbrev pub R : ℕ → lts.Claims
-R t = (subject-reads.Asked, subject-reads.Learnt, opt-below t, opt.Post, state-Kids-none-reads.Asked, state-Kids-none-reads.Learnt, link-opt-reads.Asked, link-opt-reads.Learnt, opt-bit-reads.Asked, opt-bit-reads.Learnt, at-reads.Asked, at-reads.Learnt, put-reads.Asked, put-reads.Learnt)
+R t = (
+  subject-reads.Asked,
+  subject-reads.Learnt,
+  opt-below t,
+  opt.Post,
+  state-Kids-none-reads.Asked,
+  state-Kids-none-reads.Learnt,
+  link-opt-reads.Asked,
+  link-opt-reads.Learnt,
+  opt-bit-reads.Asked,
+  opt-bit-reads.Learnt,
+  at-reads.Asked,
+  at-reads.Learnt,
+  put-reads.Asked,
+  put-reads.Learnt,
+)
 
 module _ (t : ℕ) where
   pub subject-requires : lts.Need-subject-requires (R t) (predicate-at t) predicate.Post
@@ -67,12 +82,11 @@ module _ (t : ℕ) where
 
   pub link-opt-requires : lts.Need-link-opt-requires (R t) (predicate-at t) predicate.Post
   link-opt-requires c κs =
-      let good = c .before .before .before .before .before .before .before .before .before .before .before .before .before .before .before .before .before .before .before .before .before .before .before .before .good in
       let pre = c .before .before .before .before .before .before .before .before .before .before .before .before .before .before .before .before .before .before .before .before .before .before .before .before .pre in
       let opt = c .before .before .before .before .before .before .before .before .before .before .before .opt in
       let if1 = c .before .before .before .if1 in
       let none = c .none in
-      omega (arith, same-kids (none .ensures), opt .ensures .1 .1 (if1 .left), pre, good)
+      omega (arith, same-kids (none .ensures), opt .ensures .1 .1 (if1 .left), pre)
 
   pub mul-choices : lts.Need-mul-choices (R t) (predicate-at t) predicate.Post
   mul-choices c = omega arith
@@ -87,12 +101,7 @@ module _ (t : ℕ) where
   add-choices c =
       let args = c .before .before .before .before .before .before .before .before .before .before .before .before .before .before .before .before .before .before .before .before .before .before .before .before .before .before .before .before .before .args in
       let subject = c .before .before .before .before .before .before .before .before .before .before .before .before .before .before .before .before .before .before .before .before .before .before .before .subject in
-      let opt = c .before .before .before .before .before .before .before .before .before .before .before .before .before .before .before .before .opt in
-      let if1 = c .before .before .before .before .before .before .before .before .if1 in
-      let none = c .before .before .before .before .before .none in
-      let link-opt = c .before .before .before .before .link-opt in
-      let opt-bit = c .before .opt-bit in
-      omega (arith, predicate-small (args .asserts) (here (args .words .now) kind.This (subjectMark (args .asserts) (args .m))), opt-bit .ensures .0, opt-bit .ensures .1, link-opt .ensures .1, same-kids (none .ensures), opt .ensures .1 .0, opt .ensures .1 .1 (if1 .left), subject .ensures .1 .1)
+      omega (arith, predicate-small (args .asserts) (here (args .words .now) kind.This (subjectMark (args .asserts) (args .m))), subject .ensures .1 .1)
 
   pub at-requires : lts.Need-at-requires (R t) (predicate-at t) predicate.Post
   at-requires c κs =
@@ -109,8 +118,7 @@ module _ (t : ℕ) where
   pub same-length-4 : lts.Need-same-length-4 (R t) (predicate-at t) predicate.Post
   same-length-4 c =
       let opt = c .before .before .before .before .before .before .before .before .before .before .before .before .before .before .before .before .before .before .before .before .before .opt in
-      let link-opt = c .before .before .before .before .before .before .before .before .before .link-opt in
-      omega (arith, link-opt .kept, opt .kept)
+      omega (arith, opt .kept)
 
   pub same-length-5 : lts.Need-same-length-5 (R t) (predicate-at t) predicate.Post
   same-length-5 c =
@@ -139,19 +147,32 @@ module _ (t : ℕ) where
         λ text s.
             let begins = predicate-starts _ _ (args .asserts) (args .m) (subject .result .m) (args .notes .now) (subject .ensures .1 .1) in
             let x = opt .ensures .0 text s .done (if1 .left) in
-            let about = function.subject (givenOf text (args .words .now) (args .given)) (subjectAt (args .asserts) (view (args .m) (args .notes .now))) in
+            let about = function.subject (givenOf text (args .words .now) (args .given))
+            (subjectAt (args .asserts) (view (args .m) (args .notes .now))) in
             let this-is = subject-this text (args .words .now) (args .given) (args .asserts) (args .m) (args .notes .now) in
             says-same
             (begins ∙ then-read _ (x .is)
             ∙ make-first _ _ _ _ _ (at .ensures .0 .0))
             (put .ensures .0 text 0 _ _ 16 _ _ _
-            (built-option (subject .result .m) (opt .result .m) (built-spoken (none .ensures) (subject .ensures .0 text (args .notes .now) (args .given) s))
+            (built-option (subject .result .m) (opt .result .m)
+            (built-spoken (none .ensures) (subject .ensures .0 text (args .notes .now) (args .given) s))
             x (omega arith) (link-opt .ensures .0))
             (at .ensures .0 .1)
             (shape-as (omega (arith, ap (predicateChoices (args .asserts)) this-is, ap optBit (x .high-is)))
             (shape-predicate (args .asserts) about (x .tree) (x .is-opt)))),
         (
-          omega (arith, at .ensures .0, at .ensures .1, opt-bit .ensures .0, opt-bit .ensures .1, link-opt .ensures .1, same-kids (none .ensures), opt .ensures .1 .0, opt .ensures .1 .1 (if1 .left), subject .ensures .1 .1),
+          omega (
+            arith,
+            at .ensures .0,
+            at .ensures .1,
+            opt-bit .ensures .0,
+            opt-bit .ensures .1,
+            link-opt .ensures .1,
+            same-kids (none .ensures),
+            opt .ensures .1 .0,
+            opt .ensures .1 .1 (if1 .left),
+            subject .ensures .1 .1,
+          ),
           λ z. omega (arith, if1, opt .ensures .1 .1 (if1 .left), pre, good, z),
         ),
       )

@@ -20,7 +20,28 @@ use Rattle.readers.proofs.ring.+arguments+conditional+element+extends+f
 use Rattle.readers.proofs.ring.+arguments+conditional+element+extends+function+infer+intersection+mapped+name_type+named+operator+opt+other+param+param_list+params+parens+postfix+predicate+primary+return_type+signature+suffix+template+then+tuple+ty+type_param+type_params+union.Proof.Base.{mapped-below, named-below, parens-below, predicate-below, primary-at, template-below, tuple-below}
 
 abbrev pub R : ℕ → lts.Claims
-R t = (primary-start-reads.Asked, primary-start-reads.Learnt, keyword-reads.Asked, keyword-reads.Learnt, literal-reads.Asked, literal-reads.Learnt, predicate-below t, predicate.Post, named-below t, named.Post, mapped-below t, mapped.Post, tuple-below t, tuple.Post, parens-below t, parens.Post, template-below t, template.Post, state-Answer-refused-reads.Asked, state-Answer-refused-reads.Learnt)
+R t = (
+  primary-start-reads.Asked,
+  primary-start-reads.Learnt,
+  keyword-reads.Asked,
+  keyword-reads.Learnt,
+  literal-reads.Asked,
+  literal-reads.Learnt,
+  predicate-below t,
+  predicate.Post,
+  named-below t,
+  named.Post,
+  mapped-below t,
+  mapped.Post,
+  tuple-below t,
+  tuple.Post,
+  parens-below t,
+  parens.Post,
+  template-below t,
+  template.Post,
+  state-Answer-refused-reads.Asked,
+  state-Answer-refused-reads.Learnt,
+)
 
 module _ (t : ℕ) where
   pub primary-start-requires : lts.Need-primary-start-requires (R t) (primary-at t) primary.Post
@@ -34,9 +55,9 @@ module _ (t : ℕ) where
   pub keyword-requires : lts.Need-keyword-requires (R t) (primary-at t) primary.Post
   keyword-requires c κs =
       let args = c .before .before .before .before .before .before .before .before .args in
+      let pre = c .before .before .before .before .before .before .before .before .pre in
       let primary-start = c .before .before .before .primary-start in
       let enum-told = c .before .enum-told in
-      let pre = c .before .before .before .before .before .before .before .before .pre in
       (pre .1 .1, omega arith, omega arith, start-has (args .words .now) (args .m) (enum-told .given .1) (primary-start .ensures .1))
 
   pub same-length : lts.Need-same-length (R t) (primary-at t) primary.Post
@@ -45,15 +66,15 @@ module _ (t : ℕ) where
   pub returns : lts.Need-returns (R t) (primary-at t) primary.Post
   returns c =
       let args = c .before .before .before .before .before .before .before .before .before .before .before .args in
+      let pre = c .before .before .before .before .before .before .before .before .before .before .before .pre in
       let primary-start = c .before .before .before .before .before .before .primary-start in
       let enum-told = c .before .before .before .before .enum-told in
-      let pre = c .before .before .before .before .before .before .before .before .before .before .before .pre in
       let keyword = c .before .before .keyword in (
         λ text s.
-            says-same
-            (start-is (args .words .now) (args .m) (enum-told .given .1) (primary-start .ensures .0) text (args .notes .now) (args .given) _)
+            says-same (start-is (args .words .now) (args .m) (enum-told .given .1) (primary-start .ensures .0) text (args .notes .now)
+            (args .given) _)
             (keyword .ensures .0 text _ _),
-        (omega arith, λ z. omega (arith, pre, z)),
+        (omega arith, λ z. omega (arith, pre)),
       )
 
   pub enum-told-2 : lts.Need-enum-told-2 (R t) (primary-at t) primary.Post
@@ -62,9 +83,9 @@ module _ (t : ℕ) where
   pub literal-requires : lts.Need-literal-requires (R t) (primary-at t) primary.Post
   literal-requires c κs =
       let args = c .before .before .before .before .before .before .before .before .before .args in
+      let pre = c .before .before .before .before .before .before .before .before .before .pre in
       let primary-start = c .before .before .before .before .primary-start in
       let enum-told2 = c .before .before .enum-told2 in
-      let pre = c .before .before .before .before .before .before .before .before .before .pre in
       let has = start-has (args .words .now) (args .m) (enum-told2 .given .1) (primary-start .ensures .1) in
       (pre .1 .1, omega arith, omega arith, has .0, has .1)
 
@@ -77,14 +98,15 @@ module _ (t : ℕ) where
   pub returns-2 : lts.Need-returns-2 (R t) (primary-at t) primary.Post
   returns-2 c =
       let args = c .before .before .before .before .before .before .before .before .before .before .before .before .before .before .args in
+      let pre = c .before .before .before .before .before .before .before .before .before .before .before .before .before .before .pre in
       let primary-start = c .before .before .before .before .before .before .before .before .before .primary-start in
       let enum-told2 = c .before .before .before .before .before .before .before .enum-told2 in
-      let pre = c .before .before .before .before .before .before .before .before .before .before .before .before .before .before .pre in
       let literal = c .before .before .before .before .literal in (
         λ text s.
-            let is = start-is (args .words .now) (args .m) (enum-told2 .given .1) (primary-start .ensures .0) text (args .notes .now) (args .given) _ in
+            let is = start-is (args .words .now) (args .m) (enum-told2 .given .1) (primary-start .ensures .0) text (args .notes .now)
+            (args .given) _ in
             says-same (is .0) (literal .ensures .0 text _ s (is .1)),
-        (omega arith, λ z. omega (arith, pre, z)),
+        (omega arith, λ z. omega (arith, pre)),
       )
 
   pub enum-told-3 : lts.Need-enum-told-3 (R t) (primary-at t) primary.Post
@@ -93,9 +115,9 @@ module _ (t : ℕ) where
   pub predicate-requires : lts.Need-predicate-requires (R t) (primary-at t) primary.Post
   predicate-requires c κs =
       let args = c .before .before .before .before .before .before .before .before .before .before .args in
+      let pre = c .before .before .before .before .before .before .before .before .before .before .pre in
       let primary-start = c .before .before .before .before .before .primary-start in
       let enum-told3 = c .before .before .before .enum-told3 in
-      let pre = c .before .before .before .before .before .before .before .before .before .before .pre in
       let has = start-has (args .words .now) (args .m) (enum-told3 .given .1) (primary-start .ensures .1) in
       (omega arith, (pre .1 .0, pre .1 .1, omega arith, omega arith, omega arith))
 
@@ -115,8 +137,8 @@ module _ (t : ℕ) where
       let enum-told3 = c .before .before .before .before .before .before .before .before .before .before .enum-told3 in
       let predicate = c .before .before .before .before .before .before .predicate in (
         λ text s.
-            says-same
-            (start-is (args .words .now) (args .m) (enum-told3 .given .1) (primary-start .ensures .0) text (args .notes .now) (args .given) _)
+            says-same (start-is (args .words .now) (args .m) (enum-told3 .given .1) (primary-start .ensures .0) text (args .notes .now)
+            (args .given) _)
             (predicate .ensures .0 text s),
         (omega arith, λ z. omega (arith, predicate .ensures .1 .1 z)),
       )
@@ -127,9 +149,9 @@ module _ (t : ℕ) where
   pub predicate-requires-2 : lts.Need-predicate-requires-2 (R t) (primary-at t) primary.Post
   predicate-requires-2 c κs =
       let args = c .before .before .before .before .before .before .before .before .before .before .args in
+      let pre = c .before .before .before .before .before .before .before .before .before .before .pre in
       let primary-start = c .before .before .before .before .before .primary-start in
       let enum-told4 = c .before .before .before .enum-told4 in
-      let pre = c .before .before .before .before .before .before .before .before .before .before .pre in
       let has = start-has (args .words .now) (args .m) (enum-told4 .given .1) (primary-start .ensures .1) in
       (omega arith, (pre .1 .0, pre .1 .1, omega arith, omega arith, omega arith))
 
@@ -149,8 +171,8 @@ module _ (t : ℕ) where
       let enum-told4 = c .before .before .before .before .before .before .before .before .before .before .enum-told4 in
       let predicate2 = c .before .before .before .before .before .before .predicate2 in (
         λ text s.
-            says-same
-            (start-is (args .words .now) (args .m) (enum-told4 .given .1) (primary-start .ensures .0) text (args .notes .now) (args .given) _)
+            says-same (start-is (args .words .now) (args .m) (enum-told4 .given .1) (primary-start .ensures .0) text (args .notes .now)
+            (args .given) _)
             (predicate2 .ensures .0 text s),
         (omega arith, λ z. omega (arith, predicate2 .ensures .1 .1 z)),
       )
@@ -177,8 +199,8 @@ module _ (t : ℕ) where
       let enum-told5 = c .before .before .before .before .before .before .before .before .before .before .enum-told5 in
       let named = c .before .before .before .before .before .before .named in (
         λ text s.
-            says-same
-            (start-is (args .words .now) (args .m) (enum-told5 .given .1) (primary-start .ensures .0) text (args .notes .now) (args .given) _)
+            says-same (start-is (args .words .now) (args .m) (enum-told5 .given .1) (primary-start .ensures .0) text (args .notes .now)
+            (args .given) _)
             (named .ensures .0 text s),
         (omega arith, λ z. omega (arith, named .ensures .1 .1 z)),
       )
@@ -189,9 +211,9 @@ module _ (t : ℕ) where
   pub mapped-requires : lts.Need-mapped-requires (R t) (primary-at t) primary.Post
   mapped-requires c κs =
       let args = c .before .before .before .before .before .before .before .before .before .before .args in
+      let pre = c .before .before .before .before .before .before .before .before .before .before .pre in
       let primary-start = c .before .before .before .before .before .primary-start in
       let enum-told6 = c .before .before .before .enum-told6 in
-      let pre = c .before .before .before .before .before .before .before .before .before .before .pre in
       let has = start-has (args .words .now) (args .m) (enum-told6 .given .1) (primary-start .ensures .1) in
       (omega arith, (pre .1 .0, pre .1 .1, omega arith, omega arith, omega arith))
 
@@ -211,7 +233,8 @@ module _ (t : ℕ) where
       let enum-told6 = c .before .before .before .before .before .before .before .before .before .before .enum-told6 in
       let mapped = c .before .before .before .before .before .before .mapped in (
         λ text s.
-            let is = start-is (args .words .now) (args .m) (enum-told6 .given .1) (primary-start .ensures .0) text (args .notes .now) (args .given) _ in
+            let is = start-is (args .words .now) (args .m) (enum-told6 .given .1) (primary-start .ensures .0) text (args .notes .now)
+            (args .given) _ in
             says-same (is .0) (mapped .ensures .0 (is .1) text s),
         (omega arith, λ z. omega (arith, mapped .ensures .1 .1 z)),
       )
@@ -222,9 +245,9 @@ module _ (t : ℕ) where
   pub tuple-requires : lts.Need-tuple-requires (R t) (primary-at t) primary.Post
   tuple-requires c κs =
       let args = c .before .before .before .before .before .before .before .before .before .before .args in
+      let pre = c .before .before .before .before .before .before .before .before .before .before .pre in
       let primary-start = c .before .before .before .before .before .primary-start in
       let enum-told7 = c .before .before .before .enum-told7 in
-      let pre = c .before .before .before .before .before .before .before .before .before .before .pre in
       let has = start-has (args .words .now) (args .m) (enum-told7 .given .1) (primary-start .ensures .1) in
       (omega arith, (pre .1 .0, pre .1 .1, omega arith, omega arith, omega arith))
 
@@ -244,7 +267,8 @@ module _ (t : ℕ) where
       let enum-told7 = c .before .before .before .before .before .before .before .before .before .before .enum-told7 in
       let tuple = c .before .before .before .before .before .before .tuple in (
         λ text s.
-            let is = start-is (args .words .now) (args .m) (enum-told7 .given .1) (primary-start .ensures .0) text (args .notes .now) (args .given) _ in
+            let is = start-is (args .words .now) (args .m) (enum-told7 .given .1) (primary-start .ensures .0) text (args .notes .now)
+            (args .given) _ in
             says-same (is .0) (tuple .ensures .0 (is .1) text s),
         (omega arith, λ z. omega (arith, tuple .ensures .1 .1 z)),
       )
@@ -255,9 +279,9 @@ module _ (t : ℕ) where
   pub parens-requires : lts.Need-parens-requires (R t) (primary-at t) primary.Post
   parens-requires c κs =
       let args = c .before .before .before .before .before .before .before .before .before .before .args in
+      let pre = c .before .before .before .before .before .before .before .before .before .before .pre in
       let primary-start = c .before .before .before .before .before .primary-start in
       let enum-told8 = c .before .before .before .enum-told8 in
-      let pre = c .before .before .before .before .before .before .before .before .before .before .pre in
       let has = start-has (args .words .now) (args .m) (enum-told8 .given .1) (primary-start .ensures .1) in
       (omega arith, (pre .1 .0, pre .1 .1, omega arith, omega arith, omega arith))
 
@@ -277,8 +301,8 @@ module _ (t : ℕ) where
       let enum-told8 = c .before .before .before .before .before .before .before .before .before .before .enum-told8 in
       let parens = c .before .before .before .before .before .before .parens in (
         λ text s.
-            says-same
-            (start-is (args .words .now) (args .m) (enum-told8 .given .1) (primary-start .ensures .0) text (args .notes .now) (args .given) _)
+            says-same (start-is (args .words .now) (args .m) (enum-told8 .given .1) (primary-start .ensures .0) text (args .notes .now)
+            (args .given) _)
             (parens .ensures .0 text s),
         (omega arith, λ z. omega (arith, parens .ensures .1 .1 z)),
       )
@@ -289,9 +313,9 @@ module _ (t : ℕ) where
   pub template-requires : lts.Need-template-requires (R t) (primary-at t) primary.Post
   template-requires c κs =
       let args = c .before .before .before .before .before .before .before .before .before .before .args in
+      let pre = c .before .before .before .before .before .before .before .before .before .before .pre in
       let primary-start = c .before .before .before .before .before .primary-start in
       let enum-told9 = c .before .before .before .enum-told9 in
-      let pre = c .before .before .before .before .before .before .before .before .before .before .pre in
       let has = start-has (args .words .now) (args .m) (enum-told9 .given .1) (primary-start .ensures .1) in
       (omega arith, (pre .1 .0, pre .1 .1, omega arith, omega arith, omega arith))
 
@@ -311,7 +335,8 @@ module _ (t : ℕ) where
       let enum-told9 = c .before .before .before .before .before .before .before .before .before .before .enum-told9 in
       let template = c .before .before .before .before .before .before .template in (
         λ text s.
-            let is = start-is (args .words .now) (args .m) (enum-told9 .given .1) (primary-start .ensures .0) text (args .notes .now) (args .given) _ in
+            let is = start-is (args .words .now) (args .m) (enum-told9 .given .1) (primary-start .ensures .0) text (args .notes .now)
+            (args .given) _ in
             says-same (is .0) (template .ensures .0 (is .1) text s),
         (omega arith, λ z. omega (arith, template .ensures .1 .1 z)),
       )
@@ -325,13 +350,14 @@ module _ (t : ℕ) where
   pub returns-10 : lts.Need-returns-10 (R t) (primary-at t) primary.Post
   returns-10 c =
       let args = c .before .before .before .before .before .before .before .before .before .args in
+      let pre = c .before .before .before .before .before .before .before .before .before .pre in
       let primary-start = c .before .before .before .before .primary-start in
       let o = c .before .before .o in
-      let pre = c .before .before .before .before .before .before .before .before .before .pre in
       let refused = c .refused in
       let has = start-has (args .words .now) (args .m) (o .given .1) (primary-start .ensures .1) in (
         λ text s.
             says-as (refused .ensures)
-            (says-stop (λ z. omega arith) (start-is (args .words .now) (args .m) (o .given .1) (primary-start .ensures .0) text (args .notes .now) (args .given) _)),
+            (says-stop (λ z. omega arith) (start-is (args .words .now) (args .m) (o .given .1) (primary-start .ensures .0) text (args .notes .now)
+            (args .given) _)),
         (omega (arith, same-answer (refused .ensures), pre), λ z. omega (arith, same-answer (refused .ensures))),
       )

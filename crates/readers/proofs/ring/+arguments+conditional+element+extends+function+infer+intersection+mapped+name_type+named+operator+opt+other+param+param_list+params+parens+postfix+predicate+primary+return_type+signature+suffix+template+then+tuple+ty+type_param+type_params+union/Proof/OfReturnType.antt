@@ -27,9 +27,9 @@ module _ (t : ℕ) where
   pub predicate-requires : lts.Need-predicate-requires (R t) (return-type-at t) return-type.Post
   predicate-requires c κs =
       let args = c .before .before .before .before .before .before .before .before .before .args in
+      let pre = c .before .before .before .before .before .before .before .before .before .pre in
       let predicates = c .before .before .before .before .predicates in
       let if1 = c .before .before .before .if1 in
-      let pre = c .before .before .before .before .before .before .before .before .before .pre in
       let inside = predicates-inside (givenOf [] (args .words .now) (args .given)) (view (args .m) (args .notes .now))
       (sym (predicates .ensures [] (args .notes .now) (args .given)) ∙ if1 .taken) in
       (omega arith, (pre .1 .0, pre .1 .1, omega arith, omega arith, omega arith))

@@ -20,7 +20,20 @@ use Rattle.readers.proofs.ring.+arguments+conditional+element+extends+f
 use Rattle.readers.proofs.ring.+arguments+conditional+element+extends+function+infer+intersection+mapped+name_type+named+operator+opt+other+param+param_list+params+parens+postfix+predicate+primary+return_type+signature+suffix+template+then+tuple+ty+type_param+type_params+union.Proof.Base.{params-below, return-type-below, signature-at}
 
 abbrev pub R : ℕ → lts.Claims
-R t = (params-below t, params.Post, state-Answer-refused-reads.Asked, state-Answer-refused-reads.Learnt, kind-at-reads.Asked, kind-at-reads.Learnt, return-type-below t, return-type.Post, with-reads.Asked, with-reads.Learnt, function-node-reads.Asked, function-node-reads.Learnt)
+R t = (
+  params-below t,
+  params.Post,
+  state-Answer-refused-reads.Asked,
+  state-Answer-refused-reads.Learnt,
+  kind-at-reads.Asked,
+  kind-at-reads.Learnt,
+  return-type-below t,
+  return-type.Post,
+  with-reads.Asked,
+  with-reads.Learnt,
+  function-node-reads.Asked,
+  function-node-reads.Learnt,
+)
 
 module _ (t : ℕ) where
   pub params-requires : lts.Need-params-requires (R t) (signature-at t) signature.Post
@@ -46,8 +59,8 @@ module _ (t : ℕ) where
       let if1 = c .before .if1 in
       let refused = c .refused in (
         λ text B ts s i b there many n.
-            says-as (refused .ensures)
-            (says-stop (if1 .taken) (signature-is _ _ _ _ _ _ _ ∙ then-refused _ (params .ensures .0 text B _ s b .refused (if1 .taken)))),
+            says-as (refused .ensures) (says-stop (if1 .taken)
+            (signature-is _ _ _ _ _ _ _ ∙ then-refused _ (params .ensures .0 text B _ s b .refused (if1 .taken)))),
         (omega (arith, same-answer (refused .ensures)), λ z. omega (arith, same-answer (refused .ensures))),
       )
 
@@ -77,17 +90,15 @@ module _ (t : ℕ) where
         λ text B ts s i b there many n.
             let got = params .ensures .0 text B _ s b .done (if1 .left) in
             says-as (refused2 .ensures)
-            (says-refused 2 (signature-stops _ _ _ _ _ ts _ (got .is) (is-not-here (args .words .now) (params .result .m) (kind-at .ensures .0) (if2 .taken)))),
+            (says-refused 2 (signature-stops _ _ _ _ _ ts _ (got .is)
+            (is-not-here (args .words .now) (params .result .m) (kind-at .ensures .0) (if2 .taken)))),
         (omega (arith, same-answer (refused2 .ensures)), λ z. omega (arith, same-answer (refused2 .ensures))),
       )
 
   pub add-t22 : lts.Need-add-t22 (R t) (signature-at t) signature.Post
   add-t22 c =
-      let good = c .before .before .before .before .before .before .before .before .before .before .before .before .before .before .before .before .before .before .before .before .before .good in
       let pre = c .before .before .before .before .before .before .before .before .before .before .before .before .before .before .before .before .before .before .before .before .before .pre in
-      let params = c .before .before .before .before .before .before .before .before .before .before .before .before .params in
-      let if1 = c .before .before .before .before .if1 in
-      omega (arith, params .ensures .1 .1 (if1 .left), pre, good)
+      omega (arith, pre)
 
   pub return-type-requires : lts.Need-return-type-requires (R t) (signature-at t) signature.Post
   return-type-requires c κs =
@@ -127,30 +138,46 @@ module _ (t : ℕ) where
 
   pub with-requires : lts.Need-with-requires (R t) (signature-at t) signature.Post
   with-requires c κs =
-      let good = c .before .before .before .before .before .before .before .before .before .before .before .before .before .before .before .before .before .before .before .before .before .before .before .before .before .before .before .before .before .before .before .before .before .before .good in
       let pre = c .before .before .before .before .before .before .before .before .before .before .before .before .before .before .before .before .before .before .before .before .before .before .before .before .before .before .before .before .before .before .before .before .before .before .pre in
       let params = c .before .before .before .before .before .before .before .before .before .before .before .before .before .before .before .before .before .before .before .before .before .before .before .before .before .params in
       let if1 = c .before .before .before .before .before .before .before .before .before .before .before .before .before .before .before .before .before .if1 in
-      let if2 = c .before .before .before .before .before .before .before .before .before .before .before .before .before .before .if2 in
       let return-type = c .before .before .before .before .before .before .before .before .before .return-type in
       let if3 = c .before .if3 in
-      omega (arith, return-type .ensures .1 .1 (if3 .left), if2, if1, params .ensures .1 .1 (if1 .left), pre, good)
+      omega (arith, return-type .ensures .1 .1 (if3 .left), params .ensures .1 .1 (if1 .left), pre)
 
   pub function-node-requires : lts.Need-function-node-requires (R t) (signature-at t) signature.Post
   function-node-requires c κs =
-      let good = c .before .before .before .before .before .before .before .before .before .before .before .before .before .before .before .before .before .before .before .before .before .before .before .before .before .before .before .before .before .before .before .before .before .before .before .before .before .before .before .good in
       let pre = c .before .before .before .before .before .before .before .before .before .before .before .before .before .before .before .before .before .before .before .before .before .before .before .before .before .before .before .before .before .before .before .before .before .before .before .before .before .before .before .pre in
       let params = c .before .before .before .before .before .before .before .before .before .before .before .before .before .before .before .before .before .before .before .before .before .before .before .before .before .before .before .before .before .before .params in
       let if1 = c .before .before .before .before .before .before .before .before .before .before .before .before .before .before .before .before .before .before .before .before .before .before .if1 in
-      let kind-at = c .before .before .before .before .before .before .before .before .before .before .before .before .before .before .before .before .before .before .before .before .kind-at in
-      let if2 = c .before .before .before .before .before .before .before .before .before .before .before .before .before .before .before .before .before .before .before .if2 in
       let return-type = c .before .before .before .before .before .before .before .before .before .before .before .before .before .before .return-type in
       let if3 = c .before .before .before .before .before .before .if3 in
       let with = c .before .before .before .before .with in (
         pre .1 .1,
-        omega (arith, with .ensures .0 .0, with .ensures .0 .1, ap (λ (x : This). x .bits) (with .ensures .0 .2), same-mark (with .ensures .0 .3), with .ensures .1, with .kept, if3, return-type .ensures .1 .0, return-type .kept, return-type .ensures .1 .1 (if3 .left), if2, kind-at .ensures .0, kind-at .ensures .1, if1, params .ensures .1 .0, params .kept, params .ensures .1 .1 (if1 .left), pre, good),
-        omega (arith, with .ensures .0 .0, with .ensures .0 .1, ap (λ (x : This). x .bits) (with .ensures .0 .2), same-mark (with .ensures .0 .3), with .ensures .1, with .kept, if3, return-type .ensures .1 .0, return-type .kept, return-type .ensures .1 .1 (if3 .left), if2, kind-at .ensures .0, kind-at .ensures .1, if1, params .ensures .1 .0, params .kept, params .ensures .1 .1 (if1 .left), pre, good),
-        omega (arith, with .ensures .0 .0, with .ensures .0 .1, ap (λ (x : This). x .bits) (with .ensures .0 .2), same-mark (with .ensures .0 .3), with .ensures .1, with .kept, if3, return-type .ensures .1 .0, return-type .kept, return-type .ensures .1 .1 (if3 .left), if2, kind-at .ensures .0, kind-at .ensures .1, if1, params .ensures .1 .0, params .kept, params .ensures .1 .1 (if1 .left), pre, good),
+        omega (
+          arith,
+          ap (λ (x : This). x .bits) (with .ensures .0 .2),
+          same-mark (with .ensures .0 .3),
+          return-type .ensures .1 .1 (if3 .left),
+          params .ensures .1 .1 (if1 .left),
+          pre,
+        ),
+        omega (
+          arith,
+          ap (λ (x : This). x .bits) (with .ensures .0 .2),
+          same-mark (with .ensures .0 .3),
+          return-type .ensures .1 .1 (if3 .left),
+          params .ensures .1 .1 (if1 .left),
+          pre,
+        ),
+        omega (
+          arith,
+          ap (λ (x : This). x .bits) (with .ensures .0 .2),
+          same-mark (with .ensures .0 .3),
+          return-type .ensures .1 .1 (if3 .left),
+          params .ensures .1 .1 (if1 .left),
+          pre,
+        ),
         omega (arith, same-mark (with .ensures .0 .3)),
         omega (arith, ap (λ (x : This). x .bits) (with .ensures .0 .2)),
         omega arith,
@@ -191,12 +218,13 @@ module _ (t : ℕ) where
             let got = params .ensures .0 text B _ s b .done (if1 .left) in
             let ret = return-type .ensures .0 text s .done (if3 .left) in
             says-same
-            (signature-goes _ _ _ _ _ ts _ (got .is) (is-here (args .words .now) (params .result .m) (kind-at .ensures .0) (if2 .left)) ∙ then-read _ (ret .is))
+            (signature-goes _ _ _ _ _ ts _ (got .is) (is-here (args .words .now) (params .result .m) (kind-at .ensures .0) (if2 .left)) ∙ then-read _
+            (ret .is))
             (signature-node text (args .words .now) (args .given) _ (args .h) (with .result) (return-type .result) ts got ret
             (with .ensures .0 .1) (with .ensures .0 .2) (with .ensures .0 .3) (with .ensures .0 .4)
             (function-node .ensures .0) (omega arith) i there many n),
         (
           omega arith,
-          λ z. omega (arith, with .ensures .0 .1, ap (λ (x : This). x .bits) (with .ensures .0 .2), same-mark (with .ensures .0 .3), with .ensures .1, return-type .ensures .1 .0, return-type .ensures .1 .1 (if3 .left), kind-at .ensures .0, kind-at .ensures .1, params .ensures .1 .0, params .ensures .1 .1 (if1 .left)),
+          λ z. omega (arith, same-mark (with .ensures .0 .3), return-type .ensures .1 .1 (if3 .left), params .ensures .1 .0, params .ensures .1 .1 (if1 .left)),
         ),
       )

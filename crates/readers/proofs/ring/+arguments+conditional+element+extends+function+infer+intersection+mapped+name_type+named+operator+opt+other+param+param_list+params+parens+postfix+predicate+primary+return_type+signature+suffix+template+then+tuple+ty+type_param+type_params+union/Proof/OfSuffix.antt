@@ -28,12 +28,28 @@ use Rattle.readers.proofs.ring.+arguments+conditional+element+extends+f
 use Rattle.readers.proofs.ring.+arguments+conditional+element+extends+function+infer+intersection+mapped+name_type+named+operator+opt+other+param+param_list+params+parens+postfix+predicate+primary+return_type+signature+suffix+template+then+tuple+ty+type_param+type_params+union.Proof.Base.{suffix-at, ty-below}
 
 abbrev pub R : ℕ → lts.Claims
-R t = (kind-at-reads.Asked, kind-at-reads.Learnt, put-about-reads.Asked, put-about-reads.Learnt, starter-reads.Asked, starter-reads.Learnt, array-reads.Asked, array-reads.Learnt, ty-below t, ty.Post, one-reads.Asked, one-reads.Learnt, link-reads.Asked, link-reads.Learnt, bracketed-reads.Asked, bracketed-reads.Learnt)
+R t = (
+  kind-at-reads.Asked,
+  kind-at-reads.Learnt,
+  put-about-reads.Asked,
+  put-about-reads.Learnt,
+  starter-reads.Asked,
+  starter-reads.Learnt,
+  array-reads.Asked,
+  array-reads.Learnt,
+  ty-below t,
+  ty.Post,
+  one-reads.Asked,
+  one-reads.Learnt,
+  link-reads.Asked,
+  link-reads.Learnt,
+  bracketed-reads.Asked,
+  bracketed-reads.Learnt,
+)
 
 module _ (t : ℕ) where
   pub kind-at-requires : lts.Need-kind-at-requires (R t) (suffix-at t) suffix.Post
-  kind-at-requires c κs =
-      search needs
+  kind-at-requires c κs = search needs
 
   pub add-t15 : lts.Need-add-t15 (R t) (suffix-at t) suffix.Post
   add-t15 c = omega arith
@@ -47,8 +63,6 @@ module _ (t : ℕ) where
   pub returns : lts.Need-returns (R t) (suffix-at t) suffix.Post
   returns c =
       let args = c .before .before .before .before .before .before .before .before .before .before .before .args in
-      let good = c .before .before .before .before .before .before .before .before .before .before .before .good in
-      let fits = c .before .before .before .before .before .before .before .before .before .before .before .fits in
       let pre = c .before .before .before .before .before .before .before .before .before .before .before .pre in
       let kind-at = c .before .before .before .before .before .before .kind-at in
       let if1 = c .before .before .before .before .if1 in
@@ -56,10 +70,11 @@ module _ (t : ℕ) where
         λ text B u s h n.
             let g = givenOf text (args .words .now) (args .given) in
             let T = below (args .given) g in
-            says-same
-            (suffix-bang g T (args .b .first) u (view (args .m) (args .notes .now)) (is-here (args .words .now) (args .m) (kind-at .ensures .0) (if1 .taken)))
-            (put-about .ensures .0 text 0 B (runIn 0 u) 23 u (args .names .now) (args .notes .now) (built-child refl h) n (shape-non-null (h .is-node))),
-        (omega (arith, pre, fits, good), λ z. omega arith),
+            says-same (suffix-bang g T (args .b .first) u (view (args .m) (args .notes .now))
+            (is-here (args .words .now) (args .m) (kind-at .ensures .0) (if1 .taken)))
+            (put-about .ensures .0 text 0 B (runIn 0 u) 23 u (args .names .now) (args .notes .now) (built-child refl h) n
+            (shape-non-null (h .is-node))),
+        (omega (arith, pre), λ z. omega arith),
       )
 
   pub put-about-requires-2 : lts.Need-put-about-requires-2 (R t) (suffix-at t) suffix.Post
@@ -71,8 +86,6 @@ module _ (t : ℕ) where
   pub returns-2 : lts.Need-returns-2 (R t) (suffix-at t) suffix.Post
   returns-2 c =
       let args = c .before .before .before .before .before .before .before .before .before .before .before .before .args in
-      let good = c .before .before .before .before .before .before .before .before .before .before .before .before .good in
-      let fits = c .before .before .before .before .before .before .before .before .before .before .before .before .fits in
       let pre = c .before .before .before .before .before .before .before .before .before .before .before .before .pre in
       let kind-at = c .before .before .before .before .before .before .before .kind-at in
       let if1 = c .before .before .before .before .before .if1 in
@@ -81,10 +94,11 @@ module _ (t : ℕ) where
         λ text B u s h n.
             let g = givenOf text (args .words .now) (args .given) in
             let T = below (args .given) g in
-            says-same
-            (suffix-asked g T (args .b .first) u (view (args .m) (args .notes .now)) (is-not-here (args .words .now) (args .m) (kind-at .ensures .0) (if1 .left)) (is-here (args .words .now) (args .m) (kind-at .ensures .0) (if2 .taken)))
+            says-same (suffix-asked g T (args .b .first) u (view (args .m) (args .notes .now))
+            (is-not-here (args .words .now) (args .m) (kind-at .ensures .0) (if1 .left))
+            (is-here (args .words .now) (args .m) (kind-at .ensures .0) (if2 .taken)))
             (put-about2 .ensures .0 text 0 B (runIn 0 u) 24 u (args .names .now) (args .notes .now) (built-child refl h) n (shape-asked (h .is-node))),
-        (omega (arith, pre, fits, good), λ z. omega arith),
+        (omega (arith, pre), λ z. omega arith),
       )
 
   pub starter-requires : lts.Need-starter-requires (R t) (suffix-at t) suffix.Post
@@ -101,17 +115,18 @@ module _ (t : ℕ) where
   pub returns-3 : lts.Need-returns-3 (R t) (suffix-at t) suffix.Post
   returns-3 c =
       let args = c .before .before .before .before .before .before .before .before .before .before .before .before .before .before .args in
-      let starter = c .before .before .before .before .before .starter in
-      let if3 = c .before .before .before .before .if3 in
       let kind-at = c .before .before .before .before .before .before .before .before .before .kind-at in
       let if1 = c .before .before .before .before .before .before .before .if1 in
       let if2 = c .before .before .before .before .before .before .if2 in
+      let starter = c .before .before .before .before .before .starter in
+      let if3 = c .before .before .before .before .if3 in
       let array = c .before .before .array in (
         λ text B u s h n.
             let g = givenOf text (args .words .now) (args .given) in
             let T = below (args .given) g in
-            says-same
-            (suffix-array g T (args .b .first) u (view (args .m) (args .notes .now)) (is-not-here (args .words .now) (args .m) (kind-at .ensures .0) (if1 .left)) (is-not-here (args .words .now) (args .m) (kind-at .ensures .0) (if2 .left)) (sym (starter .ensures) ∙ not-true _ (if3 .taken)))
+            says-same (suffix-array g T (args .b .first) u (view (args .m) (args .notes .now))
+            (is-not-here (args .words .now) (args .m) (kind-at .ensures .0) (if1 .left))
+            (is-not-here (args .words .now) (args .m) (kind-at .ensures .0) (if2 .left)) (sym (starter .ensures) ∙ not-true _ (if3 .taken)))
             (array .ensures .0 text B u (args .names .now) (args .notes .now) (stands-on h) n),
         (omega arith, λ z. omega arith),
       )
@@ -133,41 +148,35 @@ module _ (t : ℕ) where
   pub returns-4 : lts.Need-returns-4 (R t) (suffix-at t) suffix.Post
   returns-4 c =
       let args = c .before .before .before .before .before .before .before .before .before .before .before .before .before .before .before .before .before .before .before .before .before .before .args in
-      let starter = c .before .before .before .before .before .before .before .before .before .before .before .before .before .starter in
-      let if3 = c .before .before .before .before .before .before .before .before .before .before .before .before .if3 in
       let kind-at = c .before .before .before .before .before .before .before .before .before .before .before .before .before .before .before .before .before .kind-at in
       let if1 = c .before .before .before .before .before .before .before .before .before .before .before .before .before .before .before .if1 in
       let if2 = c .before .before .before .before .before .before .before .before .before .before .before .before .before .before .if2 in
+      let starter = c .before .before .before .before .before .before .before .before .before .before .before .before .before .starter in
+      let if3 = c .before .before .before .before .before .before .before .before .before .before .before .before .if3 in
       let ty = c .before .before .before .before .before .before .before .before .ty in
       let if4 = c .if4 in (
         λ text B u s h n.
             let g = givenOf text (args .words .now) (args .given) in
             let T = below (args .given) g in
             says-stops _ (ty .ensures .0 text s) (if4 .taken)
-            (suffix-index g T (args .b .first) u (view (args .m) (args .notes .now)) (is-not-here (args .words .now) (args .m) (kind-at .ensures .0) (if1 .left)) (is-not-here (args .words .now) (args .m) (kind-at .ensures .0) (if2 .left)) (sym (starter .ensures) ∙ not-false _ (if3 .left))),
+            (suffix-index g T (args .b .first) u (view (args .m) (args .notes .now))
+            (is-not-here (args .words .now) (args .m) (kind-at .ensures .0) (if1 .left))
+            (is-not-here (args .words .now) (args .m) (kind-at .ensures .0) (if2 .left)) (sym (starter .ensures) ∙ not-false _ (if3 .left))),
         (omega arith, λ z. omega arith),
       )
 
   pub one-requires : lts.Need-one-requires (R t) (suffix-at t) suffix.Post
   one-requires c κs =
-      let good = c .before .before .before .before .before .before .before .before .before .before .before .before .before .before .before .before .before .before .before .before .before .before .before .before .good in
-      let fits = c .before .before .before .before .before .before .before .before .before .before .before .before .before .before .before .before .before .before .before .before .before .before .before .before .fits in
       let pre = c .before .before .before .before .before .before .before .before .before .before .before .before .before .before .before .before .before .before .before .before .before .before .before .before .pre in
-      let if1 = c .before .before .before .before .before .before .before .before .before .before .before .before .before .before .before .before .before .if1 in
-      let if2 = c .before .before .before .before .before .before .before .before .before .before .before .before .before .before .before .before .if2 in
-      omega (arith, if2, if1, pre, fits, good)
+      omega (arith, pre)
 
   pub link-requires : lts.Need-link-requires (R t) (suffix-at t) suffix.Post
   link-requires c κs =
-      let good = c .before .before .before .before .before .before .before .before .before .before .before .before .before .before .before .before .before .before .before .before .before .before .before .before .before .good in
-      let fits = c .before .before .before .before .before .before .before .before .before .before .before .before .before .before .before .before .before .before .before .before .before .before .before .before .before .fits in
       let pre = c .before .before .before .before .before .before .before .before .before .before .before .before .before .before .before .before .before .before .before .before .before .before .before .before .before .pre in
-      let if1 = c .before .before .before .before .before .before .before .before .before .before .before .before .before .before .before .before .before .before .if1 in
-      let if2 = c .before .before .before .before .before .before .before .before .before .before .before .before .before .before .before .before .before .if2 in
       let ty = c .before .before .before .before .before .before .before .before .before .before .before .ty in
       let if4 = c .before .before .before .if4 in
       let one = c .one in
-      omega (arith, same-kids (one .ensures), ty .ensures .1 .1 (if4 .left), if2, if1, pre, fits, good)
+      omega (arith, same-kids (one .ensures), ty .ensures .1 .1 (if4 .left), pre)
 
   pub bracketed-requires : lts.Need-bracketed-requires (R t) (suffix-at t) suffix.Post
   bracketed-requires c κs =
@@ -190,11 +199,11 @@ module _ (t : ℕ) where
   pub returns-5 : lts.Need-returns-5 (R t) (suffix-at t) suffix.Post
   returns-5 c =
       let args = c .before .before .before .before .before .before .before .before .before .before .before .before .before .before .before .before .before .before .before .before .before .before .before .before .before .before .before .before .before .before .before .before .args in
-      let starter = c .before .before .before .before .before .before .before .before .before .before .before .before .before .before .before .before .before .before .before .before .before .before .before .starter in
-      let if3 = c .before .before .before .before .before .before .before .before .before .before .before .before .before .before .before .before .before .before .before .before .before .before .if3 in
       let kind-at = c .before .before .before .before .before .before .before .before .before .before .before .before .before .before .before .before .before .before .before .before .before .before .before .before .before .before .before .kind-at in
       let if1 = c .before .before .before .before .before .before .before .before .before .before .before .before .before .before .before .before .before .before .before .before .before .before .before .before .before .if1 in
       let if2 = c .before .before .before .before .before .before .before .before .before .before .before .before .before .before .before .before .before .before .before .before .before .before .before .before .if2 in
+      let starter = c .before .before .before .before .before .before .before .before .before .before .before .before .before .before .before .before .before .before .before .before .before .before .before .starter in
+      let if3 = c .before .before .before .before .before .before .before .before .before .before .before .before .before .before .before .before .before .before .before .before .before .before .if3 in
       let ty = c .before .before .before .before .before .before .before .before .before .before .before .before .before .before .before .before .before .before .ty in
       let if4 = c .before .before .before .before .before .before .before .before .before .before .if4 in
       let one = c .before .before .before .before .before .before .before .one in
@@ -205,10 +214,13 @@ module _ (t : ℕ) where
             let T = below (args .given) g in
             let got = ty .ensures .0 text s .done (if4 .left) in
             let b = built-child (one .ensures) h in
-            says-same
-            (suffix-index g T (args .b .first) u (view (args .m) (args .notes .now)) (is-not-here (args .words .now) (args .m) (kind-at .ensures .0) (if1 .left)) (is-not-here (args .words .now) (args .m) (kind-at .ensures .0) (if2 .left)) (sym (starter .ensures) ∙ not-false _ (if3 .left)) ∙ then-read _ (got .is))
+            says-same (suffix-index g T (args .b .first) u (view (args .m) (args .notes .now))
+            (is-not-here (args .words .now) (args .m) (kind-at .ensures .0) (if1 .left))
+            (is-not-here (args .words .now) (args .m) (kind-at .ensures .0) (if2 .left)) (sym (starter .ensures) ∙ not-false _ (if3 .left))
+            ∙ then-read _ (got .is))
             (bracketed .ensures .0 text B (runIn 0 u ⊕ runIn 0 (got .tree)) 8 (join u (got .tree)) _ _
-            (link .ensures .0 0 B (runIn 0 u) (got .tree) _ _ _ _ _ _ _ _ _ b (omega arith) (got .stands .is-node) (got .stands .high-is) (got .stands .laid))
+            (link .ensures .0 0 B (runIn 0 u) (got .tree) _ _ _ _ _ _ _ _ _ b (omega arith) (got .stands .is-node) (got .stands .high-is)
+            (got .stands .laid))
             n (shape-indexed (h .is-node) (got .stands .is-node))),
         (omega arith, λ z. omega (arith, ty .ensures .1 .1 (if4 .left))),
       )

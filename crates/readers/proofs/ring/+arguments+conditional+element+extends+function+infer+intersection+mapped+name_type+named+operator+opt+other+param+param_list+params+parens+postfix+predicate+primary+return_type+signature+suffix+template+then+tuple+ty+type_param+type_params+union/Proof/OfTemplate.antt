@@ -30,13 +30,31 @@ use Rattle.readers.proofs.ring.+arguments+conditional+element+extends+f
 use Rattle.readers.proofs.ring.+arguments+conditional+element+extends+function+infer+intersection+mapped+name_type+named+operator+opt+other+param+param_list+params+parens+postfix+predicate+primary+return_type+signature+suffix+template+then+tuple+ty+type_param+type_params+union.Proof.Base.{template-at, ty-below}
 
 abbrev pub R : ℕ → lts.Claims
-R t = (spell-reads.Asked, spell-reads.Learnt, state-Kids-none-reads.Asked, state-Kids-none-reads.Learnt, ty-below t, ty.Post, link-reads.Asked, link-reads.Learnt, kind-at-reads.Asked, kind-at-reads.Learnt, at-reads.Asked, at-reads.Learnt, put-list-reads.Asked, put-list-reads.Learnt, state-Answer-refused-reads.Asked, state-Answer-refused-reads.Learnt)
+R t = (
+  spell-reads.Asked,
+  spell-reads.Learnt,
+  state-Kids-none-reads.Asked,
+  state-Kids-none-reads.Learnt,
+  ty-below t,
+  ty.Post,
+  link-reads.Asked,
+  link-reads.Learnt,
+  kind-at-reads.Asked,
+  kind-at-reads.Learnt,
+  at-reads.Asked,
+  at-reads.Learnt,
+  put-list-reads.Asked,
+  put-list-reads.Learnt,
+  state-Answer-refused-reads.Asked,
+  state-Answer-refused-reads.Learnt,
+)
 
 abbrev pub Inv-loop : lts.InvT-loop
 Inv-loop words classes nodes₀ names₀ notes₀ given m p₀ k₀ nodes names notes p k =
     Kept (length words) given nodes₀ names₀ notes₀ p₀ nodes names notes p × (Under (p .used) k)
-    ×
-    (kindAt words (m .at) (m .half) ≡ TemplateHead → (text : List ℕ) (B : Was) → Spelt text words → Laid B (nameRun (spelling (givenOf text words given) (view m notes₀))) (p₀ .used) (p₀ .named) (p₀ .noted) nodes₀ names₀ notes₀ → PiecesTurn (givenOf text words given) (below given (givenOf text words given)) (view m notes₀) (view p₀ notes₀) B k p nodes names notes)
+    × (kindAt words (m .at) (m .half) ≡ TemplateHead → (text : List ℕ) (B : Was) → Spelt text words
+    → Laid B (nameRun (spelling (givenOf text words given) (view m notes₀))) (p₀ .used) (p₀ .named) (p₀ .noted) nodes₀ names₀ notes₀
+    → PiecesTurn (givenOf text words given) (below given (givenOf text words given)) (view m notes₀) (view p₀ notes₀) B k p nodes names notes)
 
 abbrev pub μ-loop : lts.MeasureT-loop
 μ-loop words classes nodes₀ names₀ notes₀ given m p₀ k₀ nodes names notes p k =
@@ -87,21 +105,18 @@ module _ (t : ℕ) where
             let begins = template-starts text (args .words .now) (args .given) T (args .m) (spell .result) (args .notes .now) (spell .ensures .0) h in
             let w = loop .inv .2 h text (was (args .m) (args .nodes .now) (args .names .now) (args .notes .now)) s
             (laid-head (args .m) (spell .ensures .0) (spell .ensures .1 text s)) in
-            says-stop (if1 .taken)
-            (begins ∙ pieces-refused text (args .words .now) (args .given) T (view (args .m) (args .notes .now)) (loop .p) w (ty .ensures .0 text s .refused (if1 .taken))),
+            says-stop (if1 .taken) (begins ∙ pieces-refused text (args .words .now) (args .given) T (view (args .m) (args .notes .now)) (loop .p) w
+            (ty .ensures .0 text s .refused (if1 .taken))),
         (omega arith, λ z. omega arith),
       )
 
   pub link-requires : lts.Need-link-requires (R t) (template-at t) template.Post Inv-loop μ-loop
   link-requires c κs =
-      let good = c .before .before .before .before .before .before .before .before .before .before .before .before .before .before .before .before .before .before .before .before .before .before .before .before .good in
       let pre = c .before .before .before .before .before .before .before .before .before .before .before .before .before .before .before .before .before .before .before .before .before .before .before .before .pre in
-      let spell = c .before .before .before .before .before .before .before .before .before .before .before .before .before .before .before .before .before .before .spell in
-      let none = c .before .before .before .before .before .before .before .before .before .before .before .before .before .before .before .none in
       let loop = c .before .before .before .before .before .before .before .before .before .before .before .before .before .before .loop in
       let ty = c .before .before .before .before .before .before .before .before .before .before .ty in
       let if1 = c .before .before .if1 in
-      omega (arith, ty .ensures .1 .1 (if1 .left), loop .inv .0, loop .inv .1, same-kids (none .ensures), same-mark (spell .ensures .0), pre, good)
+      omega (arith, ty .ensures .1 .1 (if1 .left), loop .inv .1, pre)
 
   pub kind-at-requires : lts.Need-kind-at-requires (R t) (template-at t) template.Post Inv-loop μ-loop
   kind-at-requires c κs = search needs
@@ -118,7 +133,6 @@ module _ (t : ℕ) where
 
   pub put-list-requires : lts.Need-put-list-requires (R t) (template-at t) template.Post Inv-loop μ-loop
   put-list-requires c κs =
-      let good = c .before .before .before .before .before .before .before .before .before .before .before .before .before .before .before .before .before .before .before .before .before .before .before .before .before .before .before .before .before .before .before .before .before .before .before .good in
       let pre = c .before .before .before .before .before .before .before .before .before .before .before .before .before .before .before .before .before .before .before .before .before .before .before .before .before .before .before .before .before .before .before .before .before .before .before .pre in
       let spell = c .before .before .before .before .before .before .before .before .before .before .before .before .before .before .before .before .before .before .before .before .before .before .before .before .before .before .before .before .before .spell in
       let none = c .before .before .before .before .before .before .before .before .before .before .before .before .before .before .before .before .before .before .before .before .before .before .before .before .before .before .none in
@@ -131,41 +145,61 @@ module _ (t : ℕ) where
       let spell2 = c .before .before .before .before .spell2 in
       let at = c .before .at in (
         pre .1 .1,
-        omega (arith, same-kids (none .ensures), same-mark (spell .ensures .0)),
-        omega (arith, same-mark (spell2 .ensures .0), if2, kind-at .ensures .0, kind-at .ensures .1, link .ensures .1, if1, ty .ensures .1 .0, ty .ensures .1 .1 (if1 .left), loop .inv .0, loop .inv .1, same-kids (none .ensures), same-mark (spell .ensures .0), pre, good),
-        omega (arith, same-mark (spell2 .ensures .0), ty .ensures .1 .1 (if1 .left), same-kids (none .ensures), same-mark (spell .ensures .0)),
         omega arith,
-        omega (arith, at .ensures .0, at .ensures .1, same-mark (spell2 .ensures .0), spell2 .kept, if2, kind-at .ensures .0, kind-at .ensures .1, link .ensures .1, link .kept, if1, ty .ensures .1 .0, ty .kept, ty .ensures .1 .1 (if1 .left), loop .inv .0, loop .inv .1, same-kids (none .ensures), same-mark (spell .ensures .0), spell .kept, pre, good),
+        omega (
+          arith,
+          same-mark (spell2 .ensures .0),
+          if2,
+          kind-at .ensures .1,
+          link .ensures .1,
+          ty .ensures .1 .0,
+          ty .ensures .1 .1 (if1 .left),
+          loop .inv .0,
+          loop .inv .1,
+          same-kids (none .ensures),
+          same-mark (spell .ensures .0),
+          pre,
+        ),
+        omega (arith, same-mark (spell2 .ensures .0)),
+        omega arith,
+        omega (
+          arith,
+          at .ensures .1,
+          same-mark (spell2 .ensures .0),
+          ty .ensures .1 .0,
+          ty .ensures .1 .1 (if1 .left),
+          loop .inv .0,
+          loop .inv .1,
+          same-kids (none .ensures),
+          same-mark (spell .ensures .0),
+          pre,
+        ),
         omega arith,
       )
 
   pub same-length-4 : lts.Need-same-length-4 (R t) (template-at t) template.Post Inv-loop μ-loop
   same-length-4 c =
-      let spell = c .before .before .before .before .before .before .before .before .before .before .before .before .before .before .before .before .before .before .before .before .before .before .before .before .before .before .before .before .before .before .before .before .spell in
       let loop = c .before .before .before .before .before .before .before .before .before .before .before .before .before .before .before .before .before .before .before .before .before .before .before .before .before .before .before .before .loop in
       let ty = c .before .before .before .before .before .before .before .before .before .before .before .before .before .before .before .before .before .before .before .before .before .before .before .before .ty in
       let link = c .before .before .before .before .before .before .before .before .before .before .before .before .before .link in
-      omega (arith, link .kept, ty .kept, loop .inv .0, spell .kept)
+      omega (arith, link .kept, ty .kept, loop .inv .0)
 
   pub same-length-5 : lts.Need-same-length-5 (R t) (template-at t) template.Post Inv-loop μ-loop
   same-length-5 c =
       let spell = c .before .before .before .before .before .before .before .before .before .before .before .before .before .before .before .before .before .before .before .before .before .before .before .before .before .before .before .before .before .before .before .before .spell in
       let loop = c .before .before .before .before .before .before .before .before .before .before .before .before .before .before .before .before .before .before .before .before .before .before .before .before .before .before .before .before .loop in
       let ty = c .before .before .before .before .before .before .before .before .before .before .before .before .before .before .before .before .before .before .before .before .before .before .before .before .ty in
-      let spell2 = c .before .before .before .before .before .before .before .spell2 in
-      omega (arith, spell2 .kept, ty .kept, loop .inv .0, spell .kept)
+      omega (arith, ty .kept, loop .inv .0, spell .kept)
 
   pub same-length-6 : lts.Need-same-length-6 (R t) (template-at t) template.Post Inv-loop μ-loop
   same-length-6 c =
-      let spell = c .before .before .before .before .before .before .before .before .before .before .before .before .before .before .before .before .before .before .before .before .before .before .before .before .before .before .before .before .before .before .before .before .spell in
       let loop = c .before .before .before .before .before .before .before .before .before .before .before .before .before .before .before .before .before .before .before .before .before .before .before .before .before .before .before .before .loop in
       let ty = c .before .before .before .before .before .before .before .before .before .before .before .before .before .before .before .before .before .before .before .before .before .before .before .before .ty in
-      omega (arith, ty .kept, loop .inv .0, spell .kept)
+      omega (arith, ty .kept, loop .inv .0)
 
   pub returns-2 : lts.Need-returns-2 (R t) (template-at t) template.Post Inv-loop μ-loop
   returns-2 c =
       let args = c .before .before .before .before .before .before .before .before .before .before .before .before .before .before .before .before .before .before .before .before .before .before .before .before .before .before .before .before .before .before .before .before .before .before .before .before .before .before .args in
-      let good = c .before .before .before .before .before .before .before .before .before .before .before .before .before .before .before .before .before .before .before .before .before .before .before .before .before .before .before .before .before .before .before .before .before .before .before .before .before .before .good in
       let pre = c .before .before .before .before .before .before .before .before .before .before .before .before .before .before .before .before .before .before .before .before .before .before .before .before .before .before .before .before .before .before .before .before .before .before .before .before .before .before .pre in
       let spell = c .before .before .before .before .before .before .before .before .before .before .before .before .before .before .before .before .before .before .before .before .before .before .before .before .before .before .before .before .before .before .before .before .spell in
       let none = c .before .before .before .before .before .before .before .before .before .before .before .before .before .before .before .before .before .before .before .before .before .before .before .before .before .before .before .before .before .none in
@@ -184,12 +218,32 @@ module _ (t : ℕ) where
             let w = loop .inv .2 h text (was (args .m) (args .nodes .now) (args .names .now) (args .notes .now)) s
             (laid-head (args .m) (spell .ensures .0) (spell .ensures .1 text s)) in
             says-same begins
-            (pieces-end text (args .words .now) (args .given) T (view (args .m) (args .notes .now)) (loop .p) w (ty .result .m) (ty .ensures .0 text s .done (if1 .left))
+            (pieces-end text (args .words .now) (args .given) T (view (args .m) (args .notes .now)) (loop .p) w (ty .result .m)
+            (ty .ensures .0 text s .done (if1 .left))
             (link .ensures .0) (omega (arith, ty .kept)) (link .ensures .1 .1) (spell2 .ensures .0) (spell2 .ensures .1 text s)
             (sym (kind-at .ensures .0) ∙ if2 .taken) (at .ensures .0 .0) (at .ensures .0 .1) (put-list .ensures .0)),
         (
-          omega (arith, at .ensures .0, at .ensures .1, same-mark (spell2 .ensures .0), kind-at .ensures .0, kind-at .ensures .1, link .ensures .1, ty .ensures .1 .0, ty .ensures .1 .1 (if1 .left), loop .inv .0, loop .inv .1, same-kids (none .ensures), same-mark (spell .ensures .0)),
-          λ z. omega (arith, at .ensures .0, at .ensures .1, same-mark (spell2 .ensures .0), if2, kind-at .ensures .0, kind-at .ensures .1, link .ensures .1, if1, ty .ensures .1 .0, ty .ensures .1 .1 (if1 .left), loop .inv .0, loop .inv .1, same-kids (none .ensures), same-mark (spell .ensures .0), pre, good, z),
+          omega (
+            arith,
+            same-mark (spell2 .ensures .0),
+            ty .ensures .1 .0,
+            ty .ensures .1 .1 (if1 .left),
+            loop .inv .0,
+            loop .inv .1,
+            same-kids (none .ensures),
+            same-mark (spell .ensures .0),
+          ),
+          λ z. omega (
+            arith,
+            same-mark (spell2 .ensures .0),
+            ty .ensures .1 .0,
+            ty .ensures .1 .1 (if1 .left),
+            loop .inv .1,
+            same-kids (none .ensures),
+            same-mark (spell .ensures .0),
+            pre,
+            z,
+          ),
         ),
       )
 
@@ -231,7 +285,8 @@ module _ (t : ℕ) where
             (laid-head (args .m) (spell .ensures .0) (spell .ensures .1 text s)) in
             says-as (refused .ensures)
             (says-stop (λ z. omega arith)
-            (begins ∙ pieces-stop text (args .words .now) (args .given) T (view (args .m) (args .notes .now)) (loop .p) w (ty .result .m) (ty .ensures .0 text s .done (if1 .left))
+            (begins ∙ pieces-stop text (args .words .now) (args .given) T (view (args .m) (args .notes .now)) (loop .p) w (ty .result .m)
+            (ty .ensures .0 text s .done (if1 .left))
             (is-not-here (args .words .now) (ty .result .m) (kind-at .ensures .0) (if3 .taken))
             (is-not-here (args .words .now) (ty .result .m) (kind-at .ensures .0) (if2 .left)))),
         (omega (arith, same-answer (refused .ensures)), λ z. omega (arith, same-answer (refused .ensures))),
@@ -261,7 +316,7 @@ module _ (t : ℕ) where
       let kind-at = c .before .before .before .before .before .before .kind-at in
       let if3 = c .before .before .before .before .if3 in
       let spell3 = c .before .before .spell3 in (
-        omega (arith, same-mark (spell3 .ensures .0), link .kept, ty .kept, ty .ensures .1 .1 (if1 .left), same-kids (none .ensures), same-mark (spell .ensures .0), spell .kept),
+        omega (arith, same-mark (spell3 .ensures .0), ty .kept, ty .ensures .1 .1 (if1 .left), same-kids (none .ensures), same-mark (spell .ensures .0)),
         omega (arith, same-mark (spell3 .ensures .0)),
         λ h text B s d.
             let T = below (args .given) (givenOf text (args .words .now) (args .given)) in

@@ -17,7 +17,18 @@ use Rattle.readers.proofs.ring.+arguments+conditional+element+extends+f
 use Rattle.readers.proofs.ring.+arguments+conditional+element+extends+function+infer+intersection+mapped+name_type+named+operator+opt+other+param+param_list+params+parens+postfix+predicate+primary+return_type+signature+suffix+template+then+tuple+ty+type_param+type_params+union.Proof.Base.{other-below, then-at, ty-below}
 
 abbrev pub R : ℕ → lts.Claims
-R t = (ty-below t, ty.Post, kind-at-reads.Asked, kind-at-reads.Learnt, state-Answer-refused-reads.Asked, state-Answer-refused-reads.Learnt, link-reads.Asked, link-reads.Learnt, other-below t, other.Post)
+R t = (
+  ty-below t,
+  ty.Post,
+  kind-at-reads.Asked,
+  kind-at-reads.Learnt,
+  state-Answer-refused-reads.Asked,
+  state-Answer-refused-reads.Learnt,
+  link-reads.Asked,
+  link-reads.Learnt,
+  other-below t,
+  other.Post,
+)
 
 module _ (t : ℕ) where
   pub ty-requires : lts.Need-ty-requires (R t) (then-at t) then.Post
@@ -65,26 +76,22 @@ module _ (t : ℕ) where
       let refused = c .refused in (
         λ text B u x s i j b n.
             let got = ty .ensures .0 text s .done (if1 .left) in
-            says-as (refused .ensures)
-            (says-refused 2 (colon-none _ _ _ _ _ _ (got .is) (is-not-here (args .words .now) (ty .result .m) (kind-at .ensures .0) (if2 .taken)))),
+            says-as (refused .ensures) (says-refused 2
+            (colon-none _ _ _ _ _ _ (got .is) (is-not-here (args .words .now) (ty .result .m) (kind-at .ensures .0) (if2 .taken)))),
         (omega (arith, same-answer (refused .ensures)), λ z. omega (arith, same-answer (refused .ensures))),
       )
 
   pub link-requires : lts.Need-link-requires (R t) (then-at t) then.Post
   link-requires c κs =
-      let good = c .before .before .before .before .before .before .before .before .before .before .before .before .before .before .before .before .before .before .before .before .good in
       let pre = c .before .before .before .before .before .before .before .before .before .before .before .before .before .before .before .before .before .before .before .before .pre in
       let ty = c .before .before .before .before .before .before .before .before .before .before .before .before .ty in
       let if1 = c .before .before .before .before .if1 in
-      omega (arith, ty .ensures .1 .1 (if1 .left), pre, good)
+      omega (arith, ty .ensures .1 .1 (if1 .left), pre)
 
   pub add-t21 : lts.Need-add-t21 (R t) (then-at t) then.Post
   add-t21 c =
-      let good = c .before .before .before .before .before .before .before .before .before .before .before .before .before .before .before .before .before .before .before .before .before .before .before .before .good in
       let pre = c .before .before .before .before .before .before .before .before .before .before .before .before .before .before .before .before .before .before .before .before .before .before .before .before .pre in
-      let ty = c .before .before .before .before .before .before .before .before .before .before .before .before .before .before .before .before .ty in
-      let if1 = c .before .before .before .before .before .before .before .before .if1 in
-      omega (arith, ty .ensures .1 .1 (if1 .left), pre, good)
+      omega (arith, pre)
 
   pub other-requires : lts.Need-other-requires (R t) (then-at t) then.Post
   other-requires c κs =

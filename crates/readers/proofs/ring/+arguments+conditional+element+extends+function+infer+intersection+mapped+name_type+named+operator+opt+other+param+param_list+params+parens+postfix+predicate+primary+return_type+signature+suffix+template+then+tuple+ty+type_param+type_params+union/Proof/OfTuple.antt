@@ -30,13 +30,33 @@ use Rattle.readers.proofs.ring.+arguments+conditional+element+extends+f
 use Rattle.readers.proofs.ring.+arguments+conditional+element+extends+function+infer+intersection+mapped+name_type+named+operator+opt+other+param+param_list+params+parens+postfix+predicate+primary+return_type+signature+suffix+template+then+tuple+ty+type_param+type_params+union.Proof.Base.{element-below, tuple-at}
 
 abbrev pub R : ℕ → lts.Claims
-R t = (state-Kids-none-reads.Asked, state-Kids-none-reads.Learnt, kind-at-reads.Asked, kind-at-reads.Learnt, element-below t, element.Post, checked-reads.Asked, checked-reads.Learnt, state-Answer-refused-reads.Asked, state-Answer-refused-reads.Learnt, link-reads.Asked, link-reads.Learnt, past-comma-reads.Asked, past-comma-reads.Learnt, at-reads.Asked, at-reads.Learnt, tuple-node-reads.Asked, tuple-node-reads.Learnt)
+R t = (
+  state-Kids-none-reads.Asked,
+  state-Kids-none-reads.Learnt,
+  kind-at-reads.Asked,
+  kind-at-reads.Learnt,
+  element-below t,
+  element.Post,
+  checked-reads.Asked,
+  checked-reads.Learnt,
+  state-Answer-refused-reads.Asked,
+  state-Answer-refused-reads.Learnt,
+  link-reads.Asked,
+  link-reads.Learnt,
+  past-comma-reads.Asked,
+  past-comma-reads.Learnt,
+  at-reads.Asked,
+  at-reads.Learnt,
+  tuple-node-reads.Asked,
+  tuple-node-reads.Learnt,
+)
 
 abbrev pub Inv-loop : lts.InvT-loop
 Inv-loop words classes nodes₀ names₀ notes₀ given m p₀ k₀ seen₀ nodes names notes p k seen =
     Kept (length words) given nodes₀ names₀ notes₀ p₀ nodes names notes p × (Under (p .used) k)
-    ×
-    (kindAt words (m .at) (m .half) ≡ LBrack → (text : List ℕ) → Spelt text words → TupleTurn (givenOf text words given) (below given (givenOf text words given)) (view m notes₀) (was m nodes₀ names₀ notes₀) seen k p nodes names notes)
+    × (kindAt words (m .at) (m .half) ≡ LBrack → (text : List ℕ) → Spelt text words
+    → TupleTurn (givenOf text words given) (below given (givenOf text words given)) (view m notes₀)
+    (was m nodes₀ names₀ notes₀) seen k p nodes names notes)
 
 abbrev pub μ-loop : lts.MeasureT-loop
 μ-loop words classes nodes₀ names₀ notes₀ given m p₀ k₀ seen₀ nodes names notes p k seen =
@@ -44,8 +64,7 @@ abbrev pub μ-loop : lts.MeasureT-loop
 
 module _ (t : ℕ) where
   pub add-t15 : lts.Need-add-t15 (R t) (tuple-at t) tuple.Post Inv-loop μ-loop
-  add-t15 c =
-      omega arith
+  add-t15 c = omega arith
 
   pub none-requires : lts.Need-none-requires (R t) (tuple-at t) tuple.Post Inv-loop μ-loop
   none-requires c κs = search needs
@@ -94,15 +113,11 @@ module _ (t : ℕ) where
 
   pub checked-requires : lts.Need-checked-requires (R t) (tuple-at t) tuple.Post Inv-loop μ-loop
   checked-requires c κs =
-      let good = c .before .before .before .before .before .before .before .before .before .before .before .before .before .before .before .before .before .before .before .before .before .before .before .good in
       let pre = c .before .before .before .before .before .before .before .before .before .before .before .before .before .before .before .before .before .before .before .before .before .before .before .pre in
-      let none = c .before .before .before .before .before .before .before .before .before .before .before .before .before .before .before .before .before .none in
       let loop = c .before .before .before .before .before .before .before .before .before .before .before .before .before .before .before .before .loop in
-      let kind-at = c .before .before .before .before .before .before .before .before .before .before .before .before .before .before .before .kind-at in
-      let if1 = c .before .before .before .before .before .before .before .before .before .before .before .before .before .before .if1 in
       let element = c .before .before .before .before .before .before .before .before .before .before .element in
       let if2 = c .before .before .if2 in
-      omega (arith, element .ensures .1 .1 (if2 .left), if1, kind-at .ensures .0, kind-at .ensures .1, loop .inv .0, loop .inv .1, same-kids (none .ensures), pre, good)
+      omega (arith, element .ensures .1 .1 (if2 .left), loop .inv .1, pre)
 
   pub refused-requires : lts.Need-refused-requires (R t) (tuple-at t) tuple.Post Inv-loop μ-loop
   refused-requires c κs = search needs
@@ -137,36 +152,28 @@ module _ (t : ℕ) where
         λ brack text s.
             says-as (refused .ensures)
             (says-stop (if3 .taken)
-            (tuple-full text (args .words .now) (args .given) _ _ (loop .inv .2 brack text s) (is-not-here (args .words .now) (loop .p) (kind-at .ensures .0) (if1 .taken))
+            (tuple-full text (args .words .now) (args .given) _ _ (loop .inv .2 brack text s)
+            (is-not-here (args .words .now) (loop .p) (kind-at .ensures .0) (if1 .taken))
             (element .ensures .0 text s .done (if2 .left)) (checked .ensures .0) (if3 .taken))),
         (omega (arith, same-answer (refused .ensures)), λ z. omega (arith, same-answer (refused .ensures))),
       )
 
   pub link-requires : lts.Need-link-requires (R t) (tuple-at t) tuple.Post Inv-loop μ-loop
   link-requires c κs =
-      let good = c .before .before .before .before .before .before .before .before .before .before .before .before .before .before .before .before .before .before .before .before .before .before .before .before .before .before .before .before .before .before .good in
       let pre = c .before .before .before .before .before .before .before .before .before .before .before .before .before .before .before .before .before .before .before .before .before .before .before .before .before .before .before .before .before .before .pre in
-      let none = c .before .before .before .before .before .before .before .before .before .before .before .before .before .before .before .before .before .before .before .before .before .before .before .before .none in
       let loop = c .before .before .before .before .before .before .before .before .before .before .before .before .before .before .before .before .before .before .before .before .before .before .before .loop in
-      let kind-at = c .before .before .before .before .before .before .before .before .before .before .before .before .before .before .before .before .before .before .before .before .before .before .kind-at in
-      let if1 = c .before .before .before .before .before .before .before .before .before .before .before .before .before .before .before .before .before .before .before .before .before .if1 in
       let element = c .before .before .before .before .before .before .before .before .before .before .before .before .before .before .before .before .before .element in
       let if2 = c .before .before .before .before .before .before .before .before .before .if2 in
-      let checked = c .before .before .before .before .before .before .checked in
-      omega (arith, checked .ensures .1, if2, element .ensures .1 .0, element .ensures .1 .1 (if2 .left), if1, kind-at .ensures .0, kind-at .ensures .1, loop .inv .0, loop .inv .1, same-kids (none .ensures), pre, good)
+      omega (arith, element .ensures .1 .1 (if2 .left), loop .inv .1, pre)
 
   pub past-comma-requires : lts.Need-past-comma-requires (R t) (tuple-at t) tuple.Post Inv-loop μ-loop
   past-comma-requires c κs =
       let pre = c .before .before .before .before .before .before .before .before .before .before .before .before .before .before .before .before .before .before .before .before .before .before .before .before .before .before .before .before .before .before .before .before .before .pre in
       let none = c .before .before .before .before .before .before .before .before .before .before .before .before .before .before .before .before .before .before .before .before .before .before .before .before .before .before .before .none in
-      let loop = c .before .before .before .before .before .before .before .before .before .before .before .before .before .before .before .before .before .before .before .before .before .before .before .before .before .before .loop in
-      let kind-at = c .before .before .before .before .before .before .before .before .before .before .before .before .before .before .before .before .before .before .before .before .before .before .before .before .before .kind-at in
       let element = c .before .before .before .before .before .before .before .before .before .before .before .before .before .before .before .before .before .before .before .before .element in
       let if2 = c .before .before .before .before .before .before .before .before .before .before .before .before .if2 in
-      let checked = c .before .before .before .before .before .before .before .before .before .checked in (
-        pre .1 .1,
-        omega (arith, checked .ensures .1, element .ensures .1 .0, element .ensures .1 .1 (if2 .left), kind-at .ensures .0, kind-at .ensures .1, loop .inv .0, loop .inv .1, same-kids (none .ensures)),
-      )
+      let checked = c .before .before .before .before .before .before .before .before .before .checked in
+      (pre .1 .1, omega (arith, checked .ensures .1, element .ensures .1 .1 (if2 .left), same-kids (none .ensures)))
 
   pub refused-requires-2 : lts.Need-refused-requires-2 (R t) (tuple-at t) tuple.Post Inv-loop μ-loop
   refused-requires-2 c κs = search needs
@@ -201,17 +208,17 @@ module _ (t : ℕ) where
       let if2 = c .before .before .before .before .before .before .before .before .before .before .before .before .before .before .before .before .if2 in
       let checked = c .before .before .before .before .before .before .before .before .before .before .before .before .before .checked in
       let if3 = c .before .before .before .before .before .before .before .before .before .if3 in
-      let link = c .before .before .before .before .before .before .link in
       let past-comma = c .before .before .before .past-comma in
       let if4 = c .before .if4 in
       let refused2 = c .refused2 in (
         λ brack text s.
             says-as (refused2 .ensures)
             (says-stop (if4 .taken)
-            (tuple-stops text (args .words .now) (args .given) _ _ (loop .inv .2 brack text s) (is-not-here (args .words .now) (loop .p) (kind-at .ensures .0) (if1 .taken))
+            (tuple-stops text (args .words .now) (args .given) _ _ (loop .inv .2 brack text s)
+            (is-not-here (args .words .now) (loop .p) (kind-at .ensures .0) (if1 .taken))
             (element .ensures .0 text s .done (if2 .left)) (checked .ensures .0) (if3 .left) (past-comma .ensures .0) (if4 .taken))),
         (
-          omega (arith, same-answer (refused2 .ensures), link .ensures .1, checked .ensures .1, element .ensures .1 .0, element .ensures .1 .1 (if2 .left), kind-at .ensures .0, kind-at .ensures .1, loop .inv .0, loop .inv .1, same-kids (none .ensures)),
+          omega (arith, same-answer (refused2 .ensures), element .ensures .1 .0, element .ensures .1 .1 (if2 .left), same-kids (none .ensures)),
           λ z. omega (arith, same-answer (refused2 .ensures)),
         ),
       )
@@ -219,13 +226,10 @@ module _ (t : ℕ) where
   pub loop-less : lts.Need-loop-less (R t) (tuple-at t) tuple.Post Inv-loop μ-loop
   loop-less c =
       let none = c .before .before .before .before .before .before .before .before .before .before .before .before .before .before .before .before .before .before .before .before .before .before .before .before .before .before .before .before .before .before .before .none in
-      let loop = c .before .before .before .before .before .before .before .before .before .before .before .before .before .before .before .before .before .before .before .before .before .before .before .before .before .before .before .before .before .before .loop in
-      let kind-at = c .before .before .before .before .before .before .before .before .before .before .before .before .before .before .before .before .before .before .before .before .before .before .before .before .before .before .before .before .before .kind-at in
       let element = c .before .before .before .before .before .before .before .before .before .before .before .before .before .before .before .before .before .before .before .before .before .before .before .before .element in
       let if2 = c .before .before .before .before .before .before .before .before .before .before .before .before .before .before .before .before .if2 in
       let checked = c .before .before .before .before .before .before .before .before .before .before .before .before .before .checked in
-      let past-comma = c .before .before .before .past-comma in
-      omega (arith, past-comma .ensures .1, checked .ensures .1, element .ensures .1 .0, element .ensures .1 .1 (if2 .left), kind-at .ensures .0, kind-at .ensures .1, loop .inv .0, loop .inv .1, same-kids (none .ensures))
+      omega (arith, checked .ensures .1, element .ensures .1 .1 (if2 .left), same-kids (none .ensures))
 
   pub loop-again : lts.Need-loop-again (R t) (tuple-at t) tuple.Post Inv-loop μ-loop
   loop-again c =
@@ -241,7 +245,7 @@ module _ (t : ℕ) where
       let link = c .before .before .before .before .before .before .link in
       let past-comma = c .before .before .before .past-comma in
       let if4 = c .before .if4 in (
-        omega (arith, link .kept, checked .ensures .1, checked .kept, element .ensures .1 .0, element .kept, element .ensures .1 .1 (if2 .left), kind-at .ensures .0, kind-at .ensures .1, loop .inv .0, loop .inv .1, same-kids (none .ensures)),
+        omega (arith, element .ensures .1 .0, element .kept, element .ensures .1 .1 (if2 .left), loop .inv .0, loop .inv .1, same-kids (none .ensures)),
         omega arith,
         λ brack text s.
             tuple-again text (args .words .now) (args .given) _ _ (loop .inv .2 brack text s)
@@ -249,7 +253,7 @@ module _ (t : ℕ) where
             (element .ensures .0 text s .done (if2 .left)) (checked .ensures .0) (if3 .left) (past-comma .ensures .0) (if4 .left)
             (past-comma .ensures .1)
             (omega (arith, element .ensures .1 .1 (if2 .left)))
-            (omega (arith, element .ensures .1 .1 (if2 .left), element .ensures .1 .0, loop .inv .0)) (link .ensures .0) (link .ensures .1 .1)
+            (omega (arith, element .ensures .1 .1 (if2 .left), element .ensures .1 .0)) (link .ensures .0) (link .ensures .1 .1)
             (omega arith),
       )
 
@@ -273,7 +277,6 @@ module _ (t : ℕ) where
   pub returns-4 : lts.Need-returns-4 (R t) (tuple-at t) tuple.Post Inv-loop μ-loop
   returns-4 c =
       let args = c .before .before .before .before .before .before .before .before .before .before .before .before .before .before .args in
-      let good = c .before .before .before .before .before .before .before .before .before .before .before .before .before .before .good in
       let pre = c .before .before .before .before .before .before .before .before .before .before .before .before .before .before .pre in
       let loop = c .before .before .before .before .before .before .before .loop in
       let kind-at = c .before .before .before .before .before .before .kind-at in
@@ -286,5 +289,5 @@ module _ (t : ℕ) where
             (is-here (args .words .now) (loop .p) (kind-at .ensures .0) (if1 .left)))
             (tuple-node .ensures .0 text _ _ _ _ _ ((loop .inv .2 brack text s) .turn .built) (at .ensures .0 .1)
             (tuple-listed text (args .words .now) (args .given) _ _ (loop .inv .2 brack text s))),
-        (omega arith, λ z. omega (arith, pre, good, z)),
+        (omega arith, λ z. omega (arith, pre)),
       )

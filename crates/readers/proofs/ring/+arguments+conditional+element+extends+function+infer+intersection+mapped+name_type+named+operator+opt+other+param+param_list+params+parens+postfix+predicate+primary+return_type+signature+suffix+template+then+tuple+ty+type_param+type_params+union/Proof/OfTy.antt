@@ -15,12 +15,20 @@ use Rattle.readers.proofs.ring.+arguments+conditional+element+extends+f
 use Rattle.readers.proofs.ring.+arguments+conditional+element+extends+function+infer+intersection+mapped+name_type+named+operator+opt+other+param+param_list+params+parens+postfix+predicate+primary+return_type+signature+suffix+template+then+tuple+ty+type_param+type_params+union.Proof.Base.{conditional-below, function-below, ty-at}
 
 abbrev pub R : ℕ → lts.Claims
-R t = (state-Answer-refused-reads.Asked, state-Answer-refused-reads.Learnt, begins-reads.Asked, begins-reads.Learnt, function-below t, function.Post, conditional-below t, conditional.Post)
+R t = (
+  state-Answer-refused-reads.Asked,
+  state-Answer-refused-reads.Learnt,
+  begins-reads.Asked,
+  begins-reads.Learnt,
+  function-below t,
+  function.Post,
+  conditional-below t,
+  conditional.Post,
+)
 
 module _ (t : ℕ) where
   pub refused-requires : lts.Need-refused-requires (R t) (ty-at t) ty.Post
-  refused-requires c κs =
-      search needs
+  refused-requires c κs = search needs
 
   pub returns : lts.Need-returns (R t) (ty-at t) ty.Post
   returns c =
@@ -50,9 +58,9 @@ module _ (t : ℕ) where
 
   pub returns-2 : lts.Need-returns-2 (R t) (ty-at t) ty.Post
   returns-2 c =
+      let if1 = c .before .before .before .before .before .before .before .before .before .before .before .before .before .if1 in
       let begins = c .before .before .before .before .before .before .before .before .before .before .before .begins in
       let if2 = c .before .before .before .before .before .before .before .before .before .before .if2 in
-      let if1 = c .before .before .before .before .before .before .before .before .before .before .before .before .before .if1 in
       let function = c .before .before .before .before .before .before .function in (
         λ text s. says-same (type-function _ _ _ _ (if1 .left) (sym (begins .ensures) ∙ if2 .taken)) (function .ensures .0 text s),
         (omega arith, λ z. omega (arith, function .ensures .1 .1 z)),
@@ -72,9 +80,9 @@ module _ (t : ℕ) where
 
   pub returns-3 : lts.Need-returns-3 (R t) (ty-at t) ty.Post
   returns-3 c =
+      let if1 = c .before .before .before .before .before .before .before .before .before .before .before .before .before .if1 in
       let begins = c .before .before .before .before .before .before .before .before .before .before .before .begins in
       let if2 = c .before .before .before .before .before .before .before .before .before .before .if2 in
-      let if1 = c .before .before .before .before .before .before .before .before .before .before .before .before .before .if1 in
       let conditional = c .before .before .before .before .before .before .conditional in (
         λ text s. says-same (type-other _ _ _ _ (if1 .left) (sym (begins .ensures) ∙ if2 .left)) (conditional .ensures .0 text s),
         (omega arith, λ z. omega (arith, conditional .ensures .1 .1 z)),

@@ -22,7 +22,24 @@ use Rattle.readers.proofs.ring.+arguments+conditional+element+extends+f
 use Rattle.readers.proofs.ring.+arguments+conditional+element+extends+function+infer+intersection+mapped+name_type+named+operator+opt+other+param+param_list+params+parens+postfix+predicate+primary+return_type+signature+suffix+template+then+tuple+ty+type_param+type_params+union.Proof.Base.{opt-below, type-param-at}
 
 abbrev pub R : ℕ → lts.Claims
-R t = (type-param-head-reads.Asked, type-param-head-reads.Learnt, state-Answer-refused-reads.Asked, state-Answer-refused-reads.Learnt, opt-below t, opt.Post, state-Kids-none-reads.Asked, state-Kids-none-reads.Learnt, link-opt-reads.Asked, link-opt-reads.Learnt, opt-bit-reads.Asked, opt-bit-reads.Learnt, at-reads.Asked, at-reads.Learnt, put-reads.Asked, put-reads.Learnt)
+R t = (
+  type-param-head-reads.Asked,
+  type-param-head-reads.Learnt,
+  state-Answer-refused-reads.Asked,
+  state-Answer-refused-reads.Learnt,
+  opt-below t,
+  opt.Post,
+  state-Kids-none-reads.Asked,
+  state-Kids-none-reads.Learnt,
+  link-opt-reads.Asked,
+  link-opt-reads.Learnt,
+  opt-bit-reads.Asked,
+  opt-bit-reads.Learnt,
+  at-reads.Asked,
+  at-reads.Learnt,
+  put-reads.Asked,
+  put-reads.Learnt,
+)
 
 module _ (t : ℕ) where
   pub type-param-head-requires : lts.Need-type-param-head-requires (R t) (type-param-at t) type-param.Post
@@ -39,15 +56,15 @@ module _ (t : ℕ) where
   pub returns : lts.Need-returns (R t) (type-param-at t) type-param.Post
   returns c =
       let args = c .before .before .before .before .before .before .before .before .before .before .before .args in
-      let good = c .before .before .before .before .before .before .before .before .before .before .before .good in
       let pre = c .before .before .before .before .before .before .before .before .before .before .before .pre in
       let type-param-head = c .before .before .before .before .before .type-param-head in
       let if1 = c .before .if1 in
       let refused = c .refused in (
         λ text s.
             says-as (refused .ensures)
-            (says-stop (if1 .taken) (type-parameter _ _ _ _ ∙ then-refused _ (type-param-head .ensures .0 text (args .notes .now) (args .given) s .refused (if1 .taken)))),
-        (omega (arith, same-answer (refused .ensures), pre, good), λ z. omega (arith, same-answer (refused .ensures))),
+            (says-stop (if1 .taken) (type-parameter _ _ _ _ ∙ then-refused _
+            (type-param-head .ensures .0 text (args .notes .now) (args .given) s .refused (if1 .taken)))),
+        (omega (arith, same-answer (refused .ensures), pre), λ z. omega (arith, same-answer (refused .ensures))),
       )
 
   pub opt-requires : lts.Need-opt-requires (R t) (type-param-at t) type-param.Post
@@ -82,29 +99,24 @@ module _ (t : ℕ) where
 
   pub link-opt-requires : lts.Need-link-opt-requires (R t) (type-param-at t) type-param.Post
   link-opt-requires c κs =
-      let good = c .before .before .before .before .before .before .before .before .before .before .before .before .before .before .before .before .before .before .before .before .before .before .before .before .before .before .good in
       let pre = c .before .before .before .before .before .before .before .before .before .before .before .before .before .before .before .before .before .before .before .before .before .before .before .before .before .before .pre in
-      let if1 = c .before .before .before .before .before .before .before .before .before .before .before .before .before .before .before .before .if1 in
       let opt = c .before .before .before .before .before .before .before .before .before .before .before .opt in
       let if2 = c .before .before .before .if2 in
       let none = c .none in
-      omega (arith, same-kids (none .ensures), opt .ensures .1 .1 (if2 .left), if1, pre, good)
+      omega (arith, same-kids (none .ensures), opt .ensures .1 .1 (if2 .left), pre)
 
   pub opt-requires-2 : lts.Need-opt-requires-2 (R t) (type-param-at t) type-param.Post
   opt-requires-2 c κs =
       let pre = c .before .before .before .before .before .before .before .before .before .before .before .before .before .before .before .before .before .before .before .before .before .before .before .before .before .before .before .before .before .before .before .before .pre in
       let type-param-head = c .before .before .before .before .before .before .before .before .before .before .before .before .before .before .before .before .before .before .before .before .before .before .before .before .before .before .type-param-head in
       let opt = c .before .before .before .before .before .before .before .before .before .before .before .before .before .before .before .before .before .opt in
-      let if2 = c .before .before .before .before .before .before .before .before .before .if2 in (
-        omega (arith, opt .ensures .1 .0, opt .ensures .1 .1 (if2 .left), type-param-head .ensures .1),
-        (pre .1 .0, pre .1 .1, omega arith, omega arith, omega arith),
-      )
+      let if2 = c .before .before .before .before .before .before .before .before .before .if2 in
+      (omega (arith, opt .ensures .1 .1 (if2 .left), type-param-head .ensures .1), (pre .1 .0, pre .1 .1, omega arith, omega arith, omega arith))
 
   pub same-length-5 : lts.Need-same-length-5 (R t) (type-param-at t) type-param.Post
   same-length-5 c =
       let opt = c .before .before .before .before .before .before .before .before .before .before .before .before .before .before .before .before .before .before .before .before .before .before .before .before .before .before .opt in
-      let link-opt = c .before .before .before .before .before .before .before .before .before .before .before .before .before .before .link-opt in
-      omega (arith, link-opt .kept, opt .kept)
+      omega (arith, opt .kept)
 
   pub same-length-6 : lts.Need-same-length-6 (R t) (type-param-at t) type-param.Post
   same-length-6 c =
@@ -129,24 +141,21 @@ module _ (t : ℕ) where
         λ text s.
             let head = type-param-head .ensures .0 text (args .notes .now) (args .given) s .done (if1 .left) in
             let x = opt .ensures .0 text s .done (if2 .left) in
-            says-stop (if3 .taken)
-            (type-parameter _ _ _ _ ∙ then-read _ (head .is) ∙ then-read _ (x .is) ∙ then-refused _ (opt2 .ensures .0 text s .refused (if3 .taken))),
+            says-stop (if3 .taken) (type-parameter _ _ _ _ ∙ then-read _ (head .is) ∙ then-read _ (x .is) ∙ then-refused _
+            (opt2 .ensures .0 text s .refused (if3 .taken))),
         (omega arith, λ z. omega arith),
       )
 
   pub link-opt-requires-2 : lts.Need-link-opt-requires-2 (R t) (type-param-at t) type-param.Post
   link-opt-requires-2 c κs =
-      let good = c .before .before .before .before .before .before .before .before .before .before .before .before .before .before .before .before .before .before .before .before .before .before .before .before .before .before .before .before .before .before .before .before .before .before .before .before .before .before .before .before .before .before .before .good in
       let pre = c .before .before .before .before .before .before .before .before .before .before .before .before .before .before .before .before .before .before .before .before .before .before .before .before .before .before .before .before .before .before .before .before .before .before .before .before .before .before .before .before .before .before .before .pre in
-      let type-param-head = c .before .before .before .before .before .before .before .before .before .before .before .before .before .before .before .before .before .before .before .before .before .before .before .before .before .before .before .before .before .before .before .before .before .before .before .before .before .type-param-head in
-      let if1 = c .before .before .before .before .before .before .before .before .before .before .before .before .before .before .before .before .before .before .before .before .before .before .before .before .before .before .before .before .before .before .before .before .before .if1 in
       let opt = c .before .before .before .before .before .before .before .before .before .before .before .before .before .before .before .before .before .before .before .before .before .before .before .before .before .before .before .before .opt in
       let if2 = c .before .before .before .before .before .before .before .before .before .before .before .before .before .before .before .before .before .before .before .before .if2 in
       let none = c .before .before .before .before .before .before .before .before .before .before .before .before .before .before .before .before .before .none in
       let link-opt = c .before .before .before .before .before .before .before .before .before .before .before .before .before .before .before .before .link-opt in
       let opt2 = c .before .before .before .before .before .before .before .before .before .before .opt2 in
       let if3 = c .before .before .if3 in
-      omega (arith, opt2 .ensures .1 .1 (if3 .left), link-opt .ensures .1, same-kids (none .ensures), if2, opt .ensures .1 .0, opt .ensures .1 .1 (if2 .left), if1, type-param-head .ensures .1, pre, good)
+      omega (arith, opt2 .ensures .1 .1 (if3 .left), link-opt .ensures .1, same-kids (none .ensures), opt .ensures .1 .1 (if2 .left), pre)
 
   pub opt-bit-requires : lts.Need-opt-bit-requires (R t) (type-param-at t) type-param.Post
   opt-bit-requires c κs = search needs
@@ -167,10 +176,8 @@ module _ (t : ℕ) where
 
   pub put-requires : lts.Need-put-requires (R t) (type-param-at t) type-param.Post
   put-requires c κs =
-      let good = c .before .before .before .before .before .before .before .before .before .before .before .before .before .before .before .before .before .before .before .before .before .before .before .before .before .before .before .before .before .before .before .before .before .before .before .before .before .before .before .before .before .before .before .before .before .before .before .before .before .before .good in
       let pre = c .before .before .before .before .before .before .before .before .before .before .before .before .before .before .before .before .before .before .before .before .before .before .before .before .before .before .before .before .before .before .before .before .before .before .before .before .before .before .before .before .before .before .before .before .before .before .before .before .before .before .pre in
       let type-param-head = c .before .before .before .before .before .before .before .before .before .before .before .before .before .before .before .before .before .before .before .before .before .before .before .before .before .before .before .before .before .before .before .before .before .before .before .before .before .before .before .before .before .before .before .before .type-param-head in
-      let if1 = c .before .before .before .before .before .before .before .before .before .before .before .before .before .before .before .before .before .before .before .before .before .before .before .before .before .before .before .before .before .before .before .before .before .before .before .before .before .before .before .before .if1 in
       let opt = c .before .before .before .before .before .before .before .before .before .before .before .before .before .before .before .before .before .before .before .before .before .before .before .before .before .before .before .before .before .before .before .before .before .before .before .opt in
       let if2 = c .before .before .before .before .before .before .before .before .before .before .before .before .before .before .before .before .before .before .before .before .before .before .before .before .before .before .before .if2 in
       let none = c .before .before .before .before .before .before .before .before .before .before .before .before .before .before .before .before .before .before .before .before .before .before .before .before .none in
@@ -182,21 +189,61 @@ module _ (t : ℕ) where
       let opt-bit2 = c .before .before .opt-bit2 in
       let at = c .at in (
         pre .1 .1,
-        omega (arith, link-opt2 .kept, opt2 .ensures .1 .1 (if3 .left), link-opt .kept, same-kids (none .ensures), opt .kept, opt .ensures .1 .1 (if2 .left), type-param-head .kept),
-        omega (arith, at .ensures .0, at .ensures .1, opt-bit2 .ensures .0, opt-bit2 .ensures .1, opt-bit .ensures .0, opt-bit .ensures .1, link-opt2 .ensures .1, link-opt2 .kept, if3, opt2 .ensures .1 .0, opt2 .kept, opt2 .ensures .1 .1 (if3 .left), link-opt .ensures .1, link-opt .kept, same-kids (none .ensures), if2, opt .ensures .1 .0, opt .kept, opt .ensures .1 .1 (if2 .left), if1, type-param-head .ensures .1, type-param-head .kept, pre, good),
-        omega (arith, at .ensures .1, opt-bit2 .ensures .0, opt-bit2 .ensures .1, opt-bit .ensures .0, opt-bit .ensures .1, link-opt2 .ensures .1, opt2 .ensures .1 .0, opt2 .ensures .1 .1 (if3 .left), link-opt .ensures .1, same-kids (none .ensures), opt .ensures .1 .0, opt .ensures .1 .1 (if2 .left), type-param-head .ensures .1),
+        omega (
+          arith,
+          link-opt2 .kept,
+          opt2 .ensures .1 .1 (if3 .left),
+          link-opt .kept,
+          same-kids (none .ensures),
+          opt .kept,
+          opt .ensures .1 .1 (if2 .left),
+          type-param-head .kept,
+        ),
+        omega (
+          arith,
+          at .ensures .0,
+          at .ensures .1,
+          opt-bit2 .ensures .0,
+          opt-bit2 .ensures .1,
+          opt-bit .ensures .0,
+          opt-bit .ensures .1,
+          link-opt2 .ensures .1,
+          opt2 .ensures .1 .0,
+          opt2 .ensures .1 .1 (if3 .left),
+          link-opt .ensures .1,
+          same-kids (none .ensures),
+          opt .ensures .1 .0,
+          opt .ensures .1 .1 (if2 .left),
+          type-param-head .ensures .1,
+          pre,
+        ),
+        omega (
+          arith,
+          at .ensures .1,
+          opt-bit2 .ensures .0,
+          opt-bit2 .ensures .1,
+          opt-bit .ensures .0,
+          opt-bit .ensures .1,
+          link-opt2 .ensures .1,
+          opt2 .ensures .1 .0,
+          opt2 .ensures .1 .1 (if3 .left),
+          link-opt .ensures .1,
+          same-kids (none .ensures),
+          opt .ensures .1 .0,
+          opt .ensures .1 .1 (if2 .left),
+          type-param-head .ensures .1,
+        ),
         omega arith,
         omega arith,
       )
 
   pub same-length-8 : lts.Need-same-length-8 (R t) (type-param-at t) type-param.Post
   same-length-8 c =
-      let type-param-head = c .before .before .before .before .before .before .before .before .before .before .before .before .before .before .before .before .before .before .before .before .before .before .before .before .before .before .before .before .before .before .before .before .before .before .before .before .before .before .before .before .before .before .before .before .before .before .before .type-param-head in
       let opt = c .before .before .before .before .before .before .before .before .before .before .before .before .before .before .before .before .before .before .before .before .before .before .before .before .before .before .before .before .before .before .before .before .before .before .before .before .before .before .opt in
       let link-opt = c .before .before .before .before .before .before .before .before .before .before .before .before .before .before .before .before .before .before .before .before .before .before .before .before .before .before .link-opt in
       let opt2 = c .before .before .before .before .before .before .before .before .before .before .before .before .before .before .before .before .before .before .before .before .opt2 in
       let link-opt2 = c .before .before .before .before .before .before .before .before .before .link-opt2 in
-      omega (arith, link-opt2 .kept, opt2 .kept, link-opt .kept, opt .kept, type-param-head .kept)
+      omega (arith, link-opt2 .kept, opt2 .kept, link-opt .kept, opt .kept)
 
   pub same-length-9 : lts.Need-same-length-9 (R t) (type-param-at t) type-param.Post
   same-length-9 c =
@@ -207,15 +254,13 @@ module _ (t : ℕ) where
 
   pub same-length-10 : lts.Need-same-length-10 (R t) (type-param-at t) type-param.Post
   same-length-10 c =
-      let type-param-head = c .before .before .before .before .before .before .before .before .before .before .before .before .before .before .before .before .before .before .before .before .before .before .before .before .before .before .before .before .before .before .before .before .before .before .before .before .before .before .before .before .before .before .before .before .before .before .before .type-param-head in
       let opt = c .before .before .before .before .before .before .before .before .before .before .before .before .before .before .before .before .before .before .before .before .before .before .before .before .before .before .before .before .before .before .before .before .before .before .before .before .before .before .opt in
       let opt2 = c .before .before .before .before .before .before .before .before .before .before .before .before .before .before .before .before .before .before .before .before .opt2 in
-      omega (arith, opt2 .kept, opt .kept, type-param-head .kept)
+      omega (arith, opt2 .kept, opt .kept)
 
   pub returns-4 : lts.Need-returns-4 (R t) (type-param-at t) type-param.Post
   returns-4 c =
       let args = c .before .before .before .before .before .before .before .before .before .before .before .before .before .before .before .before .before .before .before .before .before .before .before .before .before .before .before .before .before .before .before .before .before .before .before .before .before .before .before .before .before .before .before .before .before .before .before .before .before .before .before .before .before .args in
-      let good = c .before .before .before .before .before .before .before .before .before .before .before .before .before .before .before .before .before .before .before .before .before .before .before .before .before .before .before .before .before .before .before .before .before .before .before .before .before .before .before .before .before .before .before .before .before .before .before .before .before .before .before .before .before .good in
       let pre = c .before .before .before .before .before .before .before .before .before .before .before .before .before .before .before .before .before .before .before .before .before .before .before .before .before .before .before .before .before .before .before .before .before .before .before .before .before .before .before .before .before .before .before .before .before .before .before .before .before .before .before .before .before .pre in
       let type-param-head = c .before .before .before .before .before .before .before .before .before .before .before .before .before .before .before .before .before .before .before .before .before .before .before .before .before .before .before .before .before .before .before .before .before .before .before .before .before .before .before .before .before .before .before .before .before .before .before .type-param-head in
       let if1 = c .before .before .before .before .before .before .before .before .before .before .before .before .before .before .before .before .before .before .before .before .before .before .before .before .before .before .before .before .before .before .before .before .before .before .before .before .before .before .before .before .before .before .before .if1 in
@@ -241,12 +286,37 @@ module _ (t : ℕ) where
             (built-option (opt .result .m) (opt2 .result .m)
             (built-option (type-param-head .result .m) (opt .result .m) (built-spoken (none .ensures) (head .spoken))
             x (omega (arith, opt .kept)) (link-opt .ensures .0))
-            d (omega (arith, opt2 .kept, link-opt .kept)) (link-opt2 .ensures .0))
+            d (omega (arith, opt2 .kept)) (link-opt2 .ensures .0))
             (at .ensures .0 .1)
-            (shape-as (omega (arith, opt-bit .ensures .0, opt-bit2 .ensures .0, ap optBit (x .high-is), ap optBit (d .high-is)))
+            (shape-as (omega (arith, ap optBit (x .high-is), ap optBit (d .high-is)))
             (shape-typeParameter (head .what) (x .tree) (d .tree) (x .is-opt) (d .is-opt)))),
         (
-          omega (arith, put .ensures .1, put .kept, at .ensures .0, at .ensures .1, opt-bit2 .ensures .0, opt-bit2 .ensures .1, opt-bit .ensures .0, opt-bit .ensures .1, link-opt2 .ensures .1, link-opt2 .kept, if3, opt2 .ensures .1 .0, opt2 .kept, opt2 .ensures .1 .1 (if3 .left), link-opt .ensures .1, link-opt .kept, same-kids (none .ensures), if2, opt .ensures .1 .0, opt .kept, opt .ensures .1 .1 (if2 .left), if1, type-param-head .ensures .1, type-param-head .kept, pre, good),
-          λ z. omega (arith, put .ensures .1, put .kept, at .ensures .0, at .ensures .1, opt-bit2 .ensures .0, opt-bit2 .ensures .1, opt-bit .ensures .0, opt-bit .ensures .1, link-opt2 .ensures .1, link-opt2 .kept, if3, opt2 .ensures .1 .0, opt2 .kept, opt2 .ensures .1 .1 (if3 .left), link-opt .ensures .1, link-opt .kept, same-kids (none .ensures), if2, opt .ensures .1 .0, opt .kept, opt .ensures .1 .1 (if2 .left), if1, type-param-head .ensures .1, type-param-head .kept, pre, good, z),
+          omega (
+            arith,
+            opt-bit2 .ensures .0,
+            opt-bit2 .ensures .1,
+            opt-bit .ensures .0,
+            opt-bit .ensures .1,
+            link-opt2 .ensures .1,
+            opt2 .ensures .1 .0,
+            opt2 .ensures .1 .1 (if3 .left),
+            link-opt .ensures .1,
+            same-kids (none .ensures),
+            opt .ensures .1 .0,
+            opt .ensures .1 .1 (if2 .left),
+            type-param-head .ensures .1,
+            pre,
+          ),
+          λ z. omega (
+            arith,
+            opt2 .ensures .1 .1 (if3 .left),
+            link-opt .ensures .1,
+            same-kids (none .ensures),
+            opt .ensures .1 .0,
+            opt .ensures .1 .1 (if2 .left),
+            type-param-head .ensures .1,
+            pre,
+            z,
+          ),
         ),
       )

@@ -28,13 +28,33 @@ use Rattle.readers.proofs.ring.+arguments+conditional+element+extends+f
 use Rattle.readers.proofs.ring.+arguments+conditional+element+extends+function+infer+intersection+mapped+name_type+named+operator+opt+other+param+param_list+params+parens+postfix+predicate+primary+return_type+signature+suffix+template+then+tuple+ty+type_param+type_params+union.Proof.Base.{type-param-below, type-params-at}
 
 abbrev pub R : ℕ → lts.Claims
-R t = (kind-at-reads.Asked, kind-at-reads.Learnt, absent-reads.Asked, absent-reads.Learnt, state-Kids-none-reads.Asked, state-Kids-none-reads.Learnt, type-param-below t, type-param.Post, state-Listed-refused-reads.Asked, state-Listed-refused-reads.Learnt, link-reads.Asked, link-reads.Learnt, past-comma-reads.Asked, past-comma-reads.Learnt, first-byte-reads.Asked, first-byte-reads.Learnt, list-end-reads.Asked, list-end-reads.Learnt)
+R t = (
+  kind-at-reads.Asked,
+  kind-at-reads.Learnt,
+  absent-reads.Asked,
+  absent-reads.Learnt,
+  state-Kids-none-reads.Asked,
+  state-Kids-none-reads.Learnt,
+  type-param-below t,
+  type-param.Post,
+  state-Listed-refused-reads.Asked,
+  state-Listed-refused-reads.Learnt,
+  link-reads.Asked,
+  link-reads.Learnt,
+  past-comma-reads.Asked,
+  past-comma-reads.Learnt,
+  first-byte-reads.Asked,
+  first-byte-reads.Learnt,
+  list-end-reads.Asked,
+  list-end-reads.Learnt,
+)
 
 abbrev pub Inv-loop : lts.InvT-loop
 Inv-loop words classes nodes₀ names₀ notes₀ given on m p₀ k₀ nodes names notes p k =
     Kept (length words) given nodes₀ names₀ notes₀ p₀ nodes names notes p × (Under (p .used) k)
-    ×
-    ((text : List ℕ) → Spelt text words → TypesTurn (givenOf text words given) (below given (givenOf text words given)) on (view m notes₀) (was m nodes₀ names₀ notes₀) k p nodes names notes)
+    × ((text : List ℕ) → Spelt text words
+    → TypesTurn (givenOf text words given) (below given (givenOf text words given)) on (view m notes₀)
+    (was m nodes₀ names₀ notes₀) k p nodes names notes)
 
 abbrev pub μ-loop : lts.MeasureT-loop
 μ-loop words classes nodes₀ names₀ notes₀ given on m p₀ k₀ nodes names notes p k =
@@ -42,8 +62,7 @@ abbrev pub μ-loop : lts.MeasureT-loop
 
 module _ (t : ℕ) where
   pub kind-at-requires : lts.Need-kind-at-requires (R t) (type-params-at t) type-params.Post Inv-loop μ-loop
-  kind-at-requires c κs =
-      search needs
+  kind-at-requires c κs = search needs
 
   pub absent-requires : lts.Need-absent-requires (R t) (type-params-at t) type-params.Post Inv-loop μ-loop
   absent-requires c κs = search needs
@@ -124,17 +143,11 @@ module _ (t : ℕ) where
 
   pub link-requires : lts.Need-link-requires (R t) (type-params-at t) type-params.Post Inv-loop μ-loop
   link-requires c κs =
-      let good = c .before .before .before .before .before .before .before .before .before .before .before .before .before .before .before .before .before .before .before .before .before .before .before .before .before .good in
       let pre = c .before .before .before .before .before .before .before .before .before .before .before .before .before .before .before .before .before .before .before .before .before .before .before .before .before .pre in
-      let kind-at = c .before .before .before .before .before .before .before .before .before .before .before .before .before .before .before .before .before .before .before .before .kind-at in
-      let if1 = c .before .before .before .before .before .before .before .before .before .before .before .before .before .before .before .before .before .before .before .if1 in
-      let none = c .before .before .before .before .before .before .before .before .before .before .before .before .before .before .before .before .before .none in
       let loop = c .before .before .before .before .before .before .before .before .before .before .before .before .before .before .before .before .loop in
-      let kind-at2 = c .before .before .before .before .before .before .before .before .before .before .before .before .before .before .before .kind-at2 in
-      let if2 = c .before .before .before .before .before .before .before .before .before .before .before .before .before .before .if2 in
       let type-param = c .before .before .before .before .before .before .before .before .before .before .type-param in
       let if3 = c .before .before .if3 in
-      omega (arith, type-param .ensures .1 .1 (if3 .left), if2, kind-at2 .ensures .0, kind-at2 .ensures .1, loop .inv .0, loop .inv .1, same-kids (none .ensures), if1, kind-at .ensures .0, kind-at .ensures .1, pre, good)
+      omega (arith, type-param .ensures .1 .1 (if3 .left), loop .inv .1, pre)
 
   pub past-comma-requires : lts.Need-past-comma-requires (R t) (type-params-at t) type-params.Post Inv-loop μ-loop
   past-comma-requires c κs =
@@ -190,7 +203,6 @@ module _ (t : ℕ) where
   pub loop-again : lts.Need-loop-again (R t) (type-params-at t) type-params.Post Inv-loop μ-loop
   loop-again c =
       let args = c .before .before .before .before .before .before .before .before .before .before .before .before .before .before .before .before .before .before .before .before .before .before .before .before .before .before .before .before .before .before .before .before .args in
-      let none = c .before .before .before .before .before .before .before .before .before .before .before .before .before .before .before .before .before .before .before .before .before .before .before .before .none in
       let loop = c .before .before .before .before .before .before .before .before .before .before .before .before .before .before .before .before .before .before .before .before .before .before .before .loop in
       let kind-at2 = c .before .before .before .before .before .before .before .before .before .before .before .before .before .before .before .before .before .before .before .before .before .before .kind-at2 in
       let if2 = c .before .before .before .before .before .before .before .before .before .before .before .before .before .before .before .before .before .before .before .before .before .if2 in
@@ -199,7 +211,7 @@ module _ (t : ℕ) where
       let link = c .before .before .before .before .before .before .link in
       let past-comma = c .before .before .before .past-comma in
       let if4 = c .before .if4 in (
-        omega (arith, type-param .kept, type-param .ensures .1 .1 (if3 .left), same-kids (none .ensures)),
+        omega (arith, type-param .kept, type-param .ensures .1 .1 (if3 .left)),
         omega arith,
         λ text s.
             let w = loop .inv .2 text s in
@@ -230,16 +242,14 @@ module _ (t : ℕ) where
   pub returns-4 : lts.Need-returns-4 (R t) (type-params-at t) type-params.Post Inv-loop μ-loop
   returns-4 c =
       let args = c .before .before .before .before .before .before .before .before .before .before .before .before .before .before .before .before .args in
-      let first-byte = c .before .before .before .before .first-byte in
-      let good = c .before .before .before .before .before .before .before .before .before .before .before .before .before .before .before .before .good in
       let pre = c .before .before .before .before .before .before .before .before .before .before .before .before .before .before .before .before .pre in
-      let if1 = c .before .before .before .before .before .before .before .before .before .before .if1 in
       let loop = c .before .before .before .before .before .before .before .loop in
       let kind-at2 = c .before .before .before .before .before .before .kind-at2 in
       let if2 = c .before .before .before .before .before .if2 in
+      let first-byte = c .before .before .before .before .first-byte in
       let list-end = c .before .before .list-end in (
         λ text s.
             turn-ends text (args .words .now) (args .given) _ _ _ _ (loop .p) (loop .inv .2 text s)
             (is-here (args .words .now) (loop .p) (kind-at2 .ensures .0) (if2 .left)) (first-byte .ensures .0) (list-end .ensures .0),
-        (omega arith, λ z. omega (arith, if1, pre, good, z)),
+        (omega arith, λ z. omega (arith, pre)),
       )
