@@ -22,66 +22,7 @@ args = ap.parse_args()
 sys.setrecursionlimit(20000)
 sys.path.insert(0, args.model)
 import model as m
-
-# ---- the model, with the half of a refusal and the start of a spelling
-class Sp(bytes):
-    start = 0
-class Text(bytes):
-    def __getitem__(self, x):
-        r = bytes.__getitem__(self, x)
-        if isinstance(x, slice):
-            r = Sp(r); r.start = x.start or 0
-        return r
-class Reading(m.Reading):
-    def refuse(r, number): raise m.Refused(number, r.i, r.half)
-
-# ---- what the store holds: the run of a node in key order, records in postorder, names in key order
-def opt(x, f): return [('c', 1, 0)] if x is None else [('c', 1, 1)] + f(x)
-def kid(t): return [('k', t)]
-def many(l): return [('c', 12, len(l))] + [('k', t) for t in l]
-def name(s): return [('n', s)]
-def spells(l): return [('c', 12, len(l))] + [('n', s) for s in l]
-def bit(x): return [('c', 1, 1 if x else 0)]
-def run(n):
-    f, t = n.f, n.tag
-    if t == 'type parameter': return name(f['name']) + opt(f['x'], kid) + opt(f['d'], kid)
-    if t == 'parameter': return bit(f['rest']) + name(f['name']) + bit(f['q']) + opt(f['t'], kid)
-    if t in (1, 17): r = spells(f['names']) + opt(f['args'], many)
-    elif t == 2: r = [('c', 4, f['which'])]
-    elif t == 3: r = [('c', 3, f['which'])] + (name(f['s']) if f['s'] is not None else [])
-    elif t in (4, 7, 20, 21, 23, 24): r = kid(f['t'])
-    elif t in (5, 6, 19): r = many(f['list'])
-    elif t == 8: r = kid(f['t']) + kid(f['x'])
-    elif t == 9: r = [('k', x) for x in f['four']]
-    elif t == 10: r = name(f['name']) + opt(f['x'], kid)
-    elif t == 11: r = [('c', 2, f['which'])] + kid(f['t'])
-    elif t == 12: r = opt(f['params'], many) + opt(f['this'], lambda p: opt(p[0], kid)) + many(f['list']) + kid(f['ret'])
-    elif t == 13: r = bit(f['abstract']) + opt(f['params'], many) + many(f['list']) + kid(f['ret'])
-    elif t == 14: r = [('c', 2, f['ro'])] + name(f['key']) + kid(f['c']) + opt(f['n'], kid) + [('c', 2, f['q'])] + opt(f['t'], kid)
-    elif t == 15: r = [('c', 12, len(f['ts']))] + name(f['ss'][0]) + [x for a, s in zip(f['ts'], f['ss'][1:]) for x in kid(a) + name(s)]
-    elif t == 16: r = bit(f['asserts']) + ([('c', 1, 1)] if f['name'] is None else [('c', 1, 0)] + name(f['name'])) + opt(f['t'], kid)
-    elif t == 18: r = bit(f['typeof']) + name(f['s']) + spells(f['names']) + opt(f['args'], many)
-    elif t == 22: r = name(f['name']) + bit(f['q']) + kid(f['t'])
-    return [('c', 6, t)] + r
-
-TAGS = set()
-class Store:
-    def __init__(s, root):
-        s.nodes, s.names = [], []
-        s.lay(root); s.nodes[-1][3] = 0
-    def lay(s, n):                                        # gives the node's number
-        TAGS.add(n.tag)
-        mine, shift, first, last, named = 0, 0, 0, None, len(s.names)
-        for x in run(n):
-            if x[0] == 'c': mine += x[2] << shift; shift += x[1]
-            elif x[0] == 'n': s.names.append(x[1].start << 32 | len(x[1]))
-            else:
-                k = s.lay(x[1])
-                if last is None: first = k
-                else: s.nodes[last][3] = k
-                last = k
-        s.nodes.append([mine, n.b | n.e << 32, first | named << 32, 0])
-        return len(s.nodes) - 1
+from rules_model import Reading, TAGS, Text, store
 
 def fill(n, l): return l + [0] * (n - len(l))
 def read(text, words, start, parens, lent):
@@ -94,11 +35,11 @@ def read(text, words, start, parens, lent):
     r = Reading(Text(text), words, start, parens, a // 4, c // 3)
     try: t = r.type(True)
     except m.Refused as x: return no(*x.args)
-    k, s = list(m.key_of(t)), Store(t)
-    assert len(s.nodes) == r.live
-    if len(k) > d or len(k) > m.KEY or len(s.names) > b: return no(11, 0, 0)
-    return (('reads', r.live, len(s.names), len(r.notes), r.i, r.half, len(k)),
-            fill(a, [w for n in s.nodes for w in n]), fill(b, s.names), fill(c, [w for n in r.notes for w in n]), fill(d, k))
+    k, (nodes, names) = list(m.key_of(t)), store(t)
+    assert len(nodes) == 4 * r.live
+    if len(k) > d or len(k) > m.KEY or len(names) > b: return no(11, 0, 0)
+    return (('reads', r.live, len(names), len(r.notes), r.i, r.half, len(k)),
+            fill(a, nodes), fill(b, names), fill(c, [w for n in r.notes for w in n]), fill(d, k))
 
 # ---- inputs
 rng = random.Random(args.seed)
