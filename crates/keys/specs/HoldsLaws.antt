@@ -2,13 +2,13 @@
 use mathlib.Core.Path.{_≡_, refl, sym, ap, ap₂, _∙_, subst}
 use mathlib.Core.List.{List, [], _∷_, _++_, append-assoc, append-nil}
 use Prim.Native.Nat.{ℕ, suc, _+_, _-_, _*_, _/_, _%_, _^_, _≤_, _<_, max, min}
-use native.Mathlib.Nat.{add-comm, mul-comm, mod-eq-of-lt}
+use native.Mathlib.Nat.{add-comm, add-zero, mul-comm, mod-eq-of-lt}
 use native.Mathlib.Omega.{arith}
 use lib.Arith.{digits-div, digits-mod}
-use lib.ListN.{length, getD, take, drop, replicate, length-append, take-append-drop, length-take, length-drop}
-use lib.Seq.{getD-at, take-append-seam}
+use lib.ListN.{length, getD, take, drop, replicate, length-append, take-append-drop, length-take, length-drop, List·getD-append}
+use lib.Seq.{getD-append-add, take-append-seam}
 use Rattle.keys.specs.Bits.{Bits, bitsOf}
-use Rattle.keys.specs.Form.{Value, choice, pair, Form, one, both, child, Grammar, branch, left, right, class, height, nodes, names, letters, write, Fits, fits-one, fits-word, fits-choose, fits-both, fits-child}
+use Rattle.keys.specs.Form.{Value, Form, one, both, child, Grammar, branch, left, right, class, height, nodes, names, letters, write, Fits, fits-one, fits-word, fits-choose, fits-both, fits-child}
 use Rattle.keys.specs.Table.{type}
 use Rattle.keys.specs.Placed.{Placed, void, said, pick, join, tree, bare, laid}
 use Rattle.keys.specs.Key.{nodeTable}
@@ -80,6 +80,25 @@ module _ (G : Grammar) where
   written-plant g (tree t first end p) (fits-child {c = c} a b) r =
       ap (λ (x : Bits). (bitsOf (G .tagWidth c) t ++ x) ++ written (lined G) g r) (written-plant one p b done ∙ append-nil (write G (G .row c t) (bare p)))
 
+-- ---- The run of a type
+
+-- A run of one child alone: no choice, and the child is the last node under it.
+record Alone (r : Run) : Type 0 where
+  word : packed r ≡ 0
+  last : firstKid r 0 0 + 1 ≡ under r
+
+-- Such is a run of the form of a node with nothing behind it.
+alone : {G : Grammar} {c : ℕ} {r : Run} → Of G (both (child c) one) r → Alone r
+alone (of-child o of-one) = record { word = refl; last = omega arith }
+
+-- The run of a type is of its form in line.
+pub of-type : (p : Placed) → Fits nodeTable type (bare p) → Of (lined nodeTable) (both (child 0) one) (runOf p)
+of-type p f = of-plant nodeTable p f done of-one
+
+-- Its root is the last of its nodes.
+pub root-is : (p : Placed) → Fits nodeTable type (bare p) → firstKid (runOf p) 0 0 + 1 ≡ nodes (bare p)
+root-is p f = omega (arith, under-plant nodeTable type p done, alone (of-type p f) .last)
+
 -- ---- A list that stands in another from a place
 
 pub record In (L : List ℕ) (at : ℕ) (l : List ℕ) : Type 0 where
@@ -100,8 +119,11 @@ in-right l r n e d =
       size = length-append (d .before) l ∙ ap (λ (x : ℕ). x + length l) (d .size) ∙ sym e;
     }
 
-in-head : {L : List ℕ} {at : ℕ} (x : ℕ) (r : List ℕ) → In L at (x ∷ r) → getD L at 0 ≡ x
-in-head {L} {at} x r d = ap (λ (l : List ℕ). getD l at 0) (d .is) ∙ getD-at (d .before) x (r ++ d .after) 0 at (d .size)
+-- A word of the list stands as far behind the list's place.
+in-at : {L : List ℕ} {at : ℕ} (l : List ℕ) (i n : ℕ) → n ≡ at + i → i < length l → In L at l → getD L n 0 ≡ getD l i 0
+in-at l i n e h d =
+    ap₂ (λ (x : List ℕ) (k : ℕ). getD x k 0) (d .is) (e ∙ ap (λ (k : ℕ). k + i) (sym (d .size)))
+    ∙ getD-append-add (d .before) (l ++ d .after) i 0 ∙ List·getD-append l (d .after) 0 i h
 
 in-tail : {L : List ℕ} {at : ℕ} (x : ℕ) (r : List ℕ) (n : ℕ) → n ≡ at + 1 → In L at (x ∷ r) → In L n r
 in-tail x r n e d = in-right (x ∷ []) r n e d
@@ -179,42 +201,41 @@ mod-is k p y h = ap (λ (x : ℕ). x % p) (add-comm k (p * y) ∙ ap (λ (x : �
 div-is : (k p y : ℕ) → k < p → (k + p * y) / p ≡ y
 div-is k p y h = ap (λ (x : ℕ). x / p) (add-comm k (p * y) ∙ ap (λ (x : ℕ). x + k) (mul-comm p y)) ∙ digits-div y h
 
--- What stands of a first child and of the others: the child's words and links, and where its records and those of the others are.
-pub record Kid (N : List ℕ) (a t : Run) (b m n next : ℕ) : Type 0 where
+-- What stands of a first child and of the others: the child's choices as its record has them, its links, and where its records and those of the others are.
+pub record Kid (N : List ℕ) (first end : ℕ) (a t : Run) (b m n next : ℕ) : Type 0 where
   pub inside : In N (b * 4) (records a b m 0)
   pub others : In N ((b + under a + 1) * 4) (records t (b + under a + 1) (m + called a) n)
-  pub word : wordAt N next ≡ packed a
+  pub word : wordAt N next ≡ getD (recordOf first end a b m (firstKid t (b + under a + 1) n)) 0 0
   pub child : childAt N next ≡ firstKid a b 0
   pub sibling : nextAt N next ≡ firstKid t (b + under a + 1) n
 
 pub kid-in : (N : List ℕ) (first end : ℕ) (a t : Run) (b m n next : ℕ) → In N (b * 4) (records (kid first end a t) b m n) → b + under (kid first end a t) < 2 ^ 32 → n < 2 ^ 32
-    → next ≡ firstKid (kid first end a t) b n → Kid N a t b m n next
+    → next ≡ firstKid (kid first end a t) b n → Kid N first end a t b m n next
 kid-in N first end a t b m n next p h l f =
-    let i1 : In N (b * 4) (records a b m 0 ++ recordOf first end a b m (firstKid t (b + under a + 1) n)) =
-    in-left (records a b m 0 ++ recordOf first end a b m (firstKid t (b + under a + 1) n)) (records t (b + under a + 1) (m + called a) n) p in
-    let la : length (records a b m 0) ≡ 4 * under a = length-records a b m 0 in
-    let lt : length (records a b m 0 ++ recordOf first end a b m (firstKid t (b + under a + 1) n)) ≡ length (records a b m 0) + 4 =
-    length-append (records a b m 0) (recordOf first end a b m (firstKid t (b + under a + 1) n)) in
-    let i2 : In N (next * 4) (recordOf first end a b m (firstKid t (b + under a + 1) n)) =
-    in-right (records a b m 0) (recordOf first end a b m (firstKid t (b + under a + 1) n)) (next * 4) (omega arith) i1 in
-    let i3 = in-tail (packed a) ((first + 2 ^ 32 * end) ∷ (firstKid a b 0 + 2 ^ 32 * m) ∷ firstKid t (b + under a + 1) n ∷ []) (next * 4 + 1) refl i2 in
-    let i4 = in-tail (first + 2 ^ 32 * end) ((firstKid a b 0 + 2 ^ 32 * m) ∷ firstKid t (b + under a + 1) n ∷ []) (next * 4 + 2) (omega arith) i3 in
-    let i5 = in-tail (firstKid a b 0 + 2 ^ 32 * m) (firstKid t (b + under a + 1) n ∷ []) (next * 4 + 3) (omega arith) i4 in
     record {
-      inside = in-left (records a b m 0) (recordOf first end a b m (firstKid t (b + under a + 1) n)) i1;
-      others =
-          in-right (records a b m 0 ++ recordOf first end a b m (firstKid t (b + under a + 1) n)) (records t (b + under a + 1) (m + called a) n) ((b + under a + 1) * 4) (omega arith) p;
-      word = in-head (packed a) ((first + 2 ^ 32 * end) ∷ (firstKid a b 0 + 2 ^ 32 * m) ∷ firstKid t (b + under a + 1) n ∷ []) i2;
-      child =
-          ap (λ (i : ℕ). i % 2 ^ 32) (in-head (firstKid a b 0 + 2 ^ 32 * m) (firstKid t (b + under a + 1) n ∷ []) i4)
-          ∙ low-is (firstKid a b 0) m (first-lt a b 0 (omega arith) (omega arith));
-      sibling = ap (λ (i : ℕ). i % 2 ^ 32) (in-head (firstKid t (b + under a + 1) n) [] i5) ∙ mod-eq-of-lt (first-lt t (b + under a + 1) n (omega arith) l);
+      inside = in-left (records a b m 0) own (in-left (records a b m 0 ++ own) rest p);
+      others = in-right (records a b m 0 ++ own) rest ((b + under a + 1) * 4) (omega (arith, size, length-append (records a b m 0) own)) p;
+      word = in-at own 0 (next * 4) (omega arith) (omega arith) here;
+      child = ap (λ (i : ℕ). i % 2 ^ 32) (in-at own 2 (next * 4 + 2) refl (omega arith) here) ∙ low-is (firstKid a b 0) m (first-lt a b 0 (omega arith) (omega arith));
+      sibling = ap (λ (i : ℕ). i % 2 ^ 32) (in-at own 3 (next * 4 + 3) refl (omega arith) here) ∙ mod-eq-of-lt (first-lt t (b + under a + 1) n (omega arith) l);
     }
+  where
+    own : List ℕ
+    own = recordOf first end a b m (firstKid t (b + under a + 1) n)
+
+    rest : List ℕ
+    rest = records t (b + under a + 1) (m + called a) n
+
+    size : length (records a b m 0) ≡ 4 * under a
+    size = length-records a b m 0
+
+    here : In N (next * 4) own
+    here = in-right (records a b m 0) own (next * 4) (omega (arith, size, f)) (in-left (records a b m 0 ++ own) rest p)
 
 module _ (N M X : List ℕ) where
   spells-in : (m x : ℕ) (s r : List ℕ) → 1 ≤ length s → In M m (nameOf x s ∷ r) → pointed X (nameOf x s) ≡ s → Spells M X m s
   spells-in m x s r h d e =
-      let g : getD M m 0 ≡ nameOf x s = in-head (nameOf x s) r d in
+      let g : getD M m 0 ≡ nameOf x s = in-at (nameOf x s ∷ r) 0 m (sym (add-zero m)) (omega arith) d in
       let p : take (sizeAt M m) (drop (startAt M m) X) ≡ s = ap (pointed X) g ∙ e in
       let l : length (take (sizeAt M m) (drop (startAt M m) X)) ≡ length s = ap length p in
       record {
@@ -246,31 +267,15 @@ module _ (N M X : List ℕ) where
 
   -- ---- A tree that stands in a store
 
-  pub root-is : (p : Placed) → Fits nodeTable type (bare p) → (root : ℕ) → root + 1 ≡ nodes (bare p) → root ≡ firstKid (runOf p) 0 0
-  root-is void f root e = absurd (omega arith)
-  root-is (said x s) f root e = absurd (omega arith)
-  root-is (pick k p) f root e = absurd (none f)
-    where
-      none : Fits nodeTable type (choice k (bare p)) → ⊥
-      none = elim [ ]
-  root-is (join p q) f root e = absurd (none f)
-    where
-      none : Fits nodeTable type (pair (bare p) (bare q)) → ⊥
-      none = elim [ ]
-  root-is (tree t first end p) f root e = omega (arith, e, under-plant nodeTable (nodeTable .row 0 t) p done)
-
   -- The store holds the run of the tree, from its root.
-  pub stands-holds : (p : Placed) → Stands N M X p → (root : ℕ) → root + 1 ≡ nodes (bare p) → Holds N M X (runOf p) (cursor (packed (runOf p)) root 0)
+  pub stands-holds : (p : Placed) → Stands N M X p → (root : ℕ) → root + 1 ≡ nodes (bare p) → Holds N M X (runOf p) (cursor 0 root 0)
   stands-holds p d root e =
       holds-run (runOf p) 0 0 0 (in-front N (nodesOf p) (d .nodesThere)) (in-front M (namesOf p) (d .namesThere))
       (points X (runOf p) (d .spelled ∙ sym (spellings-plant nodeTable type p done ∙ append-nil (names (bare p)))))
       (omega (arith, d .few, under-plant nodeTable type p done)) (omega arith) (neat-plant nodeTable p (d .fits) done tt)
-      (packed (runOf p)) root refl (root-is p (d .fits) root e)
+      0 root (sym (alone (of-type p (d .fits)) .word)) (omega (arith, e, root-is p (d .fits)))
 
-  -- Its run is of the form of a type, and as high as it.
-  pub stands-of : (p : Placed) → Stands N M X p → Of (lined nodeTable) (both (child 0) one) (runOf p)
-  stands-of p d = of-plant nodeTable p (d .fits) done of-one
-
+  -- The run is as high as the tree, and written as it is.
   pub stands-low : (p : Placed) (tall : ℕ) → height (bare p) ≤ tall → levels (runOf p) ≤ tall
   stands-low p tall h = omega (arith, levels-plant nodeTable type p done)
 

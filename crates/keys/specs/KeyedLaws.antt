@@ -16,13 +16,13 @@ use Rattle.keys.specs.Table.{type, wholeKey}
 use Rattle.keys.specs.Placed.{Placed, bare}
 use Rattle.keys.specs.Key.{gap, bytesOf, nodeTable}
 use Rattle.keys.specs.KeyLaws.{packs, length-packed}
-use Rattle.keys.specs.Store.{packed, runOf, filled}
+use Rattle.keys.specs.Store.{runOf, filled}
 use Rattle.keys.specs.Forms.{lined, grammarOf, tableWords}
 use Rattle.keys.specs.FormsLaws.{words-are}
 use Rattle.keys.specs.Put.{Put}
 use Rattle.keys.specs.PutLaws.{put-append, bytes-append, sets-past, sets-cons}
 use Rattle.keys.specs.Holds.{Spells, Stands, cursor}
-use Rattle.keys.specs.HoldsLaws.{stands-holds, stands-of, stands-low, stands-written}
+use Rattle.keys.specs.HoldsLaws.{of-type, stands-holds, stands-low, stands-written}
 use Rattle.keys.specs.Moves.{Noded}
 use Rattle.keys.specs.MovesLaws.{all-put}
 use Rattle.keys.specs.Out.{keyBits, fitted, Keyed}
@@ -106,9 +106,9 @@ module _ (N M X : List ℕ) (root tall n m bit0 bit : ℕ) (k0 k1 k : List ℕ) 
   all : (p : Placed) → Stands N M X p → root + 1 ≡ nodes (bare p) → height (bare p) ≤ tall → Put bit0 (write nodeTable type (bare p)) bit k1 k
   all p s e h =
       subst (λ (b : Bits). Put bit0 b bit k1 k)
-      (items-written (lined nodeTable) N (both (child 0) one) (runOf p) (cursor (packed (runOf p)) root 0) 0 ∙ stands-written N M X p s)
-      (all-put keyBits bits-sound (lined nodeTable) N (Spells M X) tall 0 (cursor (packed (runOf p)) root 0) rooted (runOf p)
-      (stands-of N M X p s) (stands-low N M X p tall h) (stands-holds N M X p s root e))
+      (items-written (lined nodeTable) N (both (child 0) one) (runOf p) (cursor 0 root 0) 0 ∙ stands-written N M X p s)
+      (all-put keyBits bits-sound (lined nodeTable) N (Spells M X) tall 0 (cursor 0 root 0) rooted (runOf p)
+      (of-type p (s .fits)) (stands-low N M X p tall h) (stands-holds N M X p s root e))
 
   whole : (p : Placed) → Stands N M X p → root + 1 ≡ nodes (bare p) → height (bare p) ≤ tall → Put 0 (write nodeTable wholeKey (choice edition (bare p))) bit k0 k
   whole q s e h = put-append p (all q s e h)

@@ -33,4 +33,5 @@ pub mod OutLaws
 pub mod HoldsLaws
 pub mod KeyedLaws
 pub mod VisitsLaws
+pub mod OneTree
 pub mod Theorems

@@ -39,9 +39,9 @@ ends (kid p q a t) b m = by (ends t (b + under a + 1) (m + called a))
   where
     by : Ends t (b + under a + 1) (m + called a) → Ends (kid p q a t) b m
     by (no-kid z f g) =
-        some-kid (omega arith) (records a b m 0 ++ (packed a ∷ (p + 2 ^ 32 * q) ∷ (firstKid a b 0 + 2 ^ 32 * m) ∷ []))
+        some-kid (omega arith) (records a b m 0 ++ take 3 (recordOf p q a b m 0))
         (λ n. ap₂ (λ (x : ℕ) (y : List ℕ). (records a b m 0 ++ recordOf p q a b m x) ++ y) (g n) (f n) ∙ append-nil (records a b m 0 ++ recordOf p q a b m n)
-        ∙ sym (append-assoc (records a b m 0) (packed a ∷ (p + 2 ^ 32 * q) ∷ (firstKid a b 0 + 2 ^ 32 * m) ∷ []) (n ∷ []))) (λ n o. refl)
+        ∙ sym (append-assoc (records a b m 0) (take 3 (recordOf p q a b m 0)) (n ∷ []))) (λ n o. refl)
     by (some-kid z l f g) =
         some-kid (omega arith) ((records a b m 0 ++ recordOf p q a b m (firstKid t (b + under a + 1) 0)) ++ l)
         (λ n. ap₂ (λ (x : ℕ) (y : List ℕ). (records a b m 0 ++ recordOf p q a b m x) ++ y) (g n 0) (f n)

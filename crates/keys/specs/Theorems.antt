@@ -1,23 +1,27 @@
 -- What is proved of keys and of taking them back. Trees are bare values of the node table, positions aside; that every maker's tree is one of them stands in Makers.
-use mathlib.Core.Path.{_≡_, refl, sym, ap, _∙_}
+use mathlib.Core.Path.{_≡_, refl, sym, ap, _∙_, subst₂}
 use mathlib.Core.Logic.{_↔_}
 use mathlib.Core.Bool.{Bool, true, false}
-use mathlib.Core.List.{List}
-use Prim.Native.Nat.{ℕ, _-_, _/_}
+use mathlib.Core.List.{List, _++_}
+use Prim.Native.Nat.{ℕ, _-_, _/_, _^_, _<_}
+use native.Mathlib.Omega.{arith}
 use borrow.Author.Tests.{le-leb}
 use lib.Dec.{leb}
 use lib.ListN.{length, take, replicate}
-use Rattle.keys.specs.Bits.{bitsOfBytes}
-use Rattle.keys.specs.Form.{Value, choice, names, Bytes, Fits, state}
-use Rattle.keys.specs.Limits.{longestKey, tallest, edition, recordWords}
+use Rattle.keys.specs.Bits.{Bits, bitsOf, bitsOfBytes}
+use Rattle.keys.specs.Form.{Value, choice, nodes, names, Bytes, Fits, state}
+use Rattle.keys.specs.Limits.{longestKey, tallest, editionWidth, edition, recordWords}
 use Rattle.keys.specs.Table.{type, wholeKey}
-use Rattle.keys.specs.Key.{Taken, taken, refused, outcome, nodeTable, keyOf, takeWithin, takeKey, IsTree, HasRoom, IsKey, IsRefusal}
-use Rattle.keys.specs.Store.{TakenBack, back, no, lent, takeBack, filled, textOf, allPointed, Kept, Left}
+use Rattle.keys.specs.Placed.{Placed, bare}
+use Rattle.keys.specs.Key.{Taken, taken, refused, outcome, bytesOf, nodeTable, keyOf, takeWithin, takeKey, IsTree, HasRoom, IsKey, IsRefusal}
+use Rattle.keys.specs.Store.{TakenBack, back, no, lent, takeBack, filled, nodesOf, namesOf, textOf, allPointed, Kept, Left}
+use Rattle.keys.specs.Holds.{Stands}
 use Rattle.keys.specs.BitsLaws.{clash}
 use Rattle.keys.specs.KeyLaws.{whole-room, whole-one}
 use Rattle.keys.specs.RefusalLaws.{too-long, whole-fine, outcome-fine}
 use Rattle.keys.specs.StoreLaws.{names-point}
 use Rattle.keys.specs.TakeLaws.{with-edition, key-back, kept-taken, kept-refused, text-small, names-first}
+use Rattle.keys.specs.OneTree.{one-written, own-words, four-words}
 
 -- A key taken back with room enough gives its tree.
 pub taken-back : {n k m : ℕ} {t : Value} → IsTree t → HasRoom n k m t → takeKey n k m (keyOf t) ≡ taken t
@@ -40,6 +44,17 @@ exactly {n} {k} {m} {key} {t} ok = (key-back n k m key ok t, λ x. ap (takeKey n
 -- They are the key of no other tree, whatever the room.
 pub one-tree : {n k m n' k' m' : ℕ} {key : List ℕ} {t u : Value} → IsKey n k m t key → IsKey n' k' m' u key → t ≡ u
 one-tree x y = same-key (x .isTree .fits) (y .isTree .fits) .0 (sym (x .is) ∙ y .is)
+
+-- Trees that stand in the same words with as many nodes are the same tree.
+pub one-standing : {N M X : List ℕ} {p q : Placed} → Stands N M X p → Stands N M X q → nodes (bare p) ≡ nodes (bare q) → bare p ≡ bare q
+one-standing a b e = same-key (a .fits) (b .fits) .0 (ap (λ (x : Bits). bytesOf (bitsOf editionWidth edition ++ x)) (one-written a b e))
+
+-- Trees that leave the same node and name words, and point at their spellings in the same text, are the same tree.
+pub one-store : (X : List ℕ) (p q : Placed) → Fits nodeTable type (bare p) → Fits nodeTable type (bare q) → nodes (bare p) < 2 ^ 32 → nodes (bare q) < 2 ^ 32
+    → allPointed X (namesOf p) ≡ names (bare p) → allPointed X (namesOf q) ≡ names (bare q) → nodesOf p ≡ nodesOf q → namesOf p ≡ namesOf q → bare p ≡ bare q
+one-store X p q a b c d s t e f =
+    one-standing (own-words X p a c s) (subst₂ (λ (N M : List ℕ). Stands N M X q) (sym e) (sym f) (own-words X q b d t))
+    (omega (arith, ap length e, four-words p, four-words q))
 
 -- What is not taken is refused under 6, 8, 10 or 11: at a bit of the key or at its end, and at 0 for 11.
 pub refusals : (n k m : ℕ) (key : List ℕ) {w p : ℕ} → takeKey n k m key ≡ refused w p → IsRefusal (length (bitsOfBytes key)) w p

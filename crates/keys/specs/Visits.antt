@@ -1,8 +1,8 @@
 -- Visits as the output of a walk, and what a walk answers.
 use mathlib.Core.Path.{_≡_}
 use mathlib.Core.List.{List}
-use Prim.Native.Nat.{ℕ, _+_, _*_, _≤_, _<_, min}
-use lib.ListN.{length}
+use Prim.Native.Nat.{ℕ, _+_, _*_, _/_, _≤_, _<_, min}
+use lib.ListN.{length, getD}
 use lib.Seq.{sets}
 use Rattle.keys.specs.Form.{height, nodes}
 use Rattle.keys.specs.Placed.{Placed, bare}
@@ -16,6 +16,11 @@ use Rattle.keys.specs.Out.{fitted}
 pub record Visited (N M : List ℕ) (root tall n r : ℕ) (k : List ℕ) : Type 0 where
   pub long : (X : List ℕ) (p : Placed) → Stands N M X p → root + 1 ≡ nodes (bare p) → height (bare p) ≤ tall → r ≡ min far (length (visitsOf p))
   pub is : (X : List ℕ) (p : Placed) → Stands N M X p → root + 1 ≡ nodes (bare p) → height (bare p) ≤ tall → k ≡ fitted n (visitsOf p)
+
+-- The visit of a number among words: three words where they are all there, zeros past the last.
+pub record VisitAt (ws : List ℕ) (at kind number depth : ℕ) : Type 0 where
+  pub there : at < length ws / 3 → (kind ≡ getD ws (at * 3) 0) × (number ≡ getD ws (at * 3 + 1) 0) × (depth ≡ getD ws (at * 3 + 2) 0)
+  pub past : length ws / 3 ≤ at → (kind ≡ 0) × (number ≡ 0) × (depth ≡ 0)
 
 -- ---- Visits as an output of a walk
 

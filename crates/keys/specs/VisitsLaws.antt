@@ -10,7 +10,7 @@ use Rattle.keys.specs.Form.{Form, one, child, both, Grammar, branch, lef
 use Rattle.keys.specs.Limits.{countWidth}
 use Rattle.keys.specs.Placed.{Placed, bare}
 use Rattle.keys.specs.Key.{nodeTable}
-use Rattle.keys.specs.Store.{Run, done, chose, name, kid, under, called, packed, firstKid, records, runOf, nodesOf, nodeVisit, choiceVisit, nameVisit, visit, visits, visitsOf}
+use Rattle.keys.specs.Store.{Run, done, chose, name, kid, under, called, firstKid, records, runOf, nodesOf, nodeVisit, choiceVisit, nameVisit, visit, visits, visitsOf}
 use Rattle.keys.specs.StoreLaws.{under-plant}
 use Rattle.keys.specs.Table.{type}
 use Rattle.keys.specs.Forms.{lined, grammarOf, tableWords}
@@ -18,7 +18,7 @@ use Rattle.keys.specs.FormsLaws.{le-or-lt, words-are}
 use Rattle.keys.specs.Put.{far}
 use Rattle.keys.specs.PutLaws.{sets-append, sets-past}
 use Rattle.keys.specs.Holds.{wordAt, childAt, nextAt, Cursor, cursor, HoldsBy, Stands}
-use Rattle.keys.specs.HoldsLaws.{In, in-front, kid-in, root-is, stands-holds, stands-of, stands-low}
+use Rattle.keys.specs.HoldsLaws.{In, in-front, kid-in, of-type, root-is, stands-holds, stands-low}
 use Rattle.keys.specs.Moves.{tagged, items, Spelled, Noded}
 use Rattle.keys.specs.MovesLaws.{Sound, spelled-none, all-put}
 use Rattle.keys.specs.KeyedLaws.{sets-copies}
@@ -114,9 +114,9 @@ module _ (N M : List ℕ) (root tall n m to : ℕ) (k0 k : List ℕ) (z : k0 ≡
   all X p s e h =
       subst (λ (ws : List ℕ). Listed 0 ws to k0 k)
       (items-visits (lined nodeTable) N (both (child 0) one) (runOf p) 0 0 0 0 (in-front N (nodesOf p) (s .nodesThere))
-      (omega (arith, s .few, under-plant nodeTable type p done)) (omega arith) (packed (runOf p)) root (root-is N M X p (s .fits) root e))
-      (all-put visitWords visits-sound (lined nodeTable) N (Named M) tall 0 (cursor (packed (runOf p)) root 0) rooted (runOf p)
-      (stands-of N M X p s) (stands-low N M X p tall h) (holds-named N (λ i u q. q .there) (runOf p) (cursor (packed (runOf p)) root 0) (stands-holds N M X p s root e)))
+      (omega (arith, s .few, under-plant nodeTable type p done)) (omega arith) 0 root (omega (arith, e, root-is p (s .fits))))
+      (all-put visitWords visits-sound (lined nodeTable) N (Named M) tall 0 (cursor 0 root 0) rooted (runOf p)
+      (of-type p (s .fits)) (stands-low N M X p tall h) (holds-named N (λ i u q. q .there) (runOf p) (cursor 0 root 0) (stands-holds N M X p s root e)))
 
   pub visited : Visited N M root tall n to k
   visited =

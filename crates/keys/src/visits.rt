@@ -1,14 +1,14 @@
 // Visits: what a tree that stands in the store holds, in the key's order, for a program that prints it.
 ghost use mathlib.Core.Path.{_≡_};
 ghost use mathlib.Core.List.{List};
-ghost use Prim.Native.Nat.{ℕ, _+_, _*_, _/_, _≤_, _<_, _^_};
-ghost use lib.ListN.{length, getD, set};
+ghost use Prim.Native.Nat.{ℕ, _+_, _*_, _≤_, _<_, _^_};
+ghost use lib.ListN.{length, set};
 ghost use Rattle.keys.specs.Limits.{widest};
 ghost use Rattle.keys.specs.Forms.{entryAt, grammarOf, IsRow, Narrow};
 ghost use Rattle.keys.specs.Put.{far};
 ghost use Rattle.keys.specs.Moves.{Spelled, Ready, Own, After, Begun, Noded};
 ghost use Rattle.keys.specs.Store.{visit};
-ghost use Rattle.keys.specs.Visits.{Listed, visitWords, Named, Visited};
+ghost use Rattle.keys.specs.Visits.{VisitAt, Listed, visitWords, Named, Visited};
 use crate::forms;
 use crate::forms::Row;
 use crate::moves;
@@ -275,7 +275,7 @@ pub struct Visit {
 
 // The visit of a number.
 pub fn visit_at(visits: &[u64], at: usize) -> Visit
-    ensures { λ r. ⌜ (at < length (now (visits .entry)) / 3 → (r .kind ≡ getD (now (visits .entry)) (at * 3) 0) × (r .number ≡ getD (now (visits .entry)) (at * 3 + 1) 0) × (r .depth ≡ getD (now (visits .entry)) (at * 3 + 2) 0)) ⌝ }
+    ensures { λ r. ⌜ VisitAt (now (visits .entry)) at (r .kind) (r .number) (r .depth) ⌝ }
 {
     if visits.len() / WORDS <= at {
         return Visit {
