@@ -30,12 +30,12 @@ ruled c = reading (given (c .text) (c .words) (c .parens) (c .lent)) (c .start)
 -- whether an answer grants a tree
 abbrev pub grants : Answer → Bool
 grants (reads nodes names notes at half key) = true
-grants (refuses number place half) = false
+grants (refuses number token half byte) = false
 
 -- how many bytes of key it tells of
 abbrev pub keySize : Answer → ℕ
 keySize (reads nodes names notes at half key) = key
-keySize (refuses number place half) = 0
+keySize (refuses number token half byte) = 0
 
 -- the key that a call leaves: as many bytes of the lent ones as it tells of
 abbrev pub keyLeft : Called → List ℕ

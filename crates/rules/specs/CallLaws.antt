@@ -57,7 +57,7 @@ unfolding read
 outcome-of c t s e f = by (check (c .text) (c .words) (c .start)) refl e
   where
     by-fit : (b : Bool) → fits (c .lent) t (keyOf (bare t)) ≡ b
-        → grants (written (c .lent) (test b (λ _. granted t (s .notes) (s .at) (s .half) (keyOf (bare t))) λ _. denied noSpace 0 0) .answer) ≡ true
+        → grants (written (c .lent) (test b (λ _. granted t (s .notes) (s .at) (s .half) (keyOf (bare t))) λ _. denied noSpace 0 0 0) .answer) ≡ true
         → fits (c .lent) t (keyOf (bare t)) ≡ true
     by-fit true i j = i
     by-fit false i j = clash (cc)
@@ -100,6 +100,7 @@ fit-parts l t key e =
 
 -- What a granted call has in hand.
 pub record Facts (c : Call) (t : Placed) (s : State) : Type 0 where
+  pub passed : check (c .text) (c .words) (c .start) ≡ sound
   pub good : Got (given (c .text) (c .words) (c .parens) (c .lent)) (Good type) itself 1 0 0 t s
   pub fit : Fit (c .lent) t (keyOf (bare t))
   pub leaves : left c ≡ written (c .lent) (granted t (s .notes) (s .at) (s .half) (keyOf (bare t)))
@@ -109,6 +110,7 @@ unfolding read
 facts {c} {t} {s} x =
     let o = outcome-of c t s (x .grant) (x .rules) in
     record {
+      passed = o .passed;
       good = gave (reading-gives _ (record { bytes = x .bytes; start = c .start; sound = o .passed })) (x .rules);
       fit = fit-parts (c .lent) t (keyOf (bare t)) (o .fit);
       leaves = ap (written (c .lent)) (o .is);
@@ -175,12 +177,12 @@ check-refused text words start {n} {p} e = by (goodList text words start) e
         let y : p ≡ 0 = cc in
         rw (x, y) is-badList
 
-pub call-refusal : (c : Call) → Bytes (c .text) → {n p h : ℕ} → left c .answer ≡ refuses n p h → IsRefusal (length (c .words)) n p
+pub call-refusal : (c : Call) → Bytes (c .text) → {n p h b : ℕ} → left c .answer ≡ refuses n p h b → IsRefusal (length (c .words)) n p
 unfolding read
-call-refusal c bytes {n} {p} {h} e = by (check (c .text) (c .words) (c .start)) refl (ruled c) refl e
+call-refusal c bytes {n} {p} {h} {b} e = by (check (c .text) (c .words) (c .start)) refl (ruled c) refl e
   where
-    by-fit : (b : Bool) (t : Placed) (s : State)
-        → written (c .lent) (test b (λ _. granted t (s .notes) (s .at) (s .half) (keyOf (bare t))) λ _. denied noSpace 0 0) .answer ≡ refuses n p h
+    by-fit : (fit : Bool) (t : Placed) (s : State)
+        → written (c .lent) (test fit (λ _. granted t (s .notes) (s .at) (s .half) (keyOf (bare t))) λ _. denied noSpace 0 0 0) .answer ≡ refuses n p h b
         → IsRefusal (length (c .words)) n p
     by-fit true t s j = clash (cc)
     by-fit false t s j =
@@ -189,7 +191,7 @@ call-refusal c bytes {n} {p} {h} e = by (check (c .text) (c .words) (c .start)) 
         rw (x, y) is-noSpace
 
     by : (v : Verdict) → check (c .text) (c .words) (c .start) ≡ v → (r : Result Placed) → ruled c ≡ r
-        → written (c .lent) (checked (given (c .text) (c .words) (c .parens) (c .lent)) (c .start) (c .lent) v) .answer ≡ refuses n p h
+        → written (c .lent) (checked (given (c .text) (c .words) (c .parens) (c .lent)) (c .start) (c .lent) v) .answer ≡ refuses n p h b
         → IsRefusal (length (c .words)) n p
     by (refused m q) i r f j =
         let x : m ≡ n = cc in

@@ -29,7 +29,7 @@ furtherRows =
     (note 5 8 13 ∷ note 6 8 13 ∷ note 7 1 13 ∷ []) 9 0 (0x14 ∷ 0xC0 ∷ 0x05 ∷ 0x55 ∷ 0x80 ∷ 0x00 ∷ 0x58 ∷ 0x6A ∷ 0x02 ∷ 0x00 ∷ 0x20 ∷ 0x00 ∷ 0x28 ∷ 0x40 ∷ []))
     ∷ row "A<=B>"
     (0x01_000001_00000000 ∷ 0x19_000002_00000001 ∷ 0x01_000001_00000003 ∷ 0x17_000001_00000004 ∷ 0x00_000000_00000005 ∷ [])
-    (denied 3 1 1)
+    (denied 3 1 1 2)
     ∷ []
 
 -- every row reads as it says
@@ -52,7 +52,7 @@ granted-call = refl
 -- the same where the key has five bytes: 11, and all zeros
 pub refused-call : read (bytes "A") (0x01_000001_00000000 ∷ 0x00_000000_00000001 ∷ []) 0 false (lend 5 2 3 5)
     ≡ record {
-      answer = refuses 11 0 0;
+      answer = refuses 11 0 0 0;
       nodeWords = 0 ∷ 0 ∷ 0 ∷ 0 ∷ 0 ∷ [];
       nameWords = 0 ∷ 0 ∷ [];
       noteWords = 0 ∷ 0 ∷ 0 ∷ [];

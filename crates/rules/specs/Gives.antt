@@ -23,6 +23,8 @@ use Rattle.keys.specs.BitsLaws.{clash}
 use Rattle.rules.specs.Notes.{Note}
 use Rattle.rules.specs.State.{Given, State, Result, Reader, read, refuse, then, next, past, stands, kind, first, end, overlong, make, report, reportIf}
 use Rattle.rules.specs.List.{count}
+use Rattle.rules.specs.Told.{Told}
+use Rattle.rules.specs.ToldLaws.{told-more}
 use Rattle.rules.specs.TokenLaws.{no-end, whole-end, Checked, token-spells}
 use Rattle.rules.specs.PlaceLaws.{Spans, spans-le, spans-up, spans-down, spans-join, spans-flat, spans-front, spans-more}
 
@@ -49,6 +51,7 @@ sizeOf t = nodes (bare t)
 pub record Has (g : Given) (n lo : ℕ) (p : Placed) (q : State) : Type 0 where
   pub at : At g (n + sizeOf p) q
   pub spans : Spans lo (end g q) p
+  pub told : Told (g .text) p
 
 -- What a rule read: it is such, as a value it is had, no half is left of a token, and k bytes or more were taken.
 pub record Got (g : Given) {A : Type 0} (P : A → Type 0) (shape : A → Placed) (k n lo : ℕ) (a : A) (q : State) : Type 0 where
@@ -195,45 +198,45 @@ size-more (u ∷ l) t = omega (arith, size-more l t)
 
 module _ {g : Given} where
   -- No node.
-  pub flat-has : {n lo : ℕ} {q : State} (p : Placed) → sizeOf p ≡ 0 → lo ≤ end g q → At g n q → Has g n lo p q
-  flat-has p e l a = record { at = counted (omega arith) a; spans = spans-flat p e l }
+  pub flat-has : {n lo : ℕ} {q : State} (p : Placed) → sizeOf p ≡ 0 → Told (g .text) p → lo ≤ end g q → At g n q → Has g n lo p q
+  flat-has p e o l a = record { at = counted (omega arith) a; spans = spans-flat p e l; told = o }
 
   -- Of two values the first has no node.
-  pub front-has : {n lo : ℕ} {q : State} (p : Placed) {r : Placed} → sizeOf p ≡ 0 → Has g n lo r q → Has g n lo (join p r) q
-  front-has p e h = record { at = counted (omega arith) (h .at); spans = spans-front p e (h .spans) }
+  pub front-has : {n lo : ℕ} {q : State} (p : Placed) {r : Placed} → sizeOf p ≡ 0 → Told (g .text) p → Has g n lo r q → Has g n lo (join p r) q
+  front-has p e o h = record { at = counted (omega arith) (h .at); spans = spans-front p e (h .spans); told = (o, h .told) }
 
   -- One value after the other.
-  pub join-has : {n lo m : ℕ} {p r : Placed} {q : State} → Spans lo m p → Has g (n + sizeOf p) m r q → Has g n lo (join p r) q
-  join-has x y = record { at = counted (omega arith) (y .at); spans = spans-join x (y .spans) }
+  pub join-has : {n lo m : ℕ} {p r : Placed} {q : State} → Told (g .text) p → Spans lo m p → Has g (n + sizeOf p) m r q → Has g n lo (join p r) q
+  join-has o x y = record { at = counted (omega arith) (y .at); spans = spans-join x (y .spans); told = (o, y .told) }
 
   infixr 20 _&_
   pub _&_ : {n lo : ℕ} {p r : Placed} {s q : State} → Has g n lo p s → Has g (n + sizeOf p) (end g s) r q → Has g n lo (join p r) q
-  x & y = join-has (x .spans) y
+  x & y = join-has (x .told) (x .spans) y
 
   -- Two values and a third, the second in a choice.
   pub regroup : {n lo : ℕ} {p r t : Placed} {s q : State} (k : ℕ) → Has g n lo (join p r) s → Has g (n + sizeOf (join p r)) (end g s) t q → Has g n lo (join p (join (pick k r) t)) q
   regroup k x y =
-      let z = join-has (x .spans) y in
+      let z = join-has (x .told) (x .spans) y in
       let i = z .spans .inOrder in
-      record { at = counted (omega arith) (z .at); spans = record { inOrder = (i .0 .0, (i .0 .1, i .1)); upTo = z .spans .upTo } }
+      record { at = counted (omega arith) (z .at); spans = record { inOrder = (i .0 .0, (i .0 .1, i .1)); upTo = z .spans .upTo }; told = (x .told .0, (x .told .1, y .told)) }
 
   -- Of two values the first is nothing.
   pub drop-void : {n lo : ℕ} {p : Placed} {q : State} → Has g n lo (join void p) q → Has g n lo p q
-  drop-void h = record { at = counted (omega arith) (h .at); spans = record { inOrder = h .spans .inOrder .1; upTo = h .spans .upTo } }
+  drop-void h = record { at = counted (omega arith) (h .at); spans = record { inOrder = h .spans .inOrder .1; upTo = h .spans .upTo }; told = h .told .1 }
 
   pub has-le : {n lo : ℕ} {p : Placed} {q : State} → Has g n lo p q → lo ≤ end g q
   has-le h = spans-le (h .spans)
 
   pub has-down : {n a lo : ℕ} {p : Placed} {q : State} → a ≤ lo → Has g n lo p q → Has g n a p q
-  has-down l h = record { at = h .at; spans = spans-down l (h .spans) }
+  has-down l h = record { at = h .at; spans = spans-down l (h .spans); told = h .told }
 
   -- A choice before it.
   pub pick-has : {n lo : ℕ} {p : Placed} {q : State} (k : ℕ) → Has g n lo p q → Has g n lo (pick k p) q
-  pick-has k h = record { at = h .at; spans = record { inOrder = h .spans .inOrder; upTo = h .spans .upTo } }
+  pick-has k h = record { at = h .at; spans = record { inOrder = h .spans .inOrder; upTo = h .spans .upTo }; told = h .told }
 
   -- The cursor goes on.
   pub has-on : {n lo : ℕ} {p : Placed} {s q : State} → Has g n lo p s → At g (n + sizeOf p) q → end g s ≤ end g q → Has g n lo p q
-  has-on h a l = record { at = a; spans = spans-up (h .spans) l }
+  has-on h a l = record { at = a; spans = spans-up (h .spans) l; told = h .told }
 
   -- The cursor goes past a token.
   pub has-next : {n lo : ℕ} {p : Placed} {s : State} → Has g n lo p s → Step g (n + sizeOf p) s → Has g n lo p (next s)
@@ -242,7 +245,7 @@ module _ {g : Given} where
   -- A list grows at its end.
   pub has-more : {n lo : ℕ} (l : List Placed) {t : Placed} {s q : State} → Has g n lo (entries l) s → Has g (n + sizeOf (entries l)) (end g s) t q
       → Has g n lo (entries (l ++ (t ∷ []))) q
-  has-more l {t} x y = record { at = counted (omega (arith, size-more l t)) (y .at); spans = spans-more l (x .spans) (y .spans) }
+  has-more l {t} x y = record { at = counted (omega (arith, size-more l t)) (y .at); spans = spans-more l (x .spans) (y .spans); told = told-more (g .text) l t (x .told) (y .told) }
 
 -- ---- Nodes and diagnostics
 
@@ -282,6 +285,7 @@ module _ {g : Given} {n lo : ℕ} where
             rest = a .rest;
           };
           spans = record { inOrder = (l, r, x .spans .inOrder, x .spans .upTo); upTo = omega arith };
+          told = x .told;
         };
       })
 
@@ -317,6 +321,7 @@ module _ {g : Given} {A B : Type 0} {P : A → Type 0} {shape : A → Placed} {k
             rest = x .rest;
           };
           spans = h .has .spans;
+          told = h .has .told;
         };
       })
 

@@ -24,6 +24,9 @@ pub mod FurtherRows
 pub mod TokenLaws
 pub mod Places
 pub mod PlaceLaws
+pub mod FewLaws
+pub mod Told
+pub mod ToldLaws
 pub mod Gives
 pub mod PartLaws
 pub mod RuleLaws

@@ -9,7 +9,7 @@ use native.Mathlib.Omega.{arith}
 use borrow.Author.Tests.{leb-true}
 use lib.Dec.{eqb, leb}
 use Rattle.words.specs.Test.{_and_, _or_, between, among, test}
-use Rattle.words.specs.Kind.{Dot, Any, Unknown, True, False, Null, Void}
+use Rattle.words.specs.Kind.{NumberLiteral, BigIntLiteral, Dot, Any, Unknown, True, False, Null, Void}
 use Rattle.keys.specs.Form.{Value, node as nodeValue, Fits, fits-child}
 use Rattle.keys.specs.Table.{type, element, underName}
 use Rattle.keys.specs.Placed as node
@@ -19,7 +19,7 @@ use Rattle.keys.specs.Fitting.{Is, IsSpelling, Each, IfAny}
 use Rattle.keys.specs.Makers as makers
 use Rattle.rules.specs.State.{Given, State, kind, kindAfter, first, end}
 use Rattle.rules.specs.List.{position}
-use Rattle.rules.specs.Primary.{keywords, literals, isKeyword}
+use Rattle.rules.specs.Primary.{keywords, literals, negated, isKeyword}
 use Rattle.rules.specs.TokenLaws.{both-true, among-each}
 use Rattle.rules.specs.Gives.{sizeOf}
 
@@ -111,6 +111,11 @@ literal-fits b e k {x} h i =
       ),
     )
     i
+
+pub negative-fits : (b e k : ℕ) {x : Spelling} → IsSpelling x → among (NumberLiteral ∷ BigIntLiteral ∷ []) k ≡ true → Is type (node.literal b e (negated k) (present x))
+negative-fits b e k {x} h i =
+    among-each (λ (k : ℕ). Is type (node.literal b e (negated k) (present x))) (NumberLiteral ∷ BigIntLiteral ∷ []) k
+    (makers.literal-is b e 5 (omega arith) refl h, (makers.literal-is b e 6 (omega arith) refl h, tt)) i
 
 pub asserted : (b e : ℕ) (x : Opt Spelling) (t : Opt Placed) → IfAny IsSpelling x → IfAny (Is type) t → Is type (node.predicate b e true x t)
 asserted b e x absent h i = makers.asserts-is b e x h

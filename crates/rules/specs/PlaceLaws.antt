@@ -25,7 +25,7 @@ less (join p q) h i =
     ((x .0, y .0), y .1)
 less (tree t first end p) h i = ((omega arith, i .1, i .2, i .3), omega arith)
 
-rising : (p : Placed) {a : ℕ} → InOrder a p → a ≤ after a p
+pub rising : (p : Placed) {a : ℕ} → InOrder a p → a ≤ after a p
 rising void i = omega arith
 rising (said x s) i = omega arith
 rising (pick k p) i = rising p i

@@ -6,6 +6,7 @@ use lib.Dec.{leb}
 use lib.ListN.{length}
 use Rattle.words.specs.Limits.{mostKey}
 use Rattle.words.specs.Test.{_and_, test}
+use Rattle.words.specs.Cursor.{firstByte}
 use Rattle.words.specs.Check.{Verdict, sound, refused, check}
 use Rattle.keys.specs.Limits.{recordWords, noSpace}
 use Rattle.keys.specs.Form.{nodes}
@@ -13,7 +14,7 @@ use Rattle.keys.specs.Placed.{Placed, bare}
 use Rattle.keys.specs.Key.{keyOf}
 use Rattle.keys.specs.Store.{nodesOf, namesOf, filled}
 use Rattle.rules.specs.Notes.{Note, noteWidth, noteWords}
-use Rattle.rules.specs.State.{Given, Result, read as got, refuse}
+use Rattle.rules.specs.State.{Given, State, Result, read as got, refuse}
 use Rattle.rules.specs.Reading.{reading}
 
 -- what a caller lends, by length: words for nodes, for names, for diagnostics, and bytes for the key
@@ -27,27 +28,31 @@ pub record Lent : Type 0 where
 abbrev pub lend : ℕ → ℕ → ℕ → ℕ → Lent
 lend a b c d = record { nodes = a; names = b; notes = c; key = d }
 
--- what reading comes to: tree, diagnostics, end cursor and key; or a refusal's number, its place, and the half used there
+-- what reading comes to: tree, diagnostics, end cursor and key; or a refusal: its number, its token, the half used there, and the byte
 pub data Outcome : Type 0 where
   granted : Placed → List Note → (at half : ℕ) → (key : List ℕ) → Outcome
-  denied : (number place half : ℕ) → Outcome
+  denied : (number token half byte : ℕ) → Outcome
 
 -- the key keeps its limit and fits the bytes lent, the spellings fit the words lent
 abbrev pub fits : Lent → Placed → List ℕ → Bool
 fits l t key = leb (length key) mostKey and leb (length key) (l .key) and leb (length (namesOf t)) (l .names)
 
--- a reading gets its key, or 11 at 0 where it or the spellings find no space
-abbrev pub keyed : Lent → Result Placed → Outcome
-keyed l (got t s) =
+-- a tree that was read gets its key, or 11 at 0 where it or the spellings find no space
+abbrev pub withKey : Lent → Placed → State → Outcome
+withKey l t s =
     let key = keyOf (bare t) in
     test (fits l t key) (λ _. granted t (s .notes) (s .at) (s .half) key) λ _.
-    denied noSpace 0 0
-keyed l (refuse n i h) = denied n i h
+    denied noSpace 0 0 0
+
+-- what the rules come to; a refusal's byte is the first that they did not use
+abbrev pub keyed : Given → Lent → Result Placed → Outcome
+keyed g l (got t s) = withKey l t s
+keyed g l (refuse n i h) = denied n i h (firstByte (g .words) i h)
 
 -- only a sound list is read
 abbrev pub checked : Given → ℕ → Lent → Verdict → Outcome
-checked g i l sound = keyed l (reading g i)
-checked g i l (refused n p) = denied n p 0
+checked g i l sound = keyed g l (reading g i)
+checked g i l (refused n p) = denied n p 0 0
 
 -- the room that what is lent makes
 abbrev pub given : List ℕ → List ℕ → Bool → Lent → Given
@@ -63,17 +68,17 @@ outcome text words start parens l = checked (given text words parens l) start l 
 -- the answer: nodes used, of which the last is the root, names, diagnostics, end cursor and bytes of key; or the refusal
 pub data Answer : Type 0 where
   reads : (nodes names notes at half key : ℕ) → Answer
-  refuses : (number place half : ℕ) → Answer
+  refuses : (number token half byte : ℕ) → Answer
 
 -- 01's number of a refusal, 0 where there is none
 abbrev pub number : Answer → ℕ
 number (reads a b c i h d) = 0
-number (refuses n p h) = n
+number (refuses n i h b) = n
 
 -- its place
-abbrev pub place : Answer → ℕ
-place (reads a b c i h d) = 0
-place (refuses n p h) = p
+abbrev pub token : Answer → ℕ
+token (reads a b c i h d) = 0
+token (refuses n i h b) = i
 
 -- the answer and the final content of all that is lent
 pub record Called : Type 0 where
@@ -93,9 +98,9 @@ written l (granted t ns i h key) =
       noteWords = filled (l .notes) (noteWords ns);
       key = filled (l .key) key;
     }
-written l (denied n p h) =
+written l (denied n i h b) =
     record {
-      answer = refuses n p h;
+      answer = refuses n i h b;
       nodeWords = filled (l .nodes) [];
       nameWords = filled (l .names) [];
       noteWords = filled (l .notes) [];

@@ -39,9 +39,11 @@ use Rattle.words.specs.Ahead.{starter, mappedStart, functionStart}
 use Rattle.words.specs.Word.{size}
 use Rattle.words.specs.Cursor.{wordAt}
 use Rattle.rules.specs.TokenLaws.{both-true, among-each, Checked, token-spells, spelled-by, split-size, start-inside, taken-before}
+use Rattle.rules.specs.Told.{Told}
+use Rattle.rules.specs.ToldLaws.{told-here, told-subject, told-literal, told-names, told-element}
 use Rattle.rules.specs.PlaceLaws.{Spans, spans-le, spans-up, spans-flat, spans-element}
 use Rattle.rules.specs.Gives.{Gives, gives, stops, At, Has, Got, Good, Enough, Step, Past, sizeOf, itself, Reads, ReadsOn, ReadsTree, ReadsIf, ReadsAbout, ReadsTypes, gives-then, gives-test, gives-must, gives-mark, gives-or, refusal, step, past-mark, past-whole, counted, flat-has, front-has, join-has, _&_, regroup, drop-void, has-le, has-down, pick-has, has-on, has-next, has-more, made-by, made, reported, reported-if, enough-more, list-is, names-are, if-list-is}
-use Rattle.rules.specs.PartLaws.{names-size, subject-size, element-size, as-under-name, pieces-more, keyword-below, literal-size, literal-fits, asserted}
+use Rattle.rules.specs.PartLaws.{names-size, subject-size, element-size, as-under-name, pieces-more, keyword-below, literal-size, literal-fits, negative-fits, asserted}
 
 -- How parameters stand as values, where a constructor gave the nodes of its `this` back.
 abbrev shapeOfThis : Bool → Opt ThisParameter → Placed
@@ -77,7 +79,7 @@ module _ (g : Given) (c : Checked g) where
 
     list-gives : (n lo : ℕ) (s : State) → lo ≤ end g s → At g n s → Gives g (Got g (Enough (Is f) 0) entries 1 n lo) (list g close entry s)
     unfolding list
-    list-gives n lo s l a = list-from n lo (turns g) [] s no-entries (flat-has void refl l a)
+    list-gives n lo s l a = list-from n lo (turns g) [] s no-entries (flat-has void refl tt l a)
 
   -- ---- Names
 
@@ -85,7 +87,7 @@ module _ (g : Given) (c : Checked g) where
   word-gives f ok n lo s l a =
       gives-must (f (kind g s)) (refusal a tt) λ e _.
       let t = step c f ok s e a in
-      gives (record { is = spelled-by g c f ok s e; has = flat-has _ refl (omega arith) (t .at); whole = refl; rise = omega arith })
+      gives (record { is = spelled-by g c f ok s e; has = flat-has _ refl (told-here g c s) (omega arith) (t .at); whole = refl; rise = omega arith })
 
   name-gives : Reads g IsSpelling node.spell (name g)
   unfolding name
@@ -105,7 +107,7 @@ module _ (g : Given) (c : Checked g) where
       let all = l ++ (x ∷ []) in
       dots-give n lo least fuel all q (record {
         is = enough-more (h .is) (b .is);
-        has = flat-has (node.listedNames all) (names-size all) (has-le (b .has)) (counted (omega (arith, names-size l)) (b .has .at));
+        has = flat-has (node.listedNames all) (names-size all) (told-names (g .text) l x (h .has .told) (b .has .told)) (has-le (b .has)) (counted (omega (arith, names-size l)) (b .has .at));
         whole = b .whole;
         rise = b .rise;
       })
@@ -116,7 +118,7 @@ module _ (g : Given) (c : Checked g) where
       gives-then (name-gives n lo s l a) λ x q b.
       dots-give n lo 1 (turns g) (x ∷ []) q (record {
         is = record { enough = omega arith; each = (b .is, tt) };
-        has = flat-has _ refl (has-le (b .has)) (counted (omega arith) (b .has .at));
+        has = flat-has _ refl (b .has .told, tt) (has-le (b .has)) (counted (omega arith) (b .has .at));
         whole = b .whole;
         rise = b .rise;
       })
@@ -131,7 +133,7 @@ module _ (g : Given) (c : Checked g) where
         gives-then (h on _ lo (next s) (omega arith) (t .at)) λ t q b.
         gives (record { is = b .is .is; has = pick-has 1 (b .has); whole = b .whole; rise = omega arith }))
         λ _ _.
-        gives (record { is = tt; has = flat-has (maybe absent) refl l a; whole = w; rise = omega arith })
+        gives (record { is = tt; has = flat-has (maybe absent) refl tt l a; whole = w; rise = omega arith })
 
     -- ---- Arguments
 
@@ -169,7 +171,7 @@ module _ (g : Given) (c : Checked g) where
     args-give : ReadsOn g (IfAny (Enough (Is type) 0)) maybeList (arguments g T)
     unfolding arguments
     args-give n lo s w l a =
-        gives-test (not (opens g s)) (λ _ _. gives (record { is = tt; has = flat-has (maybeList absent) refl l a; whole = w; rise = omega arith })) λ e _.
+        gives-test (not (opens g s)) (λ _ _. gives (record { is = tt; has = flat-has (maybeList absent) refl tt l a; whole = w; rise = omega arith })) λ e _.
         let o = opened-past s (not-false (opens g s) e) a in
         gives-then (list-gives RAngle refl (λ l. T true) (λ l. h true) n lo (opened g s) (omega arith) (o .at)) λ ts q b.
         reported-if (noEntry ts) _ q (read (present ts)) b λ p d.
@@ -185,16 +187,16 @@ module _ (g : Given) (c : Checked g) where
         gives-then (args-give _ (end g q) q (x .whole) (omega arith) (x .has .at)) λ o p y.
         made _ (y .whole) (x .has & y .has) l (omega arith) λ few. is b _ ns o (names-are (x .is) (few .0)) (if-list-is type o (y .is) (few .1 .0))
 
-    import-from : (isTypeof : Bool) {x : Spelling} → IsSpelling x → (n lo b : ℕ) (s : State) → lo ≤ b → b < end g s → At g n s
+    import-from : (isTypeof : Bool) {x : Spelling} → IsSpelling x → Told (g .text) (node.spell x) → (n lo b : ℕ) (s : State) → lo ≤ b → b < end g s → At g n s
         → Gives g (Got g (Good type) itself 1 n lo) (importFrom g T b isTypeof x s)
     unfolding importFrom
-    import-from isTypeof {x} i n lo b s l m a =
+    import-from isTypeof {x} i o n lo b s l m a =
         gives-test (stands g Comma s) (refusal a tt) λ _ _.
         gives-mark c RParen refl s a (refusal a tt) λ t _.
-        gives-then (dots-give n b 0 (turns g) [] (next s) (record { is = no-entries; has = flat-has (node.listedNames []) refl (omega arith) (t .at); whole = refl; rise = omega arith })) λ ns q y.
-        gives-then (args-give _ (end g q) q (y .whole) (omega arith) (y .has .at)) λ o p z.
-        made _ (z .whole) (front-has (node.bit isTypeof) refl (front-has (node.spell x) refl (y .has & z .has))) l (omega arith) λ few.
-        makers.import-is b _ isTypeof o i (names-are (y .is) (few .0)) (if-list-is type o (z .is) (few .1 .0))
+        gives-then (dots-give n b 0 (turns g) [] (next s) (record { is = no-entries; has = flat-has (node.listedNames []) refl tt (omega arith) (t .at); whole = refl; rise = omega arith })) λ ns q y.
+        gives-then (args-give _ (end g q) q (y .whole) (omega arith) (y .has .at)) λ ts p z.
+        made _ (z .whole) (front-has (node.bit isTypeof) refl tt (front-has (node.spell x) refl o (y .has & z .has))) l (omega arith) λ few.
+        makers.import-is b _ isTypeof ts i (names-are (y .is) (few .0)) (if-list-is type ts (z .is) (few .1 .0))
 
     import-gives : (isTypeof : Bool) (n lo b : ℕ) (s : State) → lo ≤ b → b ≤ first g s → At g n s → Gives g (Got g (Good type) itself 1 n lo) (importType g T b isTypeof s)
     unfolding importType
@@ -203,7 +205,7 @@ module _ (g : Given) (c : Checked g) where
         gives-mark c LParen refl (next s) (t .at) (refusal (t .at) tt) λ u _.
         gives-must (stands g Str (next (next s))) (refusal (u .at) tt) λ e _.
         let v = step c (λ k. eqb k Str) refl (next (next s)) e (u .at) in
-        import-from isTypeof (spelled-by g c (λ k. eqb k Str) refl (next (next s)) e) n lo b _ l (omega arith) (v .at)
+        import-from isTypeof (spelled-by g c (λ k. eqb k Str) refl (next (next s)) e) (told-here g c (next (next s))) n lo b _ l (omega arith) (v .at)
 
     -- ---- Type parameters
 
@@ -219,15 +221,15 @@ module _ (g : Given) (c : Checked g) where
 
     -- They may be none where a half is left, and then it still is.
     type-parameters : (on : Bool) (n lo : ℕ) (s : State) → lo ≤ first g s → At g n s
-        → Gives g (λ (o : Opt (List Placed)) (q : State). IfAny (Enough (Is typeParam) 0) o × At g (n + sizeOf (maybeList o)) q × Spans lo (first g q) (maybeList o)) (typeParameters g T on s)
+        → Gives g (λ (o : Opt (List Placed)) (q : State). IfAny (Enough (Is typeParam) 0) o × At g (n + sizeOf (maybeList o)) q × Spans lo (first g q) (maybeList o) × Told (g .text) (maybeList o)) (typeParameters g T on s)
     unfolding typeParameters
     type-parameters on n lo s l a =
-        gives-test (not (stands g LAngle s)) (λ _ _. gives (tt, counted (omega arith) a, spans-flat (maybeList absent) refl l)) λ e _.
+        gives-test (not (stands g LAngle s)) (λ _ _. gives (tt, counted (omega arith) a, spans-flat (maybeList absent) refl l, tt)) λ e _.
         let t = step c (λ k. eqb k LAngle) refl s (not-false (stands g LAngle s) e) a in
         gives-then (list-gives RAngle refl (λ l. typeParameter g T on) (λ l. type-parameter on) n lo (next s) (omega arith) (t .at)) λ ps q b.
         reported-if (noEntry ps) _ q (read (present ps)) b λ p d.
         let x = pick-has 1 (pick-has (length ps) (d .has)) in
-        gives (d .is, x .at, spans-up (x .spans) (x .at .order))
+        gives (d .is, x .at, spans-up (x .spans) (x .at .order), x .told)
 
     -- ---- Function
 
@@ -246,7 +248,7 @@ module _ (g : Given) (c : Checked g) where
         gives-then (binding-gives n (first g s) (past g Dot3 s) (dots .first-later) (dots .at)) λ x q y.
         let asked = past-mark c Question refl q (y .has .at) in
         gives-then (optional-gives Colon refl true _ (end g q) (past g Question q) (past-whole g Question q (y .whole)) (asked .end-later) (asked .at)) λ t p z.
-        made [] (z .whole) (front-has (node.bit (stands g Dot3 s)) refl (y .has & front-has (node.bit (stands g Question q)) refl (z .has))) l (omega arith) λ _.
+        made [] (z .whole) (front-has (node.bit (stands g Dot3 s)) refl tt (y .has & front-has (node.bit (stands g Question q)) refl tt (z .has))) l (omega arith) λ _.
         makers.parameter-is (first g s) _ (stands g Dot3 s) (stands g Question q) t (y .is) (z .is)
 
     separated-gives : {A : Type 0} {P : A → State → Type 0} {n : ℕ} (isRest : Bool) (s : State) (close on : State → Result A) → At g n s
@@ -295,25 +297,25 @@ module _ (g : Given) (c : Checked g) where
           (λ r w d v.
           gives (record {
             is = record { this-is = b .is; others = no-entries };
-            has = x & flat-has void refl (omega arith) d;
+            has = x & flat-has void refl tt (omega arith) d;
             whole = w;
             rise = omega (arith, has-le x);
           }))
-          λ r w d v. parameters-from (present this) (b .is) x (turns g) [] r no-entries (flat-has void refl (omega arith) d))
+          λ r w d v. parameters-from (present this) (b .is) x (turns g) [] r no-entries (flat-has void refl tt (omega arith) d))
           λ _ _.
           let x = absent-has isNew (next s) (omega arith) (t .at) in
-          parameters-from absent tt x (turns g) [] (next s) no-entries (flat-has void refl (omega arith) (x .at))
+          parameters-from absent tt x (turns g) [] (next s) no-entries (flat-has void refl tt (omega arith) (x .at))
         where
           freed-has : (isNew : Bool) (p : ThisParameter) (s q : State) → At g n s → Has g n lo (maybe (p .type)) q → Has g n lo (shapeOfThis isNew (present p)) (freed isNew s q)
           freed-has true p s q a x =
               let b = x .at in
-              flat-has void refl (has-le x)
+              flat-has void refl tt (has-le x)
               (record { used = a .used; roomy = a .roomy; few = b .few; recorded = b .recorded; inside = b .inside; order = b .order; rest = b .rest })
           freed-has false p s q a x = pick-has 1 x
 
           absent-has : (isNew : Bool) (q : State) → lo ≤ end g q → At g n q → Has g n lo (shapeOfThis isNew absent) q
-          absent-has true q l a = flat-has void refl l a
-          absent-has false q l a = flat-has (maybeThis absent) refl l a
+          absent-has true q l a = flat-has void refl tt l a
+          absent-has false q l a = flat-has (maybeThis absent) refl tt l a
 
     return-gives : ReadsTree g type (returnType g T)
     unfolding returnType
@@ -323,23 +325,23 @@ module _ (g : Given) (c : Checked g) where
         let t = step c class.name refl s (p .0) a in
         let u = step c (λ k. eqb k IsWord) refl (next s) (both-true (eqb (kindAfter g 1 s) IsWord) _ (p .1) .0) (t .at) in
         gives-then (h true n (first g s) (next (next s)) (omega arith) (u .at)) λ t q b.
-        made [] (b .whole) (pick-has 0 (front-has (node.subjectOf (subject g s)) (subject-size (subject g s)) (pick-has 1 (b .has)))) l (omega arith) λ _.
+        made [] (b .whole) (pick-has 0 (front-has (node.subjectOf (subject g s)) (subject-size (subject g s)) (told-subject g c s) (pick-has 1 (b .has)))) l (omega arith) λ _.
         makers.predicate-is (first g s) _ false (subject g s) (subject-is s (p .0)) (b .is .is)
 
     function-node : {n lo m : ℕ} (b : ℕ) (isNew isAbstract : Bool) (ts : Opt (List Placed)) (ps : Parameters) (r : Placed) {p : State} (s : State) → lo ≤ b → b < end g s
-        → IfAny (Enough (Is typeParam) 0) ts → AreParameters ps → Spans b m (maybeList ts) → Has g (n + sizeOf (maybeList ts)) m (shapeOfParameters isNew ps) p
+        → IfAny (Enough (Is typeParam) 0) ts → AreParameters ps → Spans b m (maybeList ts) → Told (g .text) (maybeList ts) → Has g (n + sizeOf (maybeList ts)) m (shapeOfParameters isNew ps) p
         → Got g (Good type) itself 1 (n + sizeOf (maybeList ts) + sizeOf (shapeOfParameters isNew ps)) (end g p) r s
         → Gives g (Got g (Good type) itself 1 n lo) (functionNode g T b isNew isAbstract ts ps r s)
     unfolding functionNode
-    function-node b false isAbstract ts ps r s l k is are x y z =
-        made _ (z .whole) (join-has x (regroup (length (ps .list)) y (z .has))) l k λ few.
+    function-node b false isAbstract ts ps r s l k is are x o y z =
+        made _ (z .whole) (join-has o x (regroup (length (ps .list)) y (z .has))) l k λ few.
         makers.function-is b _ ts (thisType (ps .this)) (if-list-is typeParam ts is (few .0)) (are .this-is) (list-is (are .others) (few .1 .0)) (z .is .is)
-    function-node {n} {lo} b true isAbstract ts ps r {p} s l k is are x y z = by (ps .this)
+    function-node {n} {lo} b true isAbstract ts ps r {p} s l k is are x o y z = by (ps .this)
       where
         last : (q : State) → Got g (Good type) itself 1 (n + sizeOf (maybeList ts) + sizeOf (shapeOfParameters true ps)) (end g p) r q
             → Gives g (Got g (Good type) itself 1 n lo) (make g (count ts ∷ length (ps .list) ∷ []) (node.constructor b (end g q) isAbstract ts (ps .list) r) q)
         last q w =
-            made _ (w .whole) (front-has (node.bit isAbstract) refl (join-has x (drop-void (regroup (length (ps .list)) y (w .has))))) l (omega (arith, spans-le x, has-le y)) λ few.
+            made _ (w .whole) (front-has (node.bit isAbstract) refl tt (join-has o x (drop-void (regroup (length (ps .list)) y (w .has))))) l (omega (arith, spans-le x, has-le y)) λ few.
             makers.constructor-is b _ isAbstract ts (if-list-is typeParam ts is (few .0)) (list-is (are .others) (few .1 .0)) (w .is .is)
 
         by : (o : Opt ThisParameter)
@@ -357,20 +359,20 @@ module _ (g : Given) (c : Checked g) where
         gives-then (parameters-give (stands g New p) _ (first g q) q (omega arith) (x .1)) λ ps r y.
         gives-mark c Arrow refl r (y .has .at) (refusal (y .has .at) tt) λ t _.
         gives-then (return-gives _ (end g r) (next r) (omega arith) (t .at)) λ u v z.
-        function-node (first g s) (stands g New p) (stands g Abstract s) ts ps u v l (omega (arith, spans-le (x .2))) (x .0) (y .is) (x .2) (y .has) z
+        function-node (first g s) (stands g New p) (stands g Abstract s) ts ps u v l (omega (arith, spans-le (x .2))) (x .0) (y .is) (x .2) (x .3) (y .has) z
 
     -- ---- Mapped
 
     modifier-gives : (k : ℕ) → eqb Eof k ≡ false → ReadsOn g (λ (m : ℕ). m < 4) node.number (modifier g k)
     unfolding modifier
     modifier-gives k ok n lo s w l a =
-        gives-or c k ok s a (λ t _. gives (record { is = omega arith; has = flat-has _ refl (omega arith) (t .at); whole = refl; rise = omega arith })) λ _ _.
+        gives-or c k ok s a (λ t _. gives (record { is = omega arith; has = flat-has _ refl tt (omega arith) (t .at); whole = refl; rise = omega arith })) λ _ _.
         gives-or c Plus refl s a (λ t _. signed (next s) (omega arith) (t .at) 2 (omega arith)) λ _ _.
         gives-or c Minus refl s a (λ t _. signed (next s) (omega arith) (t .at) 3 (omega arith)) λ _ _.
-        gives (record { is = omega arith; has = flat-has _ refl l a; whole = w; rise = omega arith })
+        gives (record { is = omega arith; has = flat-has _ refl tt l a; whole = w; rise = omega arith })
       where
         signed : (q : State) → lo ≤ end g q → At g n q → (m : ℕ) → m < 4 → Gives g (Got g (λ (m : ℕ). m < 4) node.number 0 n lo) (expect g k q (read m))
-        signed q l a m i = gives-mark c k ok q a (refusal a tt) λ t _. gives (record { is = i; has = flat-has _ refl (omega arith) (t .at); whole = refl; rise = omega arith })
+        signed q l a m i = gives-mark c k ok q a (refusal a tt) λ t _. gives (record { is = i; has = flat-has _ refl tt (omega arith) (t .at); whole = refl; rise = omega arith })
 
     mapped-gives : ReadsTree g type (mapped g T)
     unfolding mapped
@@ -394,7 +396,7 @@ module _ (g : Given) (c : Checked g) where
     -- ---- Tuple
 
     element-has : {n lo : ℕ} (t : Placed) {q : State} → Has g n lo t q → Has g n lo (asElement t) q
-    element-has t x = record { at = counted (omega (arith, element-size nodes (λ _ _ _. refl) t)) (x .at); spans = spans-element t (x .spans) }
+    element-has t x = record { at = counted (omega (arith, element-size nodes (λ _ _ _. refl) t)) (x .at); spans = spans-element t (x .spans); told = told-element (g .text) t (x .told) }
 
     member-node : {n lo : ℕ} (label stood : State) (question : Bool) (t : Placed) (q : State) → class.name (kind g label) ≡ true → lo ≤ first g label
         → Got g (Good type) itself 1 n (first g label) t q → Gives g (Got g (λ (e : Placed). Good element e × Is underRest e) itself 1 n lo) (memberNode g T label stood question t q)
@@ -403,7 +405,7 @@ module _ (g : Given) (c : Checked g) where
         let spelt = spelled-by g c class.name refl label e in
         let under = as-under-name t (b .is .is) in
         gives-then
-        (made-by [] 22 (b .whole) (front-has (node.spell (spelling g label)) refl (front-has (node.bit question) refl (element-has t (b .has)))) l (omega arith)
+        (made-by [] 22 (b .whole) (front-has (node.spell (spelling g label)) refl (told-here g c label) (front-has (node.bit question) refl tt (element-has t (b .has)))) l (omega arith)
         λ _ low. (record { is = makers.named-is (first g label) _ question spelt under; low = low }, makers.named-under-rest (first g label) _ question spelt under))
         λ x q d.
         reported-if (stands g Dot3 stood) _ q (λ q. reportIf (isAsked t) g (note askedAfterLabel (first g stood) (end g q)) q (read x)) d λ q d.
@@ -475,25 +477,25 @@ module _ (g : Given) (c : Checked g) where
         gives-test (stands g TemplateMiddle q)
         (λ i _.
         let u = step c (λ k. eqb k TemplateMiddle) refl q i (b .has .at) in
-        pieces-from n lo fuel (l ++ (p ∷ [])) (next q) (more p (b .is .is) (spelled-by g c (λ k. eqb k TemplateMiddle) refl q i)) (grown p x (b .has) u)) λ _ _.
+        pieces-from n lo fuel (l ++ (p ∷ [])) (next q) (more p (b .is .is) (spelled-by g c (λ k. eqb k TemplateMiddle) refl q i)) (grown p (told-here g c q) x (b .has) u)) λ _ _.
         gives-must (stands g TemplateTail q) (refusal (b .has .at) tt) λ i _.
         let u = step c (λ k. eqb k TemplateTail) refl q i (b .has .at) in
-        let y = grown p x (b .has) u in
+        let y = grown p (told-here g c q) x (b .has) u in
         gives (record { is = more p (b .is .is) (spelled-by g c (λ k. eqb k TemplateTail) refl q i); has = y; whole = refl; rise = omega (arith, has-le y) })
       where
         more : (p : Placed × Spelling) → Is type (p .0) → IsSpelling (p .1) → Each IsPiece (l ++ (p ∷ []))
         more p i j = makers.each-more IsPiece l p e (record { type-is = i; spelling-is = j })
 
-        grown : (p : Placed × Spelling) {q : State} → Has g n lo (entries (node.pieces l)) s → Has g (n + sizeOf (entries (node.pieces l))) (end g s) (p .0) q
+        grown : (p : Placed × Spelling) → Told (g .text) (node.spell (p .1)) → {q : State} → Has g n lo (entries (node.pieces l)) s → Has g (n + sizeOf (entries (node.pieces l))) (end g s) (p .0) q
             → Step g (n + sizeOf (entries (node.pieces l)) + sizeOf (p .0)) q → Has g n lo (entries (node.pieces (l ++ (p ∷ [])))) (next q)
-        grown p x y u = rw pieces-more (has-more (node.pieces l) x (y & flat-has (node.spell (p .1)) refl (omega arith) (u .at)))
+        grown p o x y u = rw pieces-more (has-more (node.pieces l) x (y & flat-has (node.spell (p .1)) refl o (omega arith) (u .at)))
 
     template-gives : ReadsIf g (λ s. among (NoSubstitutionTemplate ∷ TemplateHead ∷ []) (kind g s)) type (template g T)
     unfolding template pieces
     template-gives n lo s e l a =
         let t = step c (among (NoSubstitutionTemplate ∷ TemplateHead ∷ [])) refl s e a in
-        let head : Has g n (first g s) (node.spell (spelling g s)) (next s) = flat-has _ refl (omega arith) (t .at) in
-        let none : Has g (n + 0) (end g (next s)) void (next s) = flat-has void refl (omega arith) (head .at) in
+        let head : Has g n (first g s) (node.spell (spelling g s)) (next s) = flat-has _ refl (told-here g c s) (omega arith) (t .at) in
+        let none : Has g (n + 0) (end g (next s)) void (next s) = flat-has void refl tt (omega arith) (head .at) in
         gives-then
         (gives-test (stands g NoSubstitutionTemplate s) (λ _ _. gives (record { is = tt; has = none; whole = refl; rise = omega arith })) λ _ _.
         pieces-from _ (end g (next s)) (turns g) [] (next s) tt none)
@@ -506,13 +508,13 @@ module _ (g : Given) (c : Checked g) where
     keyword-gives : (n lo : ℕ) (s : State) → position (kind g s) keywords < 13 → lo ≤ first g s → Step g n s → Gives g (Got g (Good type) itself 1 n lo) (keyword g s)
     unfolding keyword
     keyword-gives n lo s e l t =
-        made [] refl (flat-has (node.number _) refl (omega arith) (t .at)) l (t .rise) λ _. makers.keyword-is (first g s) _ _ e
+        made [] refl (flat-has (node.number _) refl tt (omega arith) (t .at)) l (t .rise) λ _. makers.keyword-is (first g s) _ _ e
 
     literal-gives : ReadsIf g (λ s. among literals (kind g s)) type (literal g)
     unfolding literal
     literal-gives n lo s e l a =
         let t = step c (among literals) refl s e a in
-        made [] refl (flat-has _ (literal-size (kind g s) (spelling g s)) (omega arith) (t .at)) l (t .rise) λ _.
+        made [] refl (flat-has _ (literal-size (kind g s) (spelling g s)) (told-literal g c s (kind g s)) (omega arith) (t .at)) l (t .rise) λ _.
         literal-fits (first g s) _ (kind g s) (spelled-by g c (among literals) refl s e) e
 
     negative-gives : ReadsIf g (isNegative g) type (negative g)
@@ -522,9 +524,8 @@ module _ (g : Given) (c : Checked g) where
         let t = step c (λ k. eqb k Minus) refl s (p .0) a in
         let u = step c (among (NumberLiteral ∷ BigIntLiteral ∷ [])) refl (next s) (p .1) (t .at) in
         let x = spelled-by g c (among (NumberLiteral ∷ BigIntLiteral ∷ [])) refl (next s) (p .1) in
-        made [] refl (flat-has _ refl (omega arith) (u .at)) l (omega arith) λ _.
-        among-each (λ (k : ℕ). Is type (node.literal (first g s) (end g (next (next s))) (negated k) (present (spelling g (next s))))) (NumberLiteral ∷ BigIntLiteral ∷ []) (kindAfter g 1 s)
-        (makers.literal-is (first g s) _ 5 (omega arith) refl x, (makers.literal-is (first g s) _ 6 (omega arith) refl x, tt)) (p .1)
+        made [] refl (flat-has _ refl (told-here g c (next s)) (omega arith) (u .at)) l (omega arith) λ _.
+        negative-fits (first g s) _ (kindAfter g 1 s) (record { some = x .some; few = x .few; bytes = x .bytes }) (p .1)
 
     this-gives : ReadsIf g (stands g This) type (this g T)
     unfolding this
@@ -535,7 +536,7 @@ module _ (g : Given) (c : Checked g) where
         let is = both-true (onLine g (next s)) _ (not-false (onLine g (next s) and stands g IsWord (next s)) i) .1 in
         let u = step c (λ k. eqb k IsWord) refl (next s) is (t .at) in
         gives-then (h true n (first g s) (next (next s)) (omega arith) (u .at)) λ x q b.
-        made [] (b .whole) (pick-has 0 (front-has (node.subjectOf absent) refl (pick-has 1 (b .has)))) l (omega arith) λ _.
+        made [] (b .whole) (pick-has 0 (front-has (node.subjectOf absent) refl tt (pick-has 1 (b .has)))) l (omega arith) λ _.
         makers.predicate-is (first g s) _ false absent tt (b .is .is)
 
     assertion-gives : ReadsIf g (isAssertion g) type (assertion g T)
@@ -547,7 +548,7 @@ module _ (g : Given) (c : Checked g) where
         let u = step c class.name refl (next s) named (t .at) in
         gives-then (optional-gives IsWord refl true n (end g (next (next s))) (next (next s)) refl (omega arith) (u .at)) λ x q b.
         let m : first g s < end g (next (next s)) = omega arith in
-        let y = front-has (node.subjectOf (subject g (next s))) (subject-size (subject g (next s))) (has-down (omega arith) (b .has)) in
+        let y = front-has (node.subjectOf (subject g (next s))) (subject-size (subject g (next s))) (told-subject g c (next s)) (has-down (omega arith) (b .has)) in
         made [] (b .whole) (pick-has 1 y) l (omega arith) λ _.
         asserted (first g s) _ (subject g (next s)) x (subject-is (next s) named) (b .is)
 
@@ -640,10 +641,10 @@ module _ (g : Given) (c : Checked g) where
     trial-gives : (on : Bool) → ReadsOn g (λ (t : Trial). IfAny (Is type) (constraintOf t)) (λ (t : Trial). maybe (constraintOf t)) (trial g T on)
     unfolding trial
     trial-gives on n lo s w l a =
-        gives-test (not (stands g Extends s)) (λ _ _. gives (record { is = tt; has = flat-has (maybe absent) refl l a; whole = w; rise = omega arith })) λ e _.
+        gives-test (not (stands g Extends s)) (λ _ _. gives (record { is = tt; has = flat-has (maybe absent) refl tt l a; whole = w; rise = omega arith })) λ e _.
         let u = step c (λ k. eqb k Extends) refl s (not-false (stands g Extends s) e) a in
         gives-then (h false _ lo (next s) (omega arith) (u .at)) λ t q b.
-        gives-test (on and stands g Question q) (λ _ _. gives (record { is = tt; has = flat-has (maybe absent) refl l a; whole = w; rise = omega arith })) λ _ _.
+        gives-test (on and stands g Question q) (λ _ _. gives (record { is = tt; has = flat-has (maybe absent) refl tt l a; whole = w; rise = omega arith })) λ _ _.
         gives (record { is = b .is .is; has = pick-has 1 (b .has); whole = b .whole; rise = omega arith })
 
     infer-gives : (on : Bool) → ReadsIf g (stands g Infer) type (infer g T on)
@@ -664,7 +665,7 @@ module _ (g : Given) (c : Checked g) where
         let isOne = not-false (among operators (kind g s)) e in
         let u = step c (among operators) refl s isOne a in
         gives-then (operator-from on fuel n (first g s) (next s) (omega arith) (u .at)) λ t q b.
-        made [] (b .whole) (front-has (node.number _) refl (b .has)) l (omega arith) λ _.
+        made [] (b .whole) (front-has (node.number _) refl tt (b .has)) l (omega arith) λ _.
         makers.operator-is (first g s) _ _ (among-each (λ (k : ℕ). position k operators < 3) operators (kind g s) (omega arith, (omega arith, (omega arith, tt))) isOne) (b .is .is)
 
     -- ---- Union, intersection
@@ -689,7 +690,7 @@ module _ (g : Given) (c : Checked g) where
           gives-test (not (stands g mark s or stands g mark q)) (λ _ _. gives (record { is = b .is; has = has-down l (b .has); whole = b .whole; rise = omega arith })) λ _ _.
           gives-then
           (parts-from n (first g s) (turns g) (t ∷ []) q
-          (record { is = record { enough = omega arith; each = (b .is .is, tt) }; has = b .has & flat-has void refl (omega arith) (b .has .at); whole = b .whole; rise = b .rise }))
+          (record { is = record { enough = omega arith; each = (b .is .is, tt) }; has = b .has & flat-has void refl tt (omega arith) (b .has .at); whole = b .whole; rise = b .rise }))
           λ ts p d.
           made _ (d .whole) (pick-has (length ts) (d .has)) l (omega arith) λ few. is (first g s) _ ts (list-is (d .is) (few .0))
 

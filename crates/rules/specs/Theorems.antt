@@ -3,7 +3,7 @@ use mathlib.Core.Path.{_≡_, refl, sym, ap, _∙_}
 use mathlib.Core.Logic.{_↔_}
 use mathlib.Core.Bool.{Bool, true, false}
 use mathlib.Core.List.{List}
-use Prim.Native.Nat.{ℕ, _/_, _≤_, _<_}
+use Prim.Native.Nat.{ℕ, _/_, _^_, _≤_, _<_}
 use native.Mathlib.Omega.{arith}
 use lib.ListN.{length}
 use lib.Seq.{take-append-seam}
@@ -11,10 +11,10 @@ use Rattle.words.specs.Limits.{tallest, mostNotes}
 use Rattle.words.specs.Check.{sound, check}
 use Rattle.keys.specs.Limits.{recordWords}
 use Rattle.keys.specs.Table.{type}
-use Rattle.keys.specs.Form.{height, nodes, Bytes, Fits}
+use Rattle.keys.specs.Form.{height, nodes, names, Bytes, Fits}
 use Rattle.keys.specs.Placed.{Placed, bare}
 use Rattle.keys.specs.Key.{taken, nodeTable, keyOf, IsTree, HasRoom}
-use Rattle.keys.specs.Store.{lent, takeBack}
+use Rattle.keys.specs.Store.{namesOf, allPointed, lent, takeBack}
 use Rattle.keys.specs.Theorems.{same-key, taken-back}
 use Rattle.keys.specs.BitsLaws.{clash}
 use Rattle.rules.specs.State.{Given, State, end, read as got}
@@ -22,7 +22,9 @@ use Rattle.rules.specs.Reading.{reading}
 use Rattle.rules.specs.Read.{granted, denied, Outcome, outcome, refuses, written, read}
 use Rattle.rules.specs.Places.{after, InOrder}
 use Rattle.rules.specs.Call.{Call, left, ruled, grants, keyLeft, Granted, Kept, AllZero, IsRefusal}
-use Rattle.rules.specs.TokenLaws.{Checked, taken-inside}
+use Rattle.rules.specs.TokenLaws.{Checked, taken-inside, text-few}
+use Rattle.rules.specs.FewLaws.{nodes-most}
+use Rattle.rules.specs.ToldLaws.{names-told}
 use Rattle.rules.specs.Gives.{Got, Good, itself}
 use Rattle.rules.specs.RuleLaws.{reading-gives}
 use Rattle.rules.specs.CallLaws.{gave, facts, ruled-by, filled-zero, kept-granted, kept-refused, call-refusal}
@@ -70,6 +72,14 @@ module _ (g : Given) (start : ℕ) {t : Placed} {s : State}
       let inside : end g s ≤ length (g .text) = rw (all .whole) (taken-inside g givenChecked (s .at) (all .has .at .inside)) in
       omega (arith, all .has .spans .upTo)
 
+  -- Its nodes are numbers of 32 bits by far.
+  pub nodes-few : s .nodes ≤ 16776960
+  nodes-few = omega (arith, nodes-used, nodes-most t tree-low tree-in-order (omega (arith, tree-in-text, text-few (g .text) (g .words) start passed)))
+
+  -- Its name words point at its spellings in the text, in order.
+  pub names-spelled : allPointed (g .text) (namesOf t) ≡ names (bare t)
+  names-spelled = names-told (g .text) t (all .has .told)
+
   -- The end cursor stands at a token.
   pub ends-inside : s .at < length (g .words)
   ends-inside = all .has .at .inside
@@ -87,6 +97,16 @@ module _ {c : Call} {t : Placed} {s : State} (x : Granted c t s) where
   -- Its tree is one of the node table within the limits of heights and of keys.
   pub call-tree : IsTree (bare t)
   call-tree = let f = facts x in record { fits = f .good .is .is .fits; tall = f .good .is .low; short = f .fit .short }
+
+  -- Its nodes are numbers of 32 bits.
+  pub call-few : nodes (bare t) < 2 ^ 32
+  call-few =
+      let f = facts x in
+      omega (arith, nodes-used _ (c .start) (x .bytes) (f .passed) (x .rules), nodes-few _ (c .start) (x .bytes) (f .passed) (x .rules))
+
+  -- The name words that it leaves point at the tree's spellings in the text, in the key's order.
+  pub call-spelled : allPointed (c .text) (namesOf t) ≡ names (bare t)
+  call-spelled = names-spelled _ (c .start) (x .bytes) (facts x .passed) (x .rules)
 
   -- The key that it leaves is its tree's.
   pub call-key : keyLeft (left c) ≡ keyOf (bare t)
@@ -115,12 +135,12 @@ call-refused c e = by (outcome (c .text) (c .words) (c .start) (c .parens) (c .l
   where
     by : (o : Outcome) → grants (written (c .lent) o .answer) ≡ false → AllZero (c .lent) (written (c .lent) o)
     by (granted t ns i h key) j = clash (cc)
-    by (denied n p h) j =
+    by (denied n p h b) j =
         let l = c .lent in
         record { nodesZero = filled-zero (l .nodes); namesZero = filled-zero (l .names); notesZero = filled-zero (l .notes); keyZero = filled-zero (l .key) }
 
 -- It refuses under 1 to 9 or 11, at a token of the list, and at 0 for 1 and 11.
-pub refusals : (c : Call) → Bytes (c .text) → {n p h : ℕ} → left c .answer ≡ refuses n p h → IsRefusal (length (c .words)) n p
+pub refusals : (c : Call) → Bytes (c .text) → {n p h b : ℕ} → left c .answer ≡ refuses n p h b → IsRefusal (length (c .words)) n p
 refusals c bytes e = call-refusal c bytes e
 
 -- Every output is left as long as it was lent.
