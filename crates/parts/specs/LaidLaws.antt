@@ -12,7 +12,7 @@ use Rattle.keys.specs.Store.{Run, done, name, under, called, firstKid, records,
 use Rattle.keys.specs.StoreLaws.{_⊕_, under-join, called-join, records-join, namesIn-join}
 use Rattle.keys.specs.Words.{firstNodes, firstNames}
 use Rattle.rules.specs.Notes.{Note, note}
-use Rattle.parts.specs.Marks.{notesOf}
+use Rattle.parts.specs.Marks.{noteAt, notesOf}
 use Rattle.parts.specs.Laid.{skeleton, namesRun, Was, wasAt, Laid}
 use Rattle.parts.specs.RunLaws.{under-skeleton, called-skeleton, records-skeleton, namesIn-skeleton, under-names, records-names}
 
@@ -78,35 +78,35 @@ notes-same O O' n k h e = sym (notes-take O' n k h) ∙ ap (take k) e ∙ notes-
 pub notes-before : (O O' : List ℕ) (n : ℕ) (z : Note) → notesOf O' (n + 1) ≡ notesOf O n ++ (z ∷ []) → notesOf O' n ≡ notesOf O n
 notes-before O O' n z e = sym (notes-take O' (n + 1) n (omega arith)) ∙ ap (take n) e ∙ take-at (notesOf O n) (z ∷ []) n (length-notes O n)
 
-notes-set : (O : List ℕ) (n i v : ℕ) → n * 3 ≤ i → notesOf (set O i v) n ≡ notesOf O n
+notes-set : (O : List ℕ) (n i v : ℕ) → noteAt n ≤ i → notesOf (set O i v) n ≡ notesOf O n
 unfolding notesOf
 notes-set O zero i v h = refl
 notes-set O (suc n) i v h =
     rw (
       notes-set O n i v (omega arith),
-      getD-set-other O i (n * 3) v 0 (λ e. omega arith),
-      getD-set-other O i (n * 3 + 1) v 0 (λ e. omega arith),
-      getD-set-other O i (n * 3 + 2) v 0 (λ e. omega arith),
+      getD-set-other O i (noteAt n) v 0 (λ e. omega arith),
+      getD-set-other O i (noteAt n + 1) v 0 (λ e. omega arith),
+      getD-set-other O i (noteAt n + 2) v 0 (λ e. omega arith),
     )
 
 -- Three words stored behind n diagnostics are one more.
-pub notes-three : (O : List ℕ) (n a b c : ℕ) → n * 3 + 3 ≤ length O
-    → notesOf (set (set (set O (n * 3) a) (n * 3 + 1) b) (n * 3 + 2) c) (n + 1) ≡ notesOf O n ++ (note a b c ∷ [])
+pub notes-three : (O : List ℕ) (n a b c : ℕ) → noteAt (n + 1) ≤ length O
+    → notesOf (set (set (set O (noteAt n) a) (noteAt n + 1) b) (noteAt n + 2) c) (n + 1) ≡ notesOf O n ++ (note a b c ∷ [])
 unfolding notesOf
 notes-three O n a b c h =
-    let s1 = set O (n * 3) a in
-    let s2 = set s1 (n * 3 + 1) b in
-    let s3 = set s2 (n * 3 + 2) c in
-    let l1 : length s1 ≡ length O = lib.ListN.length-set O (n * 3) a in
-    let l2 : length s2 ≡ length O = lib.ListN.length-set s1 (n * 3 + 1) b ∙ l1 in
-    let e0 : notesOf s3 n ≡ notesOf O n = notes-set s2 n (n * 3 + 2) c (omega arith) ∙ notes-set s1 n (n * 3 + 1) b (omega arith) ∙ notes-set O n (n * 3) a (omega arith) in
-    let e1 : getD s3 (n * 3) 0 ≡ a = getD-set-other s2 (n * 3 + 2) (n * 3) c 0 (λ e. omega arith) ∙ getD-set-other s1 (n * 3 + 1) (n * 3) b 0 (λ e. omega arith) ∙ getD-set-same O (n * 3) a 0 (omega arith) in
-    let e2 : getD s3 (n * 3 + 1) 0 ≡ b = getD-set-other s2 (n * 3 + 2) (n * 3 + 1) c 0 (λ e. omega arith) ∙ getD-set-same s1 (n * 3 + 1) b 0 (omega arith) in
-    let e3 : getD s3 (n * 3 + 2) 0 ≡ c = getD-set-same s2 (n * 3 + 2) c 0 (omega arith) in
+    let s1 = set O (noteAt n) a in
+    let s2 = set s1 (noteAt n + 1) b in
+    let s3 = set s2 (noteAt n + 2) c in
+    let l1 : length s1 ≡ length O = lib.ListN.length-set O (noteAt n) a in
+    let l2 : length s2 ≡ length O = lib.ListN.length-set s1 (noteAt n + 1) b ∙ l1 in
+    let e0 : notesOf s3 n ≡ notesOf O n = notes-set s2 n (noteAt n + 2) c (omega arith) ∙ notes-set s1 n (noteAt n + 1) b (omega arith) ∙ notes-set O n (noteAt n) a (omega arith) in
+    let e1 : getD s3 (noteAt n) 0 ≡ a = getD-set-other s2 (noteAt n + 2) (noteAt n) c 0 (λ e. omega arith) ∙ getD-set-other s1 (noteAt n + 1) (noteAt n) b 0 (λ e. omega arith) ∙ getD-set-same O (noteAt n) a 0 (omega arith) in
+    let e2 : getD s3 (noteAt n + 1) 0 ≡ b = getD-set-other s2 (noteAt n + 2) (noteAt n + 1) c 0 (λ e. omega arith) ∙ getD-set-same s1 (noteAt n + 1) b 0 (omega arith) in
+    let e3 : getD s3 (noteAt n + 2) 0 ≡ c = getD-set-same s2 (noteAt n + 2) c 0 (omega arith) in
     ap (notesOf s3) (let e : n + 1 ≡ suc n = omega arith in e)
-    ∙ ap (λ (l : List Note). l ++ (note (getD s3 (n * 3) 0) (getD s3 (n * 3 + 1) 0) (getD s3 (n * 3 + 2) 0) ∷ [])) e0
-    ∙ ap (λ (x : ℕ). notesOf O n ++ (note x (getD s3 (n * 3 + 1) 0) (getD s3 (n * 3 + 2) 0) ∷ [])) e1
-    ∙ ap (λ (x : ℕ). notesOf O n ++ (note a x (getD s3 (n * 3 + 2) 0) ∷ [])) e2
+    ∙ ap (λ (l : List Note). l ++ (note (getD s3 (noteAt n) 0) (getD s3 (noteAt n + 1) 0) (getD s3 (noteAt n + 2) 0) ∷ [])) e0
+    ∙ ap (λ (x : ℕ). notesOf O n ++ (note x (getD s3 (noteAt n + 1) 0) (getD s3 (noteAt n + 2) 0) ∷ [])) e1
+    ∙ ap (λ (x : ℕ). notesOf O n ++ (note a x (getD s3 (noteAt n + 2) 0) ∷ [])) e2
     ∙ ap (λ (x : ℕ). notesOf O n ++ (note a b x ∷ [])) e3
 
 -- ---- What is laid

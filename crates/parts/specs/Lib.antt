@@ -19,6 +19,7 @@ pub mod LaidLaws
 pub mod BuiltLaws
 pub mod Answers
 pub mod ReportLaws
+pub mod RecordLaws
 pub mod ListLaws
 pub mod MarkLaws
 pub mod NodeLaws

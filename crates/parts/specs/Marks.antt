@@ -4,12 +4,12 @@ use mathlib.Core.List.{List, [], _∷_, _++_}
 use Prim.Native.Nat.{ℕ, zero, suc, _+_, _*_, _≤_}
 use lib.Dec.{eqb}
 use lib.ListN.{length, getD}
-use Rattle.words.specs.Limits.{mostTokens, mostText, tallest}
+use Rattle.words.specs.Limits.{mostTokens, mostText, mostNotes, tallest}
 use Rattle.words.specs.Test.{test}
 use Rattle.words.specs.Word.{size, end}
 use Rattle.words.specs.Cursor.{wordAt, kindAt}
 use Rattle.words.specs.Check.{spelled}
-use Rattle.rules.specs.Notes.{Note, note}
+use Rattle.rules.specs.Notes.{Note, note, noteWidth}
 use Rattle.rules.specs.State as rule
 use Rattle.rules.specs.State.{State}
 use Rattle.parts.specs.declared.state.Given.{Given}
@@ -18,10 +18,22 @@ use Rattle.parts.specs.declared.state.Kids.{Kids}
 
 -- ---- The same in the rules' words
 
+-- The words before the first diagnostic, kept for tallies of a reading.
+abbrev pub tallies : ℕ
+tallies = 8
+
+-- Where the record of diagnostic n begins.
+abbrev pub noteAt : ℕ → ℕ
+noteAt n = tallies + n * noteWidth
+
+-- The words of the tallies and of as many diagnostics as there may be.
+abbrev pub notingWords : ℕ
+notingWords = noteAt mostNotes
+
 -- The first n diagnostics of their words.
 unfoldable pub notesOf : List ℕ → ℕ → List Note
 notesOf s zero = []
-notesOf s (suc n) = notesOf s n ++ (note (getD s (n * 3) 0) (getD s (n * 3 + 1) 0) (getD s (n * 3 + 2) 0) ∷ [])
+notesOf s (suc n) = notesOf s n ++ (note (getD s (noteAt n) 0) (getD s (noteAt n + 1) 0) (getD s (noteAt n + 2) 0) ∷ [])
 
 -- What the code is given, for contracts to speak of any.
 abbrev pub AnyGiven : Type 0
@@ -74,10 +86,10 @@ pub record Spelt (text W : List ℕ) : Type 0 where
 
 -- ---- Numbers
 
--- The room for nodes and the records for diagnostics are those of the words lent.
+-- The room for nodes is that of the words lent, and there are words for every diagnostic that there may be.
 pub record Room (nodes notes : ℕ) (g : Given) : Type 0 where
   pub forNodes : g .room * 4 ≤ nodes
-  pub forNotes : g .records * 3 ≤ notes
+  pub forNotes : notingWords ≤ notes
 
 -- A cursor within the list.
 pub record Inside (len : ℕ) (m : Mark) : Type 0 where

@@ -16,7 +16,7 @@ ghost use Rattle.rules.specs.Refusal.{unsupported};
 ghost use Rattle.rules.specs.TypeRule as type;
 ghost use Rattle.rules.specs.TypeParameters as types;
 ghost use Rattle.rules.specs.Function as rule;
-ghost use Rattle.parts.specs.Marks.{AnyGiven, view, givenOf, nextMark, Sound, Spelt, Inside, Fine, Moved, Along, Under, Reached, placeOf};
+ghost use Rattle.parts.specs.Marks.{notingWords, AnyGiven, view, givenOf, nextMark, Sound, Spelt, Inside, Fine, Moved, Along, Under, Reached, placeOf};
 ghost use Rattle.parts.specs.Says.{SaysNames, Any, one};
 ghost use Rattle.parts.specs.Lists.{here, Separates};
 ghost use Rattle.parts.specs.Nodes.{optBit, Links};
@@ -427,7 +427,7 @@ pub fn function_node(
     count: usize,
     p: Params,
 ) -> Answer
-    requires { ⌜ Sound (now words) × (given .room * 4 ≤ length (now nodes)) × (given .records * 3 ≤ length (now notes)) × Fine (length (now words)) given (p .m) × Under (p .m .used) (p .kids) × (p .this .bits ≤ 3) × (h .b .first < 2 ^ 32) × (h .b .name ≤ mostTokens) ⌝ }
+    requires { ⌜ Sound (now words) × (given .room * 4 ≤ length (now nodes)) × (notingWords ≤ length (now notes)) × Fine (length (now words)) given (p .m) × Under (p .m .used) (p .kids) × (p .this .bits ≤ 3) × (h .b .first < 2 ^ 32) × (h .b .name ≤ mostTokens) ⌝ }
     ensures { λ r. ⌜ MakesFunction (now (words .entry)) given h there count p (now (nodes .entry)) (now (notes .entry)) r (now (nodes .exit)) (now (notes .exit)) ⌝ }
     ensures { λ r. ⌜ Reached (length (now (words .entry))) given (placeOf (p .m)) (p .m .used + 1) (r .high) (r .why) (r .m) ⌝ }
 {
@@ -453,7 +453,7 @@ fn constructor_node(
     count: usize,
     p: Params,
 ) -> Answer
-    requires { ⌜ Sound (now words) × (given .room * 4 ≤ length (now nodes)) × (given .records * 3 ≤ length (now notes)) × Fine (length (now words)) given (p .m) × Under (p .m .used) (p .kids) × (h .b .first < 2 ^ 32) × (h .b .name ≤ mostTokens) ⌝ }
+    requires { ⌜ Sound (now words) × (given .room * 4 ≤ length (now nodes)) × (notingWords ≤ length (now notes)) × Fine (length (now words)) given (p .m) × Under (p .m .used) (p .kids) × (h .b .first < 2 ^ 32) × (h .b .name ≤ mostTokens) ⌝ }
     ensures { λ r. ⌜ (h .«is_new» ≡ true → MakesFunction (now (words .entry)) given h there count p (now (nodes .entry)) (now (notes .entry)) r (now (nodes .exit)) (now (notes .exit))) ⌝ }
     ensures { λ r. ⌜ Reached (length (now (words .entry))) given (placeOf (p .m)) (p .m .used + 1) (r .high) (r .why) (r .m) ⌝ }
 {

@@ -1,7 +1,7 @@
 // Lists: what stands between entries, and their end.
 ghost use Prim.Native.Nat.{_*_, _≤_, _<_};
 ghost use lib.ListN.{length};
-ghost use Rattle.parts.specs.Marks.{Sound, Inside, Fine, Moved, Under};
+ghost use Rattle.parts.specs.Marks.{notingWords, Sound, Inside, Fine, Moved, Under};
 ghost use Rattle.parts.specs.Lists.{Follows, Ends, EndsAt};
 use crate::notes::report_if;
 use crate::refusal::Refusal;
@@ -41,7 +41,7 @@ pub fn list_end(
     k: Kids,
     m: Mark,
 ) -> Listed
-    requires { ⌜ Sound (now words) × (given .records * 3 ≤ length (now notes)) × Fine (length (now words)) given m × (m .at < length (now words)) × Under (m .used) k ⌝ }
+    requires { ⌜ Sound (now words) × (notingWords ≤ length (now notes)) × Fine (length (now words)) given m × (m .at < length (now words)) × Under (m .used) k ⌝ }
     ensures { λ r. ⌜ Ends (now (words .entry)) given number first k m (now (notes .entry)) r (now (notes .exit)) ⌝ }
     ensures { λ r. ⌜ EndsAt given m r ⌝ }
 {

@@ -4,13 +4,15 @@ ghost use mathlib.Core.Bool.{true};
 ghost use mathlib.Core.List.{[], _∷_, _++_};
 ghost use Prim.Native.Nat.{_+_, _*_, _≤_, _<_};
 ghost use lib.ListN.{length};
-ghost use Rattle.rules.specs.Notes.{note};
-ghost use Rattle.parts.specs.Marks.{notesOf};
+ghost use Rattle.keys.specs.Store.{filled};
+ghost use Rattle.rules.specs.Notes.{note, noteWidth, noteWords};
+ghost use Rattle.parts.specs.Marks.{noteAt, notingWords, notesOf};
 ghost use Rattle.parts.specs.Reported.{Reports, Noted};
 use crate::refusal::Refusal;
 use crate::state::Answer;
 use crate::state::Given;
 use crate::state::Mark;
+use keys::store::clear_words;
 use words::limits::Notes;
 
 // Holds nothing: the numbers are its constants.
@@ -32,12 +34,24 @@ impl Note {
     pub const OPTIONAL_AND_REST: usize = 7;
 }
 
+// How diagnostics stand in the words of a reading: first some for tallies, then a record each.
+pub struct Noting {}
+
+impl Noting {
+    pub const TALLIES: usize = 8;
+
+    pub const RECORD: usize = 3;
+
+    // With as many records as there may be diagnostics.
+    pub const WORDS: usize = 104;
+}
+
 // The three words of a record.
 fn append_note(notes: &mut [u64], at: usize, number: usize, first: usize, end: usize)
-    requires { ⌜ at * 3 + 3 ≤ length (now notes) ⌝ }
+    requires { ⌜ noteAt (at + 1) ≤ length (now notes) ⌝ }
     ensures { λ _. ⌜ notesOf (now (notes .exit)) (at + 1) ≡ notesOf (now (notes .entry)) at ++ (note number first end ∷ []) ⌝ }
 {
-    let to = at * 3;
+    let to = Noting::TALLIES + at * Noting::RECORD;
     notes[to] = number as u64;
     notes[to + 1] = first as u64;
     notes[to + 2] = end as u64;
@@ -52,7 +66,7 @@ pub fn report(
     end: usize,
     m: Mark,
 ) -> Answer
-    requires { ⌜ (given .records * 3 ≤ length (now notes)) × (m .noted ≤ given .records) ⌝ }
+    requires { ⌜ (notingWords ≤ length (now notes)) × (m .noted ≤ given .records) ⌝ }
     ensures { λ r. ⌜ Reports true given (note number first end) m (now (notes .entry)) r (now (notes .exit)) ⌝ }
     ensures { λ r. ⌜ Noted given m r ⌝ }
 {
@@ -83,7 +97,7 @@ pub fn report_if(
     end: usize,
     m: Mark,
 ) -> Answer
-    requires { ⌜ (given .records * 3 ≤ length (now notes)) × (m .noted ≤ given .records) ⌝ }
+    requires { ⌜ (notingWords ≤ length (now notes)) × (m .noted ≤ given .records) ⌝ }
     ensures { λ r. ⌜ Reports holds given (note number first end) m (now (notes .entry)) r (now (notes .exit)) ⌝ }
     ensures { λ r. ⌜ Noted given m r ⌝ }
 {
@@ -91,4 +105,18 @@ pub fn report_if(
         return report(notes, given, number, first, end, m);
     }
     Answer::taken(m)
+}
+
+// The first diagnostics of a reading as records in words lent, then zeros.
+pub fn copy_notes(noting: &[u64], count: usize, notes: &mut [u64])
+    requires { ⌜ (noteAt count ≤ length (now noting)) × (count * noteWidth ≤ length (now notes)) ⌝ }
+    ensures { λ _. ⌜ now (notes .exit) ≡ filled (length (now (notes .entry))) (noteWords (notesOf (now (noting .entry)) count)) ⌝ }
+{
+    let words = count * Noting::RECORD;
+    let mut i: usize = 0;
+    while i < words {
+        notes[i] = noting[Noting::TALLIES + i];
+        i += 1;
+    }
+    clear_words(notes, words);
 }

@@ -9,7 +9,7 @@ ghost use Rattle.words.specs.Limits.{mostTokens, tallest};
 ghost use Rattle.rules.specs.Tuple as rule;
 ghost use Rattle.rules.specs.State.{past};
 ghost use Rattle.words.specs.Kind as kind;
-ghost use Rattle.parts.specs.Marks.{AnyGiven, view, givenOf, nextMark, Sound, Spelt, Inside, Fine, Along, Under, Reached, placeOf};
+ghost use Rattle.parts.specs.Marks.{notingWords, AnyGiven, view, givenOf, nextMark, Sound, Spelt, Inside, Fine, Along, Under, Reached, placeOf};
 ghost use Rattle.parts.specs.Laid.{Spoken};
 ghost use Rattle.parts.specs.Nodes.{Put, Makes, MakesList};
 ghost use Rattle.parts.specs.Named.{Speaks};
@@ -144,7 +144,7 @@ pub fn element_node(
     l: Label,
     a: Answer,
 ) -> Answer
-    requires { ⌜ Sound (now words) × (given .room * 4 ≤ length (now nodes)) × (given .records * 3 ≤ length (now notes)) × Fine (length (now words)) given (a .m) × (1 ≤ a .m .used) × (a .high ≤ tallest) × (a .why ≡ 0) × LabelSmall l × (l .b .name ≤ mostTokens) ⌝ }
+    requires { ⌜ Sound (now words) × (given .room * 4 ≤ length (now nodes)) × (notingWords ≤ length (now notes)) × Fine (length (now words)) given (a .m) × (1 ≤ a .m .used) × (a .high ≤ tallest) × (a .why ≡ 0) × LabelSmall l × (l .b .name ≤ mostTokens) ⌝ }
     ensures { λ r. ⌜ MakesElement (now (words .entry)) given l a (now (nodes .entry)) (now (notes .entry)) r (now (nodes .exit)) (now (notes .exit)) ⌝ }
     ensures { λ r. ⌜ Reached (length (now (words .entry))) given (placeOf (a .m)) (a .m .used) (r .high) (r .why) (r .m) ⌝ }
 {
@@ -168,7 +168,7 @@ fn member(
     l: Label,
     a: Answer,
 ) -> Answer
-    requires { ⌜ Sound (now words) × (given .room * 4 ≤ length (now nodes)) × (given .records * 3 ≤ length (now notes)) × Fine (length (now words)) given (a .m) × (1 ≤ a .m .used) × (a .high ≤ tallest) × LabelSmall l × (l .b .name ≤ mostTokens) ⌝ }
+    requires { ⌜ Sound (now words) × (given .room * 4 ≤ length (now nodes)) × (notingWords ≤ length (now notes)) × Fine (length (now words)) given (a .m) × (1 ≤ a .m .used) × (a .high ≤ tallest) × LabelSmall l × (l .b .name ≤ mostTokens) ⌝ }
     ensures { λ r. ⌜ MakesMember (now (words .entry)) given l a (now (nodes .entry)) (now (notes .entry)) r (now (nodes .exit)) (now (notes .exit)) ⌝ }
     ensures { λ r. ⌜ Reached (length (now (words .entry))) given (placeOf (a .m)) (a .m .used) (r .high) (r .why) (r .m) ⌝ }
 {
@@ -226,7 +226,7 @@ fn rest_of(
     high: usize,
     m: Mark,
 ) -> Answer
-    requires { ⌜ Sound (now words) × (given .room * 4 ≤ length (now nodes)) × (given .records * 3 ≤ length (now notes)) × Fine (length (now words)) given m × (1 ≤ m .used) × (high ≤ tallest) × LabelSmall l × (l .b .name ≤ mostTokens) ⌝ }
+    requires { ⌜ Sound (now words) × (given .room * 4 ≤ length (now nodes)) × (notingWords ≤ length (now notes)) × Fine (length (now words)) given m × (1 ≤ m .used) × (high ≤ tallest) × LabelSmall l × (l .b .name ≤ mostTokens) ⌝ }
     ensures { λ r. ⌜ MakesRest (now (words .entry)) given l high m (now (nodes .entry)) (now (notes .entry)) r (now (nodes .exit)) (now (notes .exit)) ⌝ }
     ensures { λ r. ⌜ Reached (length (now (words .entry))) given (placeOf m) (m .used) (r .high) (r .why) (r .m) ⌝ }
 {
@@ -276,7 +276,7 @@ fn is_optional(nodes: &[u64], used: usize) -> bool
 
 // The element read last, after others: diagnostic 4 for one that is neither optional nor a rest, if an optional one was seen.
 pub fn checked(nodes: &[u64], notes: &mut [u64], given: Given, seen: bool, m: Mark) -> Seen
-    requires { ⌜ (given .records * 3 ≤ length (now notes)) × (m .noted ≤ given .records) × (1 ≤ m .used) × (m .used * 4 ≤ length (now nodes)) ⌝ }
+    requires { ⌜ (notingWords ≤ length (now notes)) × (m .noted ≤ given .records) × (1 ≤ m .used) × (m .used * 4 ≤ length (now nodes)) ⌝ }
     ensures { λ r. ⌜ Checks given seen m (now (nodes .entry)) (now (notes .entry)) r (now (notes .exit)) ⌝ }
     ensures { λ r. ⌜ SeenAt given m r ⌝ }
 {

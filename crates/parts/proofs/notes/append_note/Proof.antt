@@ -9,6 +9,9 @@ use Rattle.parts.proofs.notes.append_note.Tie as tie
 mul-to : tie.Need-mul-to
 mul-to c = search needs
 
+add-to : tie.Need-add-to
+add-to c = search needs
+
 mul-notes : tie.Need-mul-notes
 mul-notes c = search needs
 
@@ -47,6 +50,7 @@ append-note-spec =
     tie.close
     (tie.spec
     mul-to
+    add-to
     mul-notes
     slice-write-notes
     add-notes
