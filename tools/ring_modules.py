@@ -11,9 +11,9 @@ again: move it away to have its new skeleton.
 """
 import glob, os, re, sys
 
-RANKS = {12: 'return_type element then other name_type', 11: 'ty', 10: 'function conditional', 9: 'signature union',
-         8: 'params type_params intersection', 7: 'param_list type_param operator', 6: 'param infer postfix',
-         5: 'primary suffix', 4: 'predicate named mapped tuple parens template', 3: 'arguments extends opt'}
+RANKS = {12: 'ret_ty elem then other rename', 11: 'ty', 10: 'function cond', 9: 'sig union',
+         8: 'params tparams inter', 7: 'plist tparam operator', 6: 'param infer postfix',
+         5: 'primary suffix', 4: 'pred named mapped tuple parens template', 3: 'targs extends opt'}
 RANK = {name: r for r, names in RANKS.items() for name in names.split()}
 HEAD = ['use Prim.Native.Nat.{ℕ, suc, _+_, _-_, _*_, _^_, _≤_, _<_}', 'use native.Mathlib.Omega.{arith}',
         'use borrow.Author.Needs.{needs}', 'use borrow.Author.Tests.{not-true, not-false}',
@@ -90,7 +90,7 @@ def base(members, uses, source):
     for x in members:
         k = kebab(x)
         taken = [p.split(':')[0].strip() for p in re.search(r'fn ' + x + r'\(([^)]*)\)', source).group(1).split(',') if p.strip()]
-        mark = 'a' + ' .1' * taken.index('t' if x == 'signature' else 'm') + ' .0' + (' .m' if x == 'signature' else '')
+        mark = 'a' + ' .1' * taken.index('t' if x == 'sig' else 'm') + ' .0' + (' .m' if x == 'sig' else '')
         out.append('abbrev pub μ-%s : Measures 5 %s-kinds.ps ℕ' % (k, k))
         out.append('μ-%s κs a = (length (a .0 .now) * 2 - (%s .at * 2 + %s .half)) * 13 + %d\n' % (k, mark, mark, RANK[x]))
     for x in members:

@@ -19,5 +19,3 @@ pub mod ListTurns
 pub mod MappedLaws
 pub mod TupleTurns
 pub mod PieceTurns
-pub mod Call
-pub mod CallLaws

@@ -1,3 +1,2 @@
-// The readers of types: a ring of functions, one a rule or a part of one, and the call that reads without the key.
-pub mod read;
+// The readers of types: a ring of functions, one a rule or a part of one.
 pub mod ring;

@@ -130,11 +130,11 @@ pub fn ty(
     if begins(words, classes, m) {
         return function(words, classes, nodes, names, notes, below, on, m);
     }
-    conditional(words, classes, nodes, names, notes, below, on, m)
+    cond(words, classes, nodes, names, notes, below, on, m)
 }
 
 // Type: a union, which `extends` on its line makes a conditional where that is allowed.
-fn conditional(
+fn cond(
     words: &[u64],
     classes: &[u16; 256],
     nodes: &mut [u64],
@@ -319,15 +319,15 @@ fn function(
     ensures { λ r. ⌜ (r .why ≡ 0 → Past (placeOf m + 1) (m .used + 1) (r .m)) ⌝ }
 {
     let h = function_head(words, m);
-    let t = type_params(words, classes, nodes, names, notes, given, on, h.m);
+    let t = tparams(words, classes, nodes, names, notes, given, on, h.m);
     if t.why != 0 {
         return Answer::refused(t.why, t.m);
     }
-    signature(words, classes, nodes, names, notes, given, h, t)
+    sig(words, classes, nodes, names, notes, given, h, t)
 }
 
 // Function: behind the type parameters t.
-fn signature(
+fn sig(
     words: &[u64],
     classes: &[u16; 256],
     nodes: &mut [u64],
@@ -358,7 +358,7 @@ fn signature(
         named: s.named,
         noted: s.noted,
     };
-    let r = return_type(words, classes, nodes, names, notes, given, q);
+    let r = ret_ty(words, classes, nodes, names, notes, given, q);
     if r.why != 0 {
         return r;
     }
@@ -367,7 +367,7 @@ fn signature(
 }
 
 // Type parameters, or none where no `<` stands; diagnostic 1 if nothing is between.
-fn type_params(
+fn tparams(
     words: &[u64],
     classes: &[u16; 256],
     nodes: &mut [u64],
@@ -394,7 +394,7 @@ fn type_params(
     };
     let mut k = Kids::none();
     while kind_at(words, p) != Kind::R_ANGLE {
-        let a = type_param(words, classes, nodes, names, notes, given, on, p);
+        let a = tparam(words, classes, nodes, names, notes, given, on, p);
         if a.why != 0 {
             return Listed::refused(a.why, a.m);
         }
@@ -412,7 +412,7 @@ fn type_params(
 }
 
 // Type parameters: a name, its constraint and its default, if they stand there.
-fn type_param(
+fn tparam(
     words: &[u64],
     classes: &[u16; 256],
     nodes: &mut [u64],
@@ -472,7 +472,7 @@ fn params(
     }
     if h.choices == 0 {
         let none = This::none();
-        return param_list(words, classes, nodes, names, notes, given, none, kids, h.m);
+        return plist(words, classes, nodes, names, notes, given, none, kids, h.m);
     }
     let colon = Kind::COLON;
     let a = opt(words, classes, nodes, names, notes, given, colon, true, h.m);
@@ -485,11 +485,11 @@ fn params(
         return Params::refused(c.why, c.m);
     }
     let t = this_of(words, m, a);
-    param_list(words, classes, nodes, names, notes, given, t, k, c.m)
+    plist(words, classes, nodes, names, notes, given, t, k, c.m)
 }
 
 // Function: the parameters from here to the `)`; no modifier words, and no `this` any more.
-fn param_list(
+fn plist(
     words: &[u64],
     classes: &[u16; 256],
     nodes: &mut [u64],
@@ -561,7 +561,7 @@ fn param(
 }
 
 // Function: the return type, which may be a predicate; conditionals are on.
-fn return_type(
+fn ret_ty(
     words: &[u64],
     classes: &[u16; 256],
     nodes: &mut [u64],
@@ -576,14 +576,14 @@ fn return_type(
     ensures { λ r. ⌜ (r .why ≡ 0 → Past (placeOf m + 1) (m .used + 1) (r .m)) ⌝ }
 {
     if predicates(words, classes, m) {
-        return predicate(words, classes, nodes, names, notes, given, false, m);
+        return pred(words, classes, nodes, names, notes, given, false, m);
     }
     let on = true;
     ty(words, classes, nodes, names, notes, given, on, m)
 }
 
 // A predicate about a name or this, with or without asserts before it; its type follows `is`.
-fn predicate(
+fn pred(
     words: &[u64],
     classes: &[u16; 256],
     nodes: &mut [u64],
@@ -637,7 +637,7 @@ fn union(
     ensures { λ r. ⌜ (r .why ≡ 0 → Past (placeOf m + 1) (m .used + 1) (r .m)) ⌝ }
 {
     let first = past(words, Kind::PIPE, m);
-    let a = intersection(words, classes, nodes, names, notes, given, on, first);
+    let a = inter(words, classes, nodes, names, notes, given, on, first);
     if a.why != 0 {
         return a;
     }
@@ -654,7 +654,7 @@ fn union(
             named: p.named,
             noted: p.noted,
         };
-        let c = intersection(words, classes, nodes, names, notes, given, on, s);
+        let c = inter(words, classes, nodes, names, notes, given, on, s);
         if c.why != 0 {
             return c;
         }
@@ -667,7 +667,7 @@ fn union(
 }
 
 // Intersection: operators with `&` between; one alone is just that, unless a mark stood before it.
-fn intersection(
+fn inter(
     words: &[u64],
     classes: &[u16; 256],
     nodes: &mut [u64],
@@ -879,8 +879,8 @@ fn primary(
     match o {
         Start::Keyword => return keyword(words, nodes, given, m),
         Start::Literal => return literal(words, nodes, names, given, m),
-        Start::This => return predicate(words, classes, nodes, names, notes, given, false, m),
-        Start::Asserts => return predicate(words, classes, nodes, names, notes, given, true, m),
+        Start::This => return pred(words, classes, nodes, names, notes, given, false, m),
+        Start::Asserts => return pred(words, classes, nodes, names, notes, given, true, m),
         Start::Name => return named(words, classes, nodes, names, notes, given, m),
         Start::Mapped => return mapped(words, classes, nodes, names, notes, given, m),
         Start::Tuple => return tuple(words, classes, nodes, names, notes, given, m),
@@ -909,7 +909,7 @@ fn named(
     if n.why != 0 {
         return Answer::refused(n.why, n.m);
     }
-    let l = arguments(words, classes, nodes, names, notes, given, n.m);
+    let l = targs(words, classes, nodes, names, notes, given, n.m);
     if l.why != 0 {
         return Answer::refused(l.why, l.m);
     }
@@ -917,7 +917,7 @@ fn named(
 }
 
 // Arguments, or none where no list opens; diagnostic 2 if nothing is in it.
-fn arguments(
+fn targs(
     words: &[u64],
     classes: &[u16; 256],
     nodes: &mut [u64],
@@ -1011,7 +1011,7 @@ fn mapped(
     let q = a.m;
     let b = Begin::at(words, m);
     let k = Kids::one(q.used, a.high);
-    name_type(
+    rename(
         words,
         classes,
         nodes,
@@ -1026,7 +1026,7 @@ fn mapped(
 }
 
 // Mapped: behind its constraint; the name type, the type and the `;` are optional.
-fn name_type(
+fn rename(
     words: &[u64],
     classes: &[u16; 256],
     nodes: &mut [u64],
@@ -1090,7 +1090,7 @@ fn tuple(
     let mut k = Kids::none();
     let mut seen = false;
     while kind_at(words, p) != Kind::R_BRACK {
-        let a = element(words, classes, nodes, names, notes, given, p);
+        let a = elem(words, classes, nodes, names, notes, given, p);
         if a.why != 0 {
             return a;
         }
@@ -1111,7 +1111,7 @@ fn tuple(
 }
 
 // Tuple element: dots, a label and dots again may stand before its type.
-fn element(
+fn elem(
     words: &[u64],
     classes: &[u16; 256],
     nodes: &mut [u64],
