@@ -1,0 +1,4 @@
+pub mod Fronts
+pub mod Finished
+pub mod Ruled
+pub mod Taken
