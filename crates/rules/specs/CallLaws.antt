@@ -8,7 +8,6 @@ use native.Mathlib.Omega.{arith}
 use borrow.Author.Tests.{leb-true}
 use lib.Dec.{T, leb}
 use lib.ListN.{length, replicate, length-replicate}
-use Rattle.words.specs.Limits.{mostKey}
 use Rattle.words.specs.Test.{between, test}
 use Rattle.words.specs.Check.{Verdict, sound, refused, none, goodWord, judged, wordsFrom, goodList, check}
 use Rattle.keys.specs.Limits.{noSpace}
@@ -82,26 +81,20 @@ ruled-by c e = by (check (c .text) (c .words) (c .start)) (ruled c) refl e
     by sound (refuse n p h) i j = let k = rw i at j in clash (cc)
     by (refused n p) r i j = clash (cc)
 
--- The key keeps its limit, and it and the spellings fit what is lent.
+-- The key and the spellings fit what is lent.
 pub record Fit (l : Lent) (t : Placed) (key : List ℕ) : Type 0 where
-  pub short : length key ≤ mostKey
   pub forKey : length key ≤ l .key
   pub forNames : length (namesOf t) ≤ l .names
 
 fit-parts : (l : Lent) (t : Placed) (key : List ℕ) → fits l t key ≡ true → Fit l t key
 fit-parts l t key e =
-    let a = both-true (leb (length key) mostKey) _ e in
-    let b = both-true (leb (length key) (l .key)) _ (a .1) in
-    record {
-      short = leb-true (length key) mostKey (a .0);
-      forKey = leb-true (length key) (l .key) (b .0);
-      forNames = leb-true (length (namesOf t)) (l .names) (b .1);
-    }
+    let a = both-true (leb (length key) (l .key)) _ e in
+    record { forKey = leb-true (length key) (l .key) (a .0); forNames = leb-true (length (namesOf t)) (l .names) (a .1) }
 
 -- What a granted call has in hand.
 pub record Facts (c : Call) (t : Placed) (s : State) : Type 0 where
   pub passed : check (c .text) (c .words) (c .start) ≡ sound
-  pub good : Got (given (c .text) (c .words) (c .parens) (c .lent)) (Good type) itself 1 0 0 t s
+  pub good : Got (given (c .text) (c .words) (c .parens) (c .lent)) (Good type) itself 1 0 0 0 t s
   pub fit : Fit (c .lent) t (keyOf (bare t))
   pub leaves : left c ≡ written (c .lent) (granted t (s .notes) (s .at) (s .half) (keyOf (bare t)))
 

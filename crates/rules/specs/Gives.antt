@@ -2,7 +2,7 @@
 use mathlib.Core.Path.{_≡_, refl, ap, _∙_}
 use mathlib.Core.Bool.{Bool, true, false}
 use mathlib.Core.List.{List, [], _∷_, _++_}
-use Prim.Native.Nat.{ℕ, _+_, _^_, _≤_, _<_}
+use Prim.Native.Nat.{ℕ, _+_, _*_, _^_, _≤_, _<_}
 use native.Mathlib.Numerals.{add-one}
 use native.Mathlib.Omega.{arith}
 use borrow.Author.Tests.{ltb-false, leb-false}
@@ -13,7 +13,7 @@ use Rattle.words.specs.Test.{_or_, between, test}
 use Rattle.words.specs.Word.{size, end as wordEnd}
 use Rattle.words.specs.Kind.{Eof}
 use Rattle.words.specs.Cursor.{wordAt, endByte}
-use Rattle.keys.specs.Form.{Form, height, nodes}
+use Rattle.keys.specs.Form.{Value, nothing, pair, Form, height, nodes}
 use Rattle.keys.specs.Limits.{countWidth}
 use Rattle.keys.specs.Table.{type}
 use Rattle.keys.specs.Placed.{Placed, void, pick, join, tree, bare, Spelling, Opt, absent, present, entries}
@@ -21,11 +21,12 @@ use Rattle.keys.specs.Fitting.{Is, IsSpelling, Each, IfAny, Few, IsList, IsName
 use Rattle.keys.specs.Makers.{each-more}
 use Rattle.keys.specs.BitsLaws.{clash}
 use Rattle.rules.specs.Notes.{Note}
-use Rattle.rules.specs.State.{Given, State, Result, Reader, read, refuse, then, next, past, stands, kind, first, end, overlong, make, report, reportIf}
+use Rattle.rules.specs.State.{Given, State, Result, Reader, read, refuse, then, next, past, stands, kind, first, end, spelling, overlong, make, report, reportIf}
 use Rattle.rules.specs.List.{count}
 use Rattle.rules.specs.Told.{Told}
+use Rattle.rules.specs.Weight.{weight}
 use Rattle.rules.specs.ToldLaws.{told-more}
-use Rattle.rules.specs.TokenLaws.{no-end, whole-end, Checked, token-spells}
+use Rattle.rules.specs.TokenLaws.{no-end, whole-end, Checked, token-spells, taken-before, word-sized}
 use Rattle.rules.specs.PlaceLaws.{Spans, spans-le, spans-up, spans-down, spans-join, spans-flat, spans-front, spans-more}
 
 -- What was read is such, and a refusal has a number of the rules', at a token.
@@ -47,18 +48,27 @@ pub record At (g : Given) (n : ℕ) (s : State) : Type 0 where
 abbrev pub sizeOf : Placed → ℕ
 sizeOf t = nodes (bare t)
 
+-- How much it weighs in a key.
+abbrev pub weightOf : Placed → ℕ
+weightOf t = weight (bare t)
+
+-- What the tokens before the cursor are worth: ten bytes of a key for each, and their own.
+abbrev pub worth : Given → State → ℕ
+worth g s = 10 * s .at + endByte (g .words) (s .at) 0
+
 -- A value that was read, from byte lo on, where n nodes were in use before it: as many more are in use as it has, and it stands in order.
 pub record Has (g : Given) (n lo : ℕ) (p : Placed) (q : State) : Type 0 where
   pub at : At g (n + sizeOf p) q
   pub spans : Spans lo (end g q) p
   pub told : Told (g .text) p
 
--- What a rule read: it is such, as a value it is had, no half is left of a token, and k bytes or more were taken.
-pub record Got (g : Given) {A : Type 0} (P : A → Type 0) (shape : A → Placed) (k n lo : ℕ) (a : A) (q : State) : Type 0 where
+-- What a rule read: it is such, as a value it is had, no half is left of a token, and k bytes or more were taken; it weighs two bytes more at most than the tokens are worth beyond m.
+pub record Got (g : Given) {A : Type 0} (P : A → Type 0) (shape : A → Placed) (k m n lo : ℕ) (a : A) (q : State) : Type 0 where
   pub is : P a
   pub has : Has g n lo (shape a) q
   pub whole : q .half ≡ 0
   pub rise : lo + k ≤ end g q
+  pub light : weightOf (shape a) + m ≤ worth g q + 2
 
 -- A tree of a form, which keeps the limit of heights.
 pub record Good (f : Form) (t : Placed) : Type 0 where
@@ -78,11 +88,15 @@ itself t = t
 
 -- Wherever it begins, what it reads is such.
 abbrev pub Reads : Given → {A : Type 0} → (A → Type 0) → (A → Placed) → (State → Result A) → Type 0
-Reads g P shape rule = (n lo : ℕ) (s : State) → lo ≤ first g s → At g n s → Gives g (Got g P shape 1 n lo) (rule s)
+Reads g P shape rule = (n lo : ℕ) (s : State) → lo ≤ first g s → At g n s → Gives g (Got g P shape 1 (worth g s) n lo) (rule s)
+
+-- Names leave k bytes more of what their tokens are worth.
+abbrev pub ReadsNames : Given → ℕ → {A : Type 0} → (A → Type 0) → (A → Placed) → (State → Result A) → Type 0
+ReadsNames g k P shape rule = (n lo : ℕ) (s : State) → lo ≤ first g s → At g n s → Gives g (Got g P shape 1 (worth g s + k) n lo) (rule s)
 
 -- It may read nothing, and begins at a whole token.
 abbrev pub ReadsOn : Given → {A : Type 0} → (A → Type 0) → (A → Placed) → (State → Result A) → Type 0
-ReadsOn g P shape rule = (n lo : ℕ) (s : State) → s .half ≡ 0 → lo ≤ end g s → At g n s → Gives g (Got g P shape 0 n lo) (rule s)
+ReadsOn g P shape rule = (n lo : ℕ) (s : State) → s .half ≡ 0 → lo ≤ end g s → At g n s → Gives g (Got g P shape 0 (worth g s) n lo) (rule s)
 
 -- It reads trees of a form.
 abbrev pub ReadsTree : Given → Form → (State → Result Placed) → Type 0
@@ -90,12 +104,13 @@ ReadsTree g f rule = Reads g (Good f) itself rule
 
 -- It reads such trees where a test holds.
 abbrev pub ReadsIf : Given → (State → Bool) → Form → (State → Result Placed) → Type 0
-ReadsIf g ok f rule = (n lo : ℕ) (s : State) → ok s ≡ true → lo ≤ first g s → At g n s → Gives g (Got g (Good f) itself 1 n lo) (rule s)
+ReadsIf g ok f rule = (n lo : ℕ) (s : State) → ok s ≡ true → lo ≤ first g s → At g n s → Gives g (Got g (Good f) itself 1 (worth g s) n lo) (rule s)
 
--- It makes a larger type of a type that was read from byte b on, where a test holds.
+-- It makes a larger type of a type that was read from byte b on and is light beyond m, where a test holds.
 abbrev pub ReadsAbout : Given → (State → Bool) → (ℕ → Placed → State → Result Placed) → Type 0
 ReadsAbout g ok rule =
-    (n lo b : ℕ) (t : Placed) (s : State) → ok s ≡ true → lo ≤ b → b < end g s → Is type t → Has g n b t s → Gives g (Got g (Good type) itself 1 n lo) (rule b t s)
+    (m n lo b : ℕ) (t : Placed) (s : State) → ok s ≡ true → lo ≤ b → b < end g s → Is type t → Has g n b t s → weightOf t + m ≤ worth g s + 2
+    → Gives g (Got g (Good type) itself 1 m n lo) (rule b t s)
 
 -- It reads types.
 abbrev pub ReadsTypes : Given → Reader → Type 0
@@ -125,10 +140,11 @@ module _ {g : Given} {A : Type 0} {P : A → State → Type 0} where
 
 -- ---- Past a token
 
--- One that was taken at s: its bytes stand between.
+-- One that was taken at s: its bytes stand between, and it has its worth.
 pub record Step (g : Given) (n : ℕ) (s : State) : Type 0 where
   pub at : At g n (next s)
   pub rise : first g s < end g (next s)
+  pub more : worth g s + 10 + length (spelling g s .1) ≤ worth g (next s)
 
 end-next : (g : Given) (s : State) → end g (next s) ≡ wordEnd (wordAt (g .words) (s .at))
 end-next g s = ap (λ (i : ℕ). endByte (g .words) i 0) (add-one (s .at))
@@ -151,6 +167,7 @@ step {g} c f e s h a =
         rest = λ ne. token-spells g c (s .at + 1) ne .some;
       };
       rise = omega (arith, end-next g s, a .rest some);
+      more = omega (arith, end-next g s, taken-before g c (s .at) (a .inside), word-sized (g .text) (g .words) (c .start) (c .sound) (s .at));
     }
 
 -- A mark, by what is shown where it is taken and where it does not stand.
@@ -168,6 +185,7 @@ pub record Past (g : Given) (n : ℕ) (s q : State) : Type 0 where
   pub at : At g n q
   pub first-later : first g s ≤ first g q
   pub end-later : end g s ≤ end g q
+  pub worth-later : worth g s ≤ worth g q
 
 pub past-mark : {g : Given} → Checked g → {n : ℕ} (k : ℕ) → eqb Eof k ≡ false → (s : State) → At g n s → Past g n s (past g k s)
 past-mark {g} c {n} k e s a = by (stands g k s) refl
@@ -175,8 +193,12 @@ past-mark {g} c {n} k e s a = by (stands g k s) refl
     by : (b : Bool) → stands g k s ≡ b → Past g n s (test b (λ _. next s) (λ _. s))
     by true i =
         let t = step c (λ j. eqb j k) e s i a in
-        record { at = t .at; first-later = omega arith; end-later = omega arith }
-    by false i = record { at = a; first-later = omega arith; end-later = omega arith }
+        record { at = t .at; first-later = omega arith; end-later = omega arith; worth-later = omega arith }
+    by false i = record { at = a; first-later = omega arith; end-later = omega arith; worth-later = omega arith }
+
+-- A mark that stands here and is taken has its worth.
+pub past-more : {g : Given} → Checked g → {n : ℕ} (k : ℕ) → eqb Eof k ≡ false → (s : State) → stands g k s ≡ true → At g n s → worth g s + 10 ≤ worth g (past g k s)
+past-more c k e s i a = rw i (omega (arith, step c (λ j. eqb j k) e s i a .more))
 
 pub past-whole : (g : Given) (k : ℕ) (s : State) → s .half ≡ 0 → past g k s .half ≡ 0
 past-whole g k s a = by (stands g k s)
@@ -192,9 +214,19 @@ pub counted : {g : Given} {n m : ℕ} {s : State} → n ≡ m → At g n s → A
 counted e a =
     record { used = a .used ∙ e; roomy = a .roomy; few = a .few; recorded = a .recorded; inside = a .inside; order = a .order; rest = a .rest }
 
+-- A measure that adds up over pairs adds up over a list that grows at its end.
+sum-more : (m : Value → ℕ) → m nothing ≡ 0 → ((a b : Value) → m (pair a b) ≡ m a + m b) → (l : List Placed) (t : Placed)
+    → m (bare (entries (l ++ (t ∷ [])))) ≡ m (bare (entries l)) + m (bare t)
+sum-more m e f [] t = omega (arith, e, f (bare t) nothing)
+sum-more m e f (u ∷ l) t = omega (arith, f (bare u) (bare (entries (l ++ (t ∷ [])))), f (bare u) (bare (entries l)), sum-more m e f l t)
+
+-- So do nodes.
 size-more : (l : List Placed) (t : Placed) → sizeOf (entries (l ++ (t ∷ []))) ≡ sizeOf (entries l) + sizeOf t
-size-more [] t = omega arith
-size-more (u ∷ l) t = omega (arith, size-more l t)
+size-more l t = sum-more nodes refl (λ a b. refl) l t
+
+-- So does weight.
+pub weight-more : (l : List Placed) (t : Placed) → weightOf (entries (l ++ (t ∷ []))) ≡ weightOf (entries l) + weightOf t
+weight-more l t = sum-more weight refl (λ a b. refl) l t
 
 module _ {g : Given} where
   -- No node.
@@ -247,6 +279,11 @@ module _ {g : Given} where
       → Has g n lo (entries (l ++ (t ∷ []))) q
   has-more l {t} x y = record { at = counted (omega (arith, size-more l t)) (y .at); spans = spans-more l (x .spans) (y .spans); told = told-more (g .text) l t (x .told) (y .told) }
 
+  -- What a rule read from byte b on, light beyond k, it read from any earlier byte on, light beyond less.
+  pub gives-down : {P : Placed → Type 0} {m k n a b : ℕ} {r : Result Placed} → a ≤ b → m ≤ k → Gives g (Got g P itself 1 k n b) r → Gives g (Got g P itself 1 m n a) r
+  gives-down l v (gives x) = gives (record { is = x .is; has = has-down l (x .has); whole = x .whole; rise = omega arith; light = omega arith })
+  gives-down l v (stops e i) = stops e i
+
 -- ---- Nodes and diagnostics
 
 short : (l : List ℕ) → overlong l ≡ false → Each (λ (n : ℕ). n < 2 ^ countWidth) l
@@ -258,13 +295,13 @@ short (n ∷ l) e = by (ltb longest n) refl (short l) e
     by true i on j = clash (cc)
     by false i on j = (omega (arith, ltb-false longest n i), on j)
 
-module _ {g : Given} {n lo : ℕ} where
-  -- A node that was made of what was read from byte b on: its lists are short, it is not too high, and it is one more in use.
-  pub made-by : {P : Placed → Type 0} (lengths : List ℕ) (tag : ℕ) {b : ℕ} {p : Placed} {s : State} → s .half ≡ 0 → Has g n b p s → lo ≤ b → b < end g s
+module _ {g : Given} {m n lo : ℕ} where
+  -- A node that was made of what was read from byte b on: its lists are short, it is not too high, it is one more in use, and its tag's two bytes are those that it may weigh more.
+  pub made-by : {P : Placed → Type 0} (lengths : List ℕ) (tag : ℕ) {b : ℕ} {p : Placed} {s : State} → s .half ≡ 0 → Has g n b p s → lo ≤ b → b < end g s → weightOf p + m ≤ worth g s
       → (Each (λ (k : ℕ). k < 2 ^ countWidth) lengths → height (bare (tree tag b (end g s) p)) ≤ tallest → P (tree tag b (end g s) p))
-      → Gives g (Got g P itself 1 n lo) (make g lengths (tree tag b (end g s) p) s)
+      → Gives g (Got g P itself 1 m n lo) (make g lengths (tree tag b (end g s) p) s)
   unfolding make
-  made-by lengths tag {b} {p} {s} w x l r f =
+  made-by lengths tag {b} {p} {s} w x l r o f =
       let t = tree tag b (end g s) p in
       let a = x .at in
       gives-test (overlong lengths) (refusal a tt) λ i _.
@@ -274,6 +311,7 @@ module _ {g : Given} {n lo : ℕ} where
         is = f (short lengths i) (ltb-false tallest (height (bare t)) j);
         whole = w;
         rise = omega arith;
+        light = omega arith;
         has = record {
           at = record {
             used = omega arith;
@@ -289,17 +327,17 @@ module _ {g : Given} {n lo : ℕ} where
         };
       })
 
-  pub made : {f : Form} (lengths : List ℕ) {tag b : ℕ} {p : Placed} {s : State} → s .half ≡ 0 → Has g n b p s → lo ≤ b → b < end g s
-      → (Each (λ (k : ℕ). k < 2 ^ countWidth) lengths → Is f (tree tag b (end g s) p)) → Gives g (Got g (Good f) itself 1 n lo) (make g lengths (tree tag b (end g s) p) s)
-  made lengths {tag} w x l r f = made-by lengths tag w x l r λ e h. record { is = f e; low = h }
+  pub made : {f : Form} (lengths : List ℕ) {tag b : ℕ} {p : Placed} {s : State} → s .half ≡ 0 → Has g n b p s → lo ≤ b → b < end g s → weightOf p + m ≤ worth g s
+      → (Each (λ (k : ℕ). k < 2 ^ countWidth) lengths → Is f (tree tag b (end g s) p)) → Gives g (Got g (Good f) itself 1 m n lo) (make g lengths (tree tag b (end g s) p) s)
+  made lengths {tag} w x l r o f = made-by lengths tag w x l r o λ e h. record { is = f e; low = h }
 
 or-false : (a b : Bool) → a or b ≡ false → (a ≡ false) × (b ≡ false)
 or-false true b e = clash (cc)
 or-false false b e = (refl, e)
 
-module _ {g : Given} {A B : Type 0} {P : A → Type 0} {shape : A → Placed} {k n lo : ℕ} {a : A} {Q : B → State → Type 0} where
+module _ {g : Given} {A B : Type 0} {P : A → Type 0} {shape : A → Placed} {k m n lo : ℕ} {a : A} {Q : B → State → Type 0} where
   -- What was got stays after a diagnostic.
-  pub reported : (note : Note) (s : State) (on : State → Result B) → Got g P shape k n lo a s → ((q : State) → Got g P shape k n lo a q → Gives g Q (on q))
+  pub reported : (note : Note) (s : State) (on : State → Result B) → Got g P shape k m n lo a s → ((q : State) → Got g P shape k m n lo a q → Gives g Q (on q))
       → Gives g Q (report g note s on)
   reported note s on h f =
       let x = h .has .at in
@@ -310,6 +348,7 @@ module _ {g : Given} {A B : Type 0} {P : A → Type 0} {shape : A → Placed} {k
         is = h .is;
         whole = h .whole;
         rise = h .rise;
+        light = h .light;
         has = record {
           at = record {
             used = x .used;
@@ -325,7 +364,7 @@ module _ {g : Given} {A B : Type 0} {P : A → Type 0} {shape : A → Placed} {k
         };
       })
 
-  pub reported-if : (b : Bool) (note : Note) (s : State) (on : State → Result B) → Got g P shape k n lo a s → ((q : State) → Got g P shape k n lo a q → Gives g Q (on q))
+  pub reported-if : (b : Bool) (note : Note) (s : State) (on : State → Result B) → Got g P shape k m n lo a s → ((q : State) → Got g P shape k m n lo a q → Gives g Q (on q))
       → Gives g Q (reportIf b g note s on)
   reported-if true note s on h f = reported note s on h f
   reported-if false note s on h f = f s h

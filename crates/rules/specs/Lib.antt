@@ -27,6 +27,8 @@ pub mod PlaceLaws
 pub mod FewLaws
 pub mod Told
 pub mod ToldLaws
+pub mod Weight
+pub mod WeightLaws
 pub mod Gives
 pub mod PartLaws
 pub mod RuleLaws

@@ -1,4 +1,4 @@
--- Laws of what rules make nodes of: how many nodes is in it, and that it is of the node table.
+-- Laws of what rules make nodes of: how many nodes is in it, what it weighs, and that it is of the node table.
 use mathlib.Core.Path.{_≡_, refl, ap, subst}
 use mathlib.Core.Bool.{Bool, true, false, not}
 use mathlib.Core.List.{List, [], _∷_, _++_}
@@ -8,8 +8,9 @@ use native.Mathlib.Nat.{eq-or-lt-of-le}
 use native.Mathlib.Omega.{arith}
 use borrow.Author.Tests.{leb-true}
 use lib.Dec.{eqb, leb}
+use lib.ListN.{length}
 use Rattle.words.specs.Test.{_and_, _or_, between, among, test}
-use Rattle.words.specs.Kind.{NumberLiteral, BigIntLiteral, Dot, Any, Unknown, True, False, Null, Void}
+use Rattle.words.specs.Kind.{NumberLiteral, BigIntLiteral, Dot, Any, Unknown, True, False, Null, This, Void}
 use Rattle.keys.specs.Form.{Value, node as nodeValue, Fits, fits-child}
 use Rattle.keys.specs.Table.{type, element, underName}
 use Rattle.keys.specs.Placed as node
@@ -17,11 +18,12 @@ use Rattle.keys.specs.Placed.{Placed, void, said, pick, join, tree, bare, Spell
 use Rattle.keys.specs.Key.{nodeTable}
 use Rattle.keys.specs.Fitting.{Is, IsSpelling, Each, IfAny}
 use Rattle.keys.specs.Makers as makers
-use Rattle.rules.specs.State.{Given, State, kind, kindAfter, first, end}
+use Rattle.rules.specs.State.{Given, State, kind, kindAfter, stands, first, end, spelling}
 use Rattle.rules.specs.List.{position}
+use Rattle.rules.specs.Function.{subject}
 use Rattle.rules.specs.Primary.{keywords, literals, negated, isKeyword}
 use Rattle.rules.specs.TokenLaws.{both-true, among-each}
-use Rattle.rules.specs.Gives.{sizeOf}
+use Rattle.rules.specs.Gives.{sizeOf, weightOf}
 
 -- ---- Sizes
 
@@ -34,7 +36,32 @@ pub subject-size : (o : Opt Spelling) → sizeOf (node.subjectOf o) ≡ 0
 subject-size absent = refl
 subject-size (present x) = refl
 
--- An element has the height and the nodes of the type that it comes from.
+-- ---- Weights
+
+-- One name more.
+pub names-weight : (l : List Spelling) (x : Spelling) → weightOf (node.listedNames (l ++ (x ∷ []))) ≡ weightOf (node.listedNames l) + (2 + length (x .1))
+names-weight [] x = omega arith
+names-weight (y ∷ l) x = omega (arith, names-weight l x)
+
+-- A predicate's subject weighs no more than if it were a name.
+pub subject-weight : (g : Given) (s : State) → weightOf (node.subjectOf (subject g s)) ≤ 4 + length (spelling g s .1)
+subject-weight g s = by (stands g This s)
+  where
+    by : (b : Bool) → weightOf (node.subjectOf (test b (λ _. absent) (λ _. present (spelling g s)))) ≤ 4 + length (spelling g s .1)
+    by true = omega arith
+    by false = omega arith
+
+-- A literal weighs no more than if it kept its spelling.
+pub literal-weight : (k : ℕ) (x : Spelling) → weightOf (node.literalSpelling (test (among (True ∷ False ∷ []) k) (λ _. absent) (λ _. present x))) ≤ 2 + length (x .1)
+literal-weight k x = by (among (True ∷ False ∷ []) k)
+  where
+    by : (b : Bool) → weightOf (node.literalSpelling (test b (λ _. absent) (λ _. present x))) ≤ 2 + length (x .1)
+    by true = omega arith
+    by false = omega arith
+
+-- ---- Elements and pieces
+
+-- An element has the height, the nodes and the weight of the type that it comes from.
 pub element-size : (m : Value → ℕ) → ((t u : ℕ) (v : Value) → m (nodeValue t v) ≡ m (nodeValue u v)) → (p : Placed) → m (bare (asElement p)) ≡ m (bare p)
 element-size m e void = refl
 element-size m e (said x y) = refl

@@ -4,7 +4,6 @@ use mathlib.Core.Bool.{Bool}
 use mathlib.Core.List.{List, []}
 use lib.Dec.{leb}
 use lib.ListN.{length}
-use Rattle.words.specs.Limits.{mostKey}
 use Rattle.words.specs.Test.{_and_, test}
 use Rattle.words.specs.Cursor.{firstByte}
 use Rattle.words.specs.Check.{Verdict, sound, refused, check}
@@ -33,9 +32,9 @@ pub data Outcome : Type 0 where
   granted : Placed → List Note → (at half : ℕ) → (key : List ℕ) → Outcome
   denied : (number token half byte : ℕ) → Outcome
 
--- the key keeps its limit and fits the bytes lent, the spellings fit the words lent
+-- the key fits the bytes lent, the spellings fit the words lent; the key's limit is kept by every reading (`key-short`)
 abbrev pub fits : Lent → Placed → List ℕ → Bool
-fits l t key = leb (length key) mostKey and leb (length key) (l .key) and leb (length (namesOf t)) (l .names)
+fits l t key = leb (length key) (l .key) and leb (length (namesOf t)) (l .names)
 
 -- a tree that was read gets its key, or 11 at 0 where it or the spellings find no space
 abbrev pub withKey : Lent → Placed → State → Outcome

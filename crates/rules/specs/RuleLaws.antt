@@ -1,4 +1,4 @@
--- One law for each rule: what it reads is of the node table and within the limits, its nodes are those in use and stand in order, no half is left; it refuses at a token.
+-- One law for each rule: what it reads is of the node table and within the limits, its nodes are those in use and stand in order, it weighs about as much in a key as its tokens are worth at most, no half is left; it refuses at a token.
 use mathlib.Core.Path.{_≡_, refl}
 use mathlib.Core.Bool.{Bool, true, false, not}
 use mathlib.Core.List.{List, [], _∷_, _++_}
@@ -38,12 +38,13 @@ use Rattle.rules.specs.Reading.{readType, reading}
 use Rattle.words.specs.Ahead.{starter, mappedStart, functionStart}
 use Rattle.words.specs.Word.{size}
 use Rattle.words.specs.Cursor.{wordAt}
-use Rattle.rules.specs.TokenLaws.{both-true, among-each, Checked, token-spells, spelled-by, split-size, start-inside, taken-before}
+use Rattle.rules.specs.TokenLaws.{both-true, or-first, among-each, Checked, token-spells, spelled-by, split-size, start-inside, taken-before}
 use Rattle.rules.specs.Told.{Told}
+use Rattle.rules.specs.Weight.{weight}
 use Rattle.rules.specs.ToldLaws.{told-here, told-subject, told-literal, told-names, told-element}
 use Rattle.rules.specs.PlaceLaws.{Spans, spans-le, spans-up, spans-flat, spans-element}
-use Rattle.rules.specs.Gives.{Gives, gives, stops, At, Has, Got, Good, Enough, Step, Past, sizeOf, itself, Reads, ReadsOn, ReadsTree, ReadsIf, ReadsAbout, ReadsTypes, gives-then, gives-test, gives-must, gives-mark, gives-or, refusal, step, past-mark, past-whole, counted, flat-has, front-has, join-has, _&_, regroup, drop-void, has-le, has-down, pick-has, has-on, has-next, has-more, made-by, made, reported, reported-if, enough-more, list-is, names-are, if-list-is}
-use Rattle.rules.specs.PartLaws.{names-size, subject-size, element-size, as-under-name, pieces-more, keyword-below, literal-size, literal-fits, negative-fits, asserted}
+use Rattle.rules.specs.Gives.{Gives, gives, stops, At, Has, Got, Good, Enough, Step, Past, sizeOf, weightOf, worth, itself, Reads, ReadsNames, ReadsOn, ReadsTree, ReadsIf, ReadsAbout, ReadsTypes, gives-then, gives-test, gives-must, gives-mark, gives-or, refusal, step, past-mark, past-more, past-whole, counted, weight-more, flat-has, front-has, join-has, _&_, regroup, drop-void, has-le, has-down, pick-has, has-on, has-next, has-more, gives-down, made-by, made, reported, reported-if, enough-more, list-is, names-are, if-list-is}
+use Rattle.rules.specs.PartLaws.{names-size, names-weight, subject-size, subject-weight, element-size, as-under-name, pieces-more, keyword-below, literal-size, literal-weight, literal-fits, negative-fits, asserted}
 
 -- How parameters stand as values, where a constructor gave the nodes of its `this` back.
 abbrev shapeOfThis : Bool → Opt ThisParameter → Placed
@@ -64,63 +65,66 @@ module _ (g : Given) (c : Checked g) where
   -- ---- Lists
 
   module _ (close : ℕ) (ok : eqb Eof close ≡ false) {f : Form} (entry : List Placed → State → Result Placed) (reads : (l : List Placed) → ReadsTree g f (entry l)) where
-    list-from : (n lo fuel : ℕ) (l : List Placed) (s : State) → Enough (Is f) 0 l → Has g n lo (entries l) s
-        → Gives g (Got g (Enough (Is f) 0) entries 1 n lo) (listFrom g close entry fuel l s)
+    list-from : (m n lo fuel : ℕ) (l : List Placed) (s : State) → Enough (Is f) 0 l → Has g n lo (entries l) s → weightOf (entries l) + m ≤ worth g s + 8
+        → Gives g (Got g (Enough (Is f) 0) entries 1 m n lo) (listFrom g close entry fuel l s)
     unfolding listFrom
-    list-from n lo zero l s e x = stops tt (x .at .inside)
-    list-from n lo (suc fuel) l s e x =
-        gives-or c close ok s (x .at) (λ t _. gives (record { is = e; has = has-next x t; whole = refl; rise = omega (arith, has-le x) })) λ _ _.
+    list-from m n lo zero l s e x o = stops tt (x .at .inside)
+    list-from m n lo (suc fuel) l s e x o =
+        gives-or c close ok s (x .at) (λ u _. gives (record { is = e; has = has-next x u; whole = refl; rise = omega (arith, has-le x); light = omega arith })) λ _ _.
         gives-then (reads l _ (end g s) s (x .at .order) (x .at)) λ t q b.
         let more = enough-more e (b .is .is) in
         let y = has-more l x (b .has) in
-        gives-or c close ok q (y .at) (λ t _. gives (record { is = more; has = has-next y t; whole = refl; rise = omega (arith, has-le y) })) λ _ _.
-        gives-mark c Comma refl q (y .at) (refusal (y .at) tt) λ t _.
-        list-from n lo fuel _ _ more (has-next y t)
+        let sum = weight-more l t in
+        gives-or c close ok q (y .at) (λ u _. gives (record { is = more; has = has-next y u; whole = refl; rise = omega (arith, has-le y); light = omega arith })) λ _ _.
+        gives-mark c Comma refl q (y .at) (refusal (y .at) tt) λ u _.
+        list-from m n lo fuel _ _ more (has-next y u) (omega arith)
 
-    list-gives : (n lo : ℕ) (s : State) → lo ≤ end g s → At g n s → Gives g (Got g (Enough (Is f) 0) entries 1 n lo) (list g close entry s)
+    list-gives : (n lo : ℕ) (s : State) → lo ≤ end g s → At g n s → Gives g (Got g (Enough (Is f) 0) entries 1 (worth g s + 8) n lo) (list g close entry s)
     unfolding list
-    list-gives n lo s l a = list-from n lo (turns g) [] s no-entries (flat-has void refl tt l a)
+    list-gives n lo s l a = list-from (worth g s + 8) n lo (turns g) [] s no-entries (flat-has void refl tt l a) (omega arith)
 
   -- ---- Names
 
-  word-gives : (f : ℕ → Bool) → f Eof ≡ false → Reads g IsSpelling node.spell (λ s. test (f (kind g s)) (λ _. read (spelling g s) (next s)) (λ _. refused unexpected s))
+  word-gives : (f : ℕ → Bool) → f Eof ≡ false → ReadsNames g 10 IsSpelling node.spell (λ s. test (f (kind g s)) (λ _. read (spelling g s) (next s)) (λ _. refused unexpected s))
   word-gives f ok n lo s l a =
       gives-must (f (kind g s)) (refusal a tt) λ e _.
       let t = step c f ok s e a in
-      gives (record { is = spelled-by g c f ok s e; has = flat-has _ refl (told-here g c s) (omega arith) (t .at); whole = refl; rise = omega arith })
+      gives (record { is = spelled-by g c f ok s e; has = flat-has _ refl (told-here g c s) (omega arith) (t .at); whole = refl; rise = omega arith; light = omega arith })
 
-  name-gives : Reads g IsSpelling node.spell (name g)
+  name-gives : ReadsNames g 10 IsSpelling node.spell (name g)
   unfolding name
   name-gives = word-gives class.name refl
 
-  binding-gives : Reads g IsSpelling node.spell (bindingWord g)
+  binding-gives : ReadsNames g 10 IsSpelling node.spell (bindingWord g)
   unfolding bindingWord
   binding-gives = word-gives class.bindingWord refl
 
-  dots-give : (n lo least fuel : ℕ) (l : List Spelling) (s : State) → Got g (Enough IsSpelling least) node.listedNames 1 n lo l s
-      → Gives g (Got g (Enough IsSpelling least) node.listedNames 1 n lo) (dotsFrom g fuel l s)
+  dots-give : (m n lo least fuel : ℕ) (l : List Spelling) (s : State) → Got g (Enough IsSpelling least) node.listedNames 1 m n lo l s
+      → Gives g (Got g (Enough IsSpelling least) node.listedNames 1 m n lo) (dotsFrom g fuel l s)
   unfolding dotsFrom
-  dots-give n lo least zero l s h = stops tt (h .has .at .inside)
-  dots-give n lo least (suc fuel) l s h =
+  dots-give m n lo least zero l s h = stops tt (h .has .at .inside)
+  dots-give m n lo least (suc fuel) l s h =
       gives-mark c Dot refl s (h .has .at) (λ _ _. gives h) λ t _.
       gives-then (name-gives _ lo (next s) (omega arith) (t .at)) λ x q b.
       let all = l ++ (x ∷ []) in
-      dots-give n lo least fuel all q (record {
+      dots-give m n lo least fuel all q (record {
         is = enough-more (h .is) (b .is);
         has = flat-has (node.listedNames all) (names-size all) (told-names (g .text) l x (h .has .told) (b .has .told)) (has-le (b .has)) (counted (omega (arith, names-size l)) (b .has .at));
         whole = b .whole;
         rise = b .rise;
+        light = omega (arith, names-weight l x);
       })
 
-  dotted-gives : Reads g (Enough IsSpelling 1) node.listedNames (dotted g)
+  dotted-gives : ReadsNames g 8 (Enough IsSpelling 1) node.listedNames (dotted g)
   unfolding dotted
   dotted-gives n lo s l a =
       gives-then (name-gives n lo s l a) λ x q b.
-      dots-give n lo 1 (turns g) (x ∷ []) q (record {
+      dots-give _ n lo 1 (turns g) (x ∷ []) q (record {
         is = record { enough = omega arith; each = (b .is, tt) };
         has = flat-has _ refl (b .has .told, tt) (has-le (b .has)) (counted (omega arith) (b .has .at));
         whole = b .whole;
         rise = b .rise;
+        light = omega arith;
       })
 
   -- ---- Rules that read types
@@ -129,11 +133,11 @@ module _ (g : Given) (c : Checked g) where
     optional-gives : (k : ℕ) → eqb Eof k ≡ false → (on : Bool) → ReadsOn g (IfAny (Is type)) maybe (optional g k (T on))
     optional-gives k ok on n lo s w l a =
         gives-or c k ok s a
-        (λ t _.
-        gives-then (h on _ lo (next s) (omega arith) (t .at)) λ t q b.
-        gives (record { is = b .is .is; has = pick-has 1 (b .has); whole = b .whole; rise = omega arith }))
+        (λ u _.
+        gives-then (h on _ lo (next s) (omega arith) (u .at)) λ t q b.
+        gives (record { is = b .is .is; has = pick-has 1 (b .has); whole = b .whole; rise = omega arith; light = omega arith }))
         λ _ _.
-        gives (record { is = tt; has = flat-has (maybe absent) refl tt l a; whole = w; rise = omega arith })
+        gives (record { is = tt; has = flat-has (maybe absent) refl tt l a; whole = w; rise = omega arith; light = omega arith })
 
     -- ---- Arguments
 
@@ -152,7 +156,7 @@ module _ (g : Given) (c : Checked g) where
         by : (b : Bool) → stands g LAngle s ≡ b → Past g n s (test b (λ _. next s) (λ _. halved s))
         by true i =
             let t = step c (λ k. eqb k LAngle) refl s i a in
-            record { at = t .at; first-later = omega arith; end-later = omega arith }
+            record { at = t .at; first-later = omega arith; end-later = omega arith; worth-later = omega arith }
         by false i =
             record {
               at = record {
@@ -166,46 +170,47 @@ module _ (g : Given) (c : Checked g) where
               };
               first-later = omega (arith, whole);
               end-later = omega (arith, whole);
+              worth-later = omega arith;
             }
 
     args-give : ReadsOn g (IfAny (Enough (Is type) 0)) maybeList (arguments g T)
     unfolding arguments
     args-give n lo s w l a =
-        gives-test (not (opens g s)) (λ _ _. gives (record { is = tt; has = flat-has (maybeList absent) refl tt l a; whole = w; rise = omega arith })) λ e _.
+        gives-test (not (opens g s)) (λ _ _. gives (record { is = tt; has = flat-has (maybeList absent) refl tt l a; whole = w; rise = omega arith; light = omega arith })) λ e _.
         let o = opened-past s (not-false (opens g s) e) a in
         gives-then (list-gives RAngle refl (λ l. T true) (λ l. h true) n lo (opened g s) (omega arith) (o .at)) λ ts q b.
         reported-if (noEntry ts) _ q (read (present ts)) b λ p d.
-        gives (record { is = d .is; has = pick-has 1 (pick-has (length ts) (d .has)); whole = d .whole; rise = omega arith })
+        gives (record { is = d .is; has = pick-has 1 (pick-has (length ts) (d .has)); whole = d .whole; rise = omega arith; light = omega arith })
 
     named-gives : (tag : ℕ)
         → ((b e : ℕ) (l : List Spelling) (o : Opt (List Placed)) → IsNames 1 l → IfAny (IsList 0 type) o → Is type (tree tag b e (join (node.listedNames l) (maybeList o))))
-        → (n lo b : ℕ) (s : State) → lo ≤ b → b ≤ first g s → At g n s
-        → Gives g (Got g (Good type) itself 1 n lo) (named g T (λ b e l o. tree tag b e (join (node.listedNames l) (maybeList o))) b s)
+        → (m n lo b : ℕ) (s : State) → lo ≤ b → b ≤ first g s → m ≤ worth g s → At g n s
+        → Gives g (Got g (Good type) itself 1 m n lo) (named g T (λ b e l o. tree tag b e (join (node.listedNames l) (maybeList o))) b s)
     unfolding named
-    named-gives tag is n lo b s l m a =
-        gives-then (dotted-gives n b s m a) λ ns q x.
+    named-gives tag is m n lo b s l k v a =
+        gives-then (dotted-gives n b s k a) λ ns q x.
         gives-then (args-give _ (end g q) q (x .whole) (omega arith) (x .has .at)) λ o p y.
-        made _ (y .whole) (x .has & y .has) l (omega arith) λ few. is b _ ns o (names-are (x .is) (few .0)) (if-list-is type o (y .is) (few .1 .0))
+        made _ (y .whole) (x .has & y .has) l (omega arith) (omega arith) λ few. is b _ ns o (names-are (x .is) (few .0)) (if-list-is type o (y .is) (few .1 .0))
 
-    import-from : (isTypeof : Bool) {x : Spelling} → IsSpelling x → Told (g .text) (node.spell x) → (n lo b : ℕ) (s : State) → lo ≤ b → b < end g s → At g n s
-        → Gives g (Got g (Good type) itself 1 n lo) (importFrom g T b isTypeof x s)
+    import-from : (isTypeof : Bool) {x : Spelling} → IsSpelling x → Told (g .text) (node.spell x) → (m n lo b : ℕ) (s : State) → lo ≤ b → b < end g s → weightOf (node.spell x) + m ≤ worth g s → At g n s
+        → Gives g (Got g (Good type) itself 1 m n lo) (importFrom g T b isTypeof x s)
     unfolding importFrom
-    import-from isTypeof {x} i o n lo b s l m a =
+    import-from isTypeof {x} i o m n lo b s l k v a =
         gives-test (stands g Comma s) (refusal a tt) λ _ _.
         gives-mark c RParen refl s a (refusal a tt) λ t _.
-        gives-then (dots-give n b 0 (turns g) [] (next s) (record { is = no-entries; has = flat-has (node.listedNames []) refl tt (omega arith) (t .at); whole = refl; rise = omega arith })) λ ns q y.
+        gives-then (dots-give (worth g (next s)) n b 0 (turns g) [] (next s) (record { is = no-entries; has = flat-has (node.listedNames []) refl tt (omega arith) (t .at); whole = refl; rise = omega arith; light = omega arith })) λ ns q y.
         gives-then (args-give _ (end g q) q (y .whole) (omega arith) (y .has .at)) λ ts p z.
-        made _ (z .whole) (front-has (node.bit isTypeof) refl tt (front-has (node.spell x) refl o (y .has & z .has))) l (omega arith) λ few.
+        made _ (z .whole) (front-has (node.bit isTypeof) refl tt (front-has (node.spell x) refl o (y .has & z .has))) l (omega arith) (omega arith) λ few.
         makers.import-is b _ isTypeof ts i (names-are (y .is) (few .0)) (if-list-is type ts (z .is) (few .1 .0))
 
-    import-gives : (isTypeof : Bool) (n lo b : ℕ) (s : State) → lo ≤ b → b ≤ first g s → At g n s → Gives g (Got g (Good type) itself 1 n lo) (importType g T b isTypeof s)
+    import-gives : (isTypeof : Bool) (m n lo b : ℕ) (s : State) → lo ≤ b → b ≤ first g s → m ≤ worth g s → At g n s → Gives g (Got g (Good type) itself 1 m n lo) (importType g T b isTypeof s)
     unfolding importType
-    import-gives isTypeof n lo b s l m a =
+    import-gives isTypeof m n lo b s l k i a =
         gives-mark c Import refl s a (refusal a tt) λ t _.
         gives-mark c LParen refl (next s) (t .at) (refusal (t .at) tt) λ u _.
         gives-must (stands g Str (next (next s))) (refusal (u .at) tt) λ e _.
         let v = step c (λ k. eqb k Str) refl (next (next s)) e (u .at) in
-        import-from isTypeof (spelled-by g c (λ k. eqb k Str) refl (next (next s)) e) (told-here g c (next (next s))) n lo b _ l (omega arith) (v .at)
+        import-from isTypeof (spelled-by g c (λ k. eqb k Str) refl (next (next s)) e) (told-here g c (next (next s))) m n lo b _ l (omega arith) (omega arith) (v .at)
 
     -- ---- Type parameters
 
@@ -216,20 +221,20 @@ module _ (g : Given) (c : Checked g) where
         gives-then (binding-gives n (first g s) s (omega arith) a) λ x q y.
         gives-then (optional-gives Extends refl on _ (end g q) q (y .whole) (omega arith) (y .has .at)) λ t p z.
         gives-then (optional-gives Eq refl on _ (end g p) p (z .whole) (omega arith) (z .has .at)) λ d r w.
-        made [] (w .whole) (y .has & z .has & w .has) l (omega arith) λ _.
+        made [] (w .whole) (y .has & z .has & w .has) l (omega arith) (omega arith) λ _.
         makers.typeParameter-is (first g s) _ t d (y .is) (z .is) (w .is)
 
     -- They may be none where a half is left, and then it still is.
     type-parameters : (on : Bool) (n lo : ℕ) (s : State) → lo ≤ first g s → At g n s
-        → Gives g (λ (o : Opt (List Placed)) (q : State). IfAny (Enough (Is typeParam) 0) o × At g (n + sizeOf (maybeList o)) q × Spans lo (first g q) (maybeList o) × Told (g .text) (maybeList o)) (typeParameters g T on s)
+        → Gives g (λ (o : Opt (List Placed)) (q : State). IfAny (Enough (Is typeParam) 0) o × At g (n + sizeOf (maybeList o)) q × Spans lo (first g q) (maybeList o) × Told (g .text) (maybeList o) × (weightOf (maybeList o) + worth g s ≤ worth g q + 2)) (typeParameters g T on s)
     unfolding typeParameters
     type-parameters on n lo s l a =
-        gives-test (not (stands g LAngle s)) (λ _ _. gives (tt, counted (omega arith) a, spans-flat (maybeList absent) refl l, tt)) λ e _.
+        gives-test (not (stands g LAngle s)) (λ _ _. gives (tt, counted (omega arith) a, spans-flat (maybeList absent) refl l, tt, omega arith)) λ e _.
         let t = step c (λ k. eqb k LAngle) refl s (not-false (stands g LAngle s) e) a in
         gives-then (list-gives RAngle refl (λ l. typeParameter g T on) (λ l. type-parameter on) n lo (next s) (omega arith) (t .at)) λ ps q b.
         reported-if (noEntry ps) _ q (read (present ps)) b λ p d.
         let x = pick-has 1 (pick-has (length ps) (d .has)) in
-        gives (d .is, x .at, spans-up (x .spans) (x .at .order), x .told)
+        gives (d .is, x .at, spans-up (x .spans) (x .at .order), x .told, omega arith)
 
     -- ---- Function
 
@@ -248,41 +253,42 @@ module _ (g : Given) (c : Checked g) where
         gives-then (binding-gives n (first g s) (past g Dot3 s) (dots .first-later) (dots .at)) λ x q y.
         let asked = past-mark c Question refl q (y .has .at) in
         gives-then (optional-gives Colon refl true _ (end g q) (past g Question q) (past-whole g Question q (y .whole)) (asked .end-later) (asked .at)) λ t p z.
-        made [] (z .whole) (front-has (node.bit (stands g Dot3 s)) refl tt (y .has & front-has (node.bit (stands g Question q)) refl tt (z .has))) l (omega arith) λ _.
+        made [] (z .whole) (front-has (node.bit (stands g Dot3 s)) refl tt (y .has & front-has (node.bit (stands g Question q)) refl tt (z .has))) l (omega arith) (omega arith) λ _.
         makers.parameter-is (first g s) _ (stands g Dot3 s) (stands g Question q) t (y .is) (z .is)
 
     separated-gives : {A : Type 0} {P : A → State → Type 0} {n : ℕ} (isRest : Bool) (s : State) (close on : State → Result A) → At g n s
-        → ((q : State) → q .half ≡ 0 → At g n q → first g s < end g q → Gives g P (close q))
-        → ((q : State) → q .half ≡ 0 → At g n q → first g s < end g q → Gives g P (on q)) → Gives g P (separated g isRest s close on)
+        → (Step g n s → Gives g P (close (next s))) → (Step g n s → Gives g P (on (next s))) → Gives g P (separated g isRest s close on)
     separated-gives isRest s close on a x y =
         gives-test (stands g Eq s) (refusal a tt) λ _ _.
-        gives-or c RParen refl s a (λ t _. x (next s) refl (t .at) (t .rise)) λ _ _.
+        gives-or c RParen refl s a (λ t _. x t) λ _ _.
         gives-test (isRest and stands g Comma s) (refusal a tt) λ _ _.
-        gives-mark c Comma refl s a (refusal a tt) λ t _. y (next s) refl (t .at) (t .rise)
+        gives-mark c Comma refl s a (refusal a tt) λ t _. y t
 
     module _ (isNew : Bool) where
-      parameters-from : {n lo : ℕ} (this : Opt ThisParameter) → IfAny (IfAny (Is type)) (thisType this) → {from : State} → Has g n lo (shapeOfThis isNew this) from
+      parameters-from : {m n lo : ℕ} (this : Opt ThisParameter) → IfAny (IfAny (Is type)) (thisType this) → {from : State} → Has g n lo (shapeOfThis isNew this) from
           → (fuel : ℕ) (l : List Placed) (s : State) → Enough (Is param) 0 l → Has g (n + sizeOf (shapeOfThis isNew this)) (end g from) (entries l) s
-          → Gives g (Got g AreParameters (shapeOfParameters isNew) 1 n lo) (parametersFrom g T this fuel l s)
+          → weightOf (shapeOfParameters isNew (parametersOf this l)) + m ≤ worth g s + 8 → Gives g (Got g AreParameters (shapeOfParameters isNew) 1 m n lo) (parametersFrom g T this fuel l s)
       unfolding parametersFrom
-      parameters-from this t x zero l s e y = stops tt (y .at .inside)
-      parameters-from this t x (suc fuel) l s e y =
+      parameters-from this t x zero l s e y o = stops tt (y .at .inside)
+      parameters-from this t x (suc fuel) l s e y o =
           gives-or c RParen refl s (y .at)
-          (λ u _. gives (record { is = record { this-is = t; others = e }; has = x & has-next y u; whole = refl; rise = omega (arith, has-le x, has-le y) })) λ _ _.
+          (λ u _. gives (record { is = record { this-is = t; others = e }; has = x & has-next y u; whole = refl; rise = omega (arith, has-le x, has-le y); light = omega arith })) λ _ _.
           gives-test (modified g s) (refusal (y .at) tt) λ _ _.
           gives-test (stands g This s) (refusal (y .at) tt) λ _ _.
           gives-then (parameter-gives _ (end g s) s (y .at .order) (y .at)) λ p q b.
           let more = enough-more e (b .is .is) in
           let z = has-more l y (b .has) in
-          separated-gives (stands g Dot3 s) q (read (parametersOf this (l ++ (p ∷ [])))) _ (z .at)
-          (λ r w d u.
+          let sum = weight-more l p in
+          separated-gives (stands g Dot3 s) q (read (parametersOf this (l ++ (p ∷ [])))) (parametersFrom g T this fuel (l ++ (p ∷ []))) (z .at)
+          (λ u.
           gives (record {
             is = record { this-is = t; others = more };
-            has = x & has-on z d (omega arith);
-            whole = w;
+            has = x & has-next z u;
+            whole = refl;
             rise = omega (arith, has-le x, has-le z);
+            light = omega arith;
           }))
-          λ r w d u. parameters-from this t x fuel (l ++ (p ∷ [])) r more (has-on z d (omega arith))
+          λ u. parameters-from this t x fuel (l ++ (p ∷ [])) (next q) more (has-next z u) (omega arith)
 
       parameters-give : Reads g AreParameters (shapeOfParameters isNew) (parameters g T isNew)
       unfolding parameters thisFirst
@@ -293,18 +299,20 @@ module _ (g : Given) (c : Checked g) where
           gives-then (optional-gives Colon refl true _ lo (next (next s)) refl (omega arith) (u .at)) λ o q b.
           let this : ThisParameter = record { first = first g (next s); end = end g q; type = o } in
           let x = freed-has isNew this (next s) q (t .at) (b .has) in
-          separated-gives false (freed isNew (next s) q) (read (parametersOf (present this) [])) _ (x .at)
-          (λ r w d v.
+          let o = freed-light isNew this (next s) q in
+          separated-gives false (freed isNew (next s) q) (read (parametersOf (present this) [])) (parametersFrom g T (present this) (turns g) []) (x .at)
+          (λ v.
           gives (record {
             is = record { this-is = b .is; others = no-entries };
-            has = x & flat-has void refl tt (omega arith) d;
-            whole = w;
+            has = x & flat-has void refl tt (omega arith) (v .at);
+            whole = refl;
             rise = omega (arith, has-le x);
+            light = omega arith;
           }))
-          λ r w d v. parameters-from (present this) (b .is) x (turns g) [] r no-entries (flat-has void refl tt (omega arith) d))
+          λ v. parameters-from (present this) (b .is) x (turns g) [] _ no-entries (flat-has void refl tt (omega arith) (v .at)) (omega arith))
           λ _ _.
           let x = absent-has isNew (next s) (omega arith) (t .at) in
-          parameters-from absent tt x (turns g) [] (next s) no-entries (flat-has void refl tt (omega arith) (x .at))
+          parameters-from absent tt x (turns g) [] (next s) no-entries (flat-has void refl tt (omega arith) (x .at)) (omega (arith, absent-light isNew))
         where
           freed-has : (isNew : Bool) (p : ThisParameter) (s q : State) → At g n s → Has g n lo (maybe (p .type)) q → Has g n lo (shapeOfThis isNew (present p)) (freed isNew s q)
           freed-has true p s q a x =
@@ -317,6 +325,15 @@ module _ (g : Given) (c : Checked g) where
           absent-has true q l a = flat-has void refl tt l a
           absent-has false q l a = flat-has (maybeThis absent) refl tt l a
 
+          freed-light : (isNew : Bool) (p : ThisParameter) (s q : State)
+              → weightOf (shapeOfThis isNew (present p)) + worth g q ≤ weightOf (maybe (p .type)) + worth g (freed isNew s q) + 2
+          freed-light true p s q = omega arith
+          freed-light false p s q = omega arith
+
+          absent-light : (isNew : Bool) → weightOf (shapeOfThis isNew absent) ≤ 2
+          absent-light true = omega arith
+          absent-light false = omega arith
+
     return-gives : ReadsTree g type (returnType g T)
     unfolding returnType
     return-gives n lo s l a =
@@ -324,28 +341,28 @@ module _ (g : Given) (c : Checked g) where
         let p = both-true (class.name (kind g s)) _ (not-false (predicates g s) e) in
         let t = step c class.name refl s (p .0) a in
         let u = step c (λ k. eqb k IsWord) refl (next s) (both-true (eqb (kindAfter g 1 s) IsWord) _ (p .1) .0) (t .at) in
-        gives-then (h true n (first g s) (next (next s)) (omega arith) (u .at)) λ t q b.
-        made [] (b .whole) (pick-has 0 (front-has (node.subjectOf (subject g s)) (subject-size (subject g s)) (told-subject g c s) (pick-has 1 (b .has)))) l (omega arith) λ _.
+        gives-then (h true n (first g s) (next (next s)) (omega arith) (u .at)) λ r q b.
+        made [] (b .whole) (pick-has 0 (front-has (node.subjectOf (subject g s)) (subject-size (subject g s)) (told-subject g c s) (pick-has 1 (b .has)))) l (omega arith) (omega (arith, subject-weight g s)) λ _.
         makers.predicate-is (first g s) _ false (subject g s) (subject-is s (p .0)) (b .is .is)
 
-    function-node : {n lo m : ℕ} (b : ℕ) (isNew isAbstract : Bool) (ts : Opt (List Placed)) (ps : Parameters) (r : Placed) {p : State} (s : State) → lo ≤ b → b < end g s
-        → IfAny (Enough (Is typeParam) 0) ts → AreParameters ps → Spans b m (maybeList ts) → Told (g .text) (maybeList ts) → Has g (n + sizeOf (maybeList ts)) m (shapeOfParameters isNew ps) p
-        → Got g (Good type) itself 1 (n + sizeOf (maybeList ts) + sizeOf (shapeOfParameters isNew ps)) (end g p) r s
-        → Gives g (Got g (Good type) itself 1 n lo) (functionNode g T b isNew isAbstract ts ps r s)
+    function-node : {m k n lo e : ℕ} (b : ℕ) (isNew isAbstract : Bool) (ts : Opt (List Placed)) (ps : Parameters) (r : Placed) {p : State} (s : State) → lo ≤ b → b < end g s
+        → IfAny (Enough (Is typeParam) 0) ts → AreParameters ps → Spans b e (maybeList ts) → Told (g .text) (maybeList ts) → Has g (n + sizeOf (maybeList ts)) e (shapeOfParameters isNew ps) p
+        → Got g (Good type) itself 1 k (n + sizeOf (maybeList ts) + sizeOf (shapeOfParameters isNew ps)) (end g p) r s
+        → weightOf (maybeList ts) + weightOf (shapeOfParameters isNew ps) + m + 6 ≤ k → Gives g (Got g (Good type) itself 1 m n lo) (functionNode g T b isNew isAbstract ts ps r s)
     unfolding functionNode
-    function-node b false isAbstract ts ps r s l k is are x o y z =
-        made _ (z .whole) (join-has o x (regroup (length (ps .list)) y (z .has))) l k λ few.
+    function-node b false isAbstract ts ps r s l i is are x o y z d =
+        made _ (z .whole) (join-has o x (regroup (length (ps .list)) y (z .has))) l i (omega arith) λ few.
         makers.function-is b _ ts (thisType (ps .this)) (if-list-is typeParam ts is (few .0)) (are .this-is) (list-is (are .others) (few .1 .0)) (z .is .is)
-    function-node {n} {lo} b true isAbstract ts ps r {p} s l k is are x o y z = by (ps .this)
+    function-node {m} {k} {n} {lo} b true isAbstract ts ps r {p} s l i is are x o y z d = by (ps .this)
       where
-        last : (q : State) → Got g (Good type) itself 1 (n + sizeOf (maybeList ts) + sizeOf (shapeOfParameters true ps)) (end g p) r q
-            → Gives g (Got g (Good type) itself 1 n lo) (make g (count ts ∷ length (ps .list) ∷ []) (node.constructor b (end g q) isAbstract ts (ps .list) r) q)
+        last : (q : State) → Got g (Good type) itself 1 k (n + sizeOf (maybeList ts) + sizeOf (shapeOfParameters true ps)) (end g p) r q
+            → Gives g (Got g (Good type) itself 1 m n lo) (make g (count ts ∷ length (ps .list) ∷ []) (node.constructor b (end g q) isAbstract ts (ps .list) r) q)
         last q w =
-            made _ (w .whole) (front-has (node.bit isAbstract) refl tt (join-has o x (drop-void (regroup (length (ps .list)) y (w .has))))) l (omega (arith, spans-le x, has-le y)) λ few.
+            made _ (w .whole) (front-has (node.bit isAbstract) refl tt (join-has o x (drop-void (regroup (length (ps .list)) y (w .has))))) l (omega (arith, spans-le x, has-le y)) (omega arith) λ few.
             makers.constructor-is b _ isAbstract ts (if-list-is typeParam ts is (few .0)) (list-is (are .others) (few .1 .0)) (w .is .is)
 
         by : (o : Opt ThisParameter)
-            → Gives g (Got g (Good type) itself 1 n lo) (reportThis g o s λ q. make g (count ts ∷ length (ps .list) ∷ []) (node.constructor b (end g q) isAbstract ts (ps .list) r) q)
+            → Gives g (Got g (Good type) itself 1 m n lo) (reportThis g o s λ q. make g (count ts ∷ length (ps .list) ∷ []) (node.constructor b (end g q) isAbstract ts (ps .list) r) q)
         by absent = last s z
         by (present t) = reported _ s (λ q. make g (count ts ∷ length (ps .list) ∷ []) (node.constructor b (end g q) isAbstract ts (ps .list) r) q) z last
 
@@ -359,38 +376,38 @@ module _ (g : Given) (c : Checked g) where
         gives-then (parameters-give (stands g New p) _ (first g q) q (omega arith) (x .1)) λ ps r y.
         gives-mark c Arrow refl r (y .has .at) (refusal (y .has .at) tt) λ t _.
         gives-then (return-gives _ (end g r) (next r) (omega arith) (t .at)) λ u v z.
-        function-node (first g s) (stands g New p) (stands g Abstract s) ts ps u v l (omega (arith, spans-le (x .2))) (x .0) (y .is) (x .2) (x .3) (y .has) z
+        function-node (first g s) (stands g New p) (stands g Abstract s) ts ps u v l (omega (arith, spans-le (x .2))) (x .0) (y .is) (x .2) (x .3) (y .has) z (omega (arith, x .4))
 
     -- ---- Mapped
 
     modifier-gives : (k : ℕ) → eqb Eof k ≡ false → ReadsOn g (λ (m : ℕ). m < 4) node.number (modifier g k)
     unfolding modifier
     modifier-gives k ok n lo s w l a =
-        gives-or c k ok s a (λ t _. gives (record { is = omega arith; has = flat-has _ refl tt (omega arith) (t .at); whole = refl; rise = omega arith })) λ _ _.
-        gives-or c Plus refl s a (λ t _. signed (next s) (omega arith) (t .at) 2 (omega arith)) λ _ _.
-        gives-or c Minus refl s a (λ t _. signed (next s) (omega arith) (t .at) 3 (omega arith)) λ _ _.
-        gives (record { is = omega arith; has = flat-has _ refl tt l a; whole = w; rise = omega arith })
+        gives-or c k ok s a (λ t _. gives (record { is = omega arith; has = flat-has _ refl tt (omega arith) (t .at); whole = refl; rise = omega arith; light = omega arith })) λ _ _.
+        gives-or c Plus refl s a (λ t _. signed (next s) (omega arith) (omega arith) (t .at) 2 (omega arith)) λ _ _.
+        gives-or c Minus refl s a (λ t _. signed (next s) (omega arith) (omega arith) (t .at) 3 (omega arith)) λ _ _.
+        gives (record { is = omega arith; has = flat-has _ refl tt l a; whole = w; rise = omega arith; light = omega arith })
       where
-        signed : (q : State) → lo ≤ end g q → At g n q → (m : ℕ) → m < 4 → Gives g (Got g (λ (m : ℕ). m < 4) node.number 0 n lo) (expect g k q (read m))
-        signed q l a m i = gives-mark c k ok q a (refusal a tt) λ t _. gives (record { is = i; has = flat-has _ refl tt (omega arith) (t .at); whole = refl; rise = omega arith })
+        signed : (q : State) → lo ≤ end g q → worth g s ≤ worth g q → At g n q → (m : ℕ) → m < 4 → Gives g (Got g (λ (m : ℕ). m < 4) node.number 0 (worth g s) n lo) (expect g k q (read m))
+        signed q l v a m i = gives-mark c k ok q a (refusal a tt) λ t _. gives (record { is = i; has = flat-has _ refl tt (omega arith) (t .at); whole = refl; rise = omega arith; light = omega arith })
 
     mapped-gives : ReadsTree g type (mapped g T)
     unfolding mapped
     mapped-gives n lo s l a =
-        gives-mark c LCurly refl s a (refusal a tt) λ t _.
-        gives-then (modifier-gives Readonly refl n (first g s) (next s) refl (omega arith) (t .at)) λ readonly q b.
-        gives-mark c LBrack refl q (b .has .at) (refusal (b .has .at) tt) λ t _.
-        gives-then (binding-gives _ (end g q) (next q) (omega arith) (t .at)) λ key p d.
-        gives-mark c In refl p (d .has .at) (refusal (d .has .at) tt) λ t _.
-        gives-then (h true _ (end g p) (next p) (omega arith) (t .at)) λ x r e.
+        gives-mark c LCurly refl s a (refusal a tt) λ curly _.
+        gives-then (modifier-gives Readonly refl n (first g s) (next s) refl (omega arith) (curly .at)) λ readonly q b.
+        gives-mark c LBrack refl q (b .has .at) (refusal (b .has .at) tt) λ bracket _.
+        gives-then (binding-gives _ (end g q) (next q) (omega arith) (bracket .at)) λ key p d.
+        gives-mark c In refl p (d .has .at) (refusal (d .has .at) tt) λ word _.
+        gives-then (h true _ (end g p) (next p) (omega arith) (word .at)) λ x r e.
         gives-then (optional-gives As refl true _ (end g r) r (e .whole) (omega arith) (e .has .at)) λ m u f.
-        gives-mark c RBrack refl u (f .has .at) (refusal (f .has .at) tt) λ t _.
-        gives-then (modifier-gives Question refl _ (end g u) (next u) refl (omega arith) (t .at)) λ question v i.
+        gives-mark c RBrack refl u (f .has .at) (refusal (f .has .at) tt) λ closed _.
+        gives-then (modifier-gives Question refl _ (end g u) (next u) refl (omega arith) (closed .at)) λ question v i.
         gives-then (optional-gives Colon refl true _ (end g v) v (i .whole) (omega arith) (i .has .at)) λ o y j.
         let semicolon = past-mark c Semicolon refl y (j .has .at) in
         gives-mark c RCurly refl (past g Semicolon y) (semicolon .at) (refusal (semicolon .at) tt) λ t _.
         let all = b .has & d .has & e .has & f .has & i .has & j .has in
-        made [] refl (has-on all (counted (omega arith) (t .at)) (omega arith)) l (omega (arith, has-le all)) λ _.
+        made [] refl (has-on all (counted (omega arith) (t .at)) (omega arith)) l (omega (arith, has-le all)) (omega (arith, curly .more, b .light, bracket .more, d .light)) λ _.
         makers.mapped-is (first g s) _ readonly m question o (b .is) (d .is) (e .is .is) (f .is) (i .is) (j .is)
 
     -- ---- Tuple
@@ -398,14 +415,15 @@ module _ (g : Given) (c : Checked g) where
     element-has : {n lo : ℕ} (t : Placed) {q : State} → Has g n lo t q → Has g n lo (asElement t) q
     element-has t x = record { at = counted (omega (arith, element-size nodes (λ _ _ _. refl) t)) (x .at); spans = spans-element t (x .spans); told = told-element (g .text) t (x .told) }
 
-    member-node : {n lo : ℕ} (label stood : State) (question : Bool) (t : Placed) (q : State) → class.name (kind g label) ≡ true → lo ≤ first g label
-        → Got g (Good type) itself 1 n (first g label) t q → Gives g (Got g (λ (e : Placed). Good element e × Is underRest e) itself 1 n lo) (memberNode g T label stood question t q)
+    member-node : {m k n lo : ℕ} (label stood : State) (question : Bool) (t : Placed) (q : State) → class.name (kind g label) ≡ true → lo ≤ first g label
+        → Got g (Good type) itself 1 k n (first g label) t q → weightOf (node.spell (spelling g label)) + m + 4 ≤ k
+        → Gives g (Got g (λ (e : Placed). Good element e × Is underRest e) itself 1 m n lo) (memberNode g T label stood question t q)
     unfolding memberNode
-    member-node label stood question t q e l b =
+    member-node label stood question t q e l b d =
         let spelt = spelled-by g c class.name refl label e in
         let under = as-under-name t (b .is .is) in
         gives-then
-        (made-by [] 22 (b .whole) (front-has (node.spell (spelling g label)) refl (told-here g c label) (front-has (node.bit question) refl tt (element-has t (b .has)))) l (omega arith)
+        (made-by [] 22 (b .whole) (front-has (node.spell (spelling g label)) refl (told-here g c label) (front-has (node.bit question) refl tt (element-has t (b .has)))) l (omega arith) (omega (arith, element-size weight (λ _ _ _. refl) t))
         λ _ low. (record { is = makers.named-is (first g label) _ question spelt under; low = low }, makers.named-under-rest (first g label) _ question spelt under))
         λ x q d.
         reported-if (stands g Dot3 stood) _ q (λ q. reportIf (isAsked t) g (note askedAfterLabel (first g stood) (end g q)) q (read x)) d λ q d.
@@ -413,7 +431,7 @@ module _ (g : Given) (c : Checked g) where
         gives d
 
     member-gives : (n lo : ℕ) (s : State) → class.name (kind g s) ≡ true → lo ≤ first g s → At g n s
-        → Gives g (Got g (λ (e : Placed). Good element e × Is underRest e) itself 1 n lo) (member g T s)
+        → Gives g (Got g (λ (e : Placed). Good element e × Is underRest e) itself 1 (worth g s) n lo) (member g T s)
     unfolding member
     member-gives n lo s e l a =
         let t = step c class.name refl s e a in
@@ -423,7 +441,7 @@ module _ (g : Given) (c : Checked g) where
         let dots = past-mark c Dot3 refl p (u .at) in
         gives-then
         (h true n (first g s) (past g Dot3 p) (omega arith) (dots .at))
-        λ x q b. member-node s p (stands g Question (next s)) x q e l b
+        λ x q b. member-node s p (stands g Question (next s)) x q e l b (omega arith)
 
     labelled-gives : ReadsIf g (λ s. labelled g (past g Dot3 s)) element (labelledElement g T)
     unfolding labelledElement restOf
@@ -431,10 +449,10 @@ module _ (g : Given) (c : Checked g) where
         let dots = past-mark c Dot3 refl s a in
         gives-then (member-gives n (first g s) (past g Dot3 s) (both-true (class.name (kind g (past g Dot3 s))) _ e .0) (dots .first-later) (dots .at)) λ x q b.
         gives-test (stands g Dot3 s)
-        (λ _ _.
+        (λ i _.
         reported-if (stands g Question (next (next s))) _ q (λ q. make g [] (node.rest (first g s) (end g q) x) q) b λ q b.
-        made [] (b .whole) (b .has) l (omega arith) λ _. makers.rest-is (first g s) _ (b .is .1))
-        λ _ _. gives (record { is = b .is .0; has = has-down l (b .has); whole = b .whole; rise = omega arith })
+        made [] (b .whole) (b .has) l (omega arith) (omega (arith, past-more c Dot3 refl s i a)) λ _. makers.rest-is (first g s) _ (b .is .1))
+        λ _ _. gives (record { is = b .is .0; has = has-down l (b .has); whole = b .whole; rise = omega arith; light = omega arith })
 
     element-gives : ReadsTree g element (elementRule g T)
     unfolding elementRule
@@ -443,12 +461,13 @@ module _ (g : Given) (c : Checked g) where
         gives-test (labelled g (past g Dot3 s)) (λ e _. labelled-gives n lo s e l a) λ _ _.
         gives-then (h true n (first g s) (past g Dot3 s) (dots .first-later) (dots .at)) λ t q b.
         gives-test (stands g Dot3 s)
-        (λ _ _. made [] (b .whole) (b .has) l (omega arith) λ _. makers.rest-is (first g s) _ (makers.type-under-rest (b .is .is))) λ _ _.
+        (λ i _. made [] (b .whole) (b .has) l (omega arith) (omega (arith, past-more c Dot3 refl s i a)) λ _. makers.rest-is (first g s) _ (makers.type-under-rest (b .is .is))) λ _ _.
         gives (record {
           is = record { is = makers.asElement-is t (b .is .is); low = omega (arith, element-size height (λ _ _ _. refl) t) };
           has = element-has t (has-down l (b .has));
           whole = b .whole;
           rise = omega arith;
+          light = omega (arith, element-size weight (λ _ _ _. refl) t);
         })
 
     checked-gives : (l : List Placed) → ReadsTree g element (checkedElement g T l)
@@ -463,28 +482,33 @@ module _ (g : Given) (c : Checked g) where
     tuple-gives n lo s l a =
         gives-mark c LBrack refl s a (refusal a tt) λ t _.
         gives-then (list-gives RBrack refl (checkedElement g T) checked-gives n (first g s) (next s) (omega arith) (t .at)) λ es q b.
-        made _ (b .whole) (pick-has (length es) (b .has)) l (omega arith) λ few. makers.tuple-is (first g s) _ (list-is (b .is) (few .0))
+        made _ (b .whole) (pick-has (length es) (b .has)) l (omega arith) (omega arith) λ few. makers.tuple-is (first g s) _ (list-is (b .is) (few .0))
 
     -- ---- Template
 
-    pieces-from : (n lo fuel : ℕ) (l : List (Placed × Spelling)) (s : State) → Each IsPiece l → Has g n lo (entries (node.pieces l)) s
-        → Gives g (Got g (Each IsPiece) (λ (l : List (Placed × Spelling)). entries (node.pieces l)) 0 n lo) (piecesFrom g T fuel l s)
+    pieces-from : (m n lo fuel : ℕ) (l : List (Placed × Spelling)) (s : State) → Each IsPiece l → Has g n lo (entries (node.pieces l)) s
+        → weightOf (entries (node.pieces l)) + m ≤ worth g s
+        → Gives g (Got g (Each IsPiece) (λ (l : List (Placed × Spelling)). entries (node.pieces l)) 0 m n lo) (piecesFrom g T fuel l s)
     unfolding piecesFrom
-    pieces-from n lo zero l s e x = stops tt (x .at .inside)
-    pieces-from n lo (suc fuel) l s e x =
+    pieces-from m n lo zero l s e x o = stops tt (x .at .inside)
+    pieces-from m n lo (suc fuel) l s e x o =
         gives-then (h true _ (end g s) s (x .at .order) (x .at)) λ t q b.
         let p : Placed × Spelling = (t, spelling g q) in
+        let sum = heavier p in
         gives-test (stands g TemplateMiddle q)
         (λ i _.
         let u = step c (λ k. eqb k TemplateMiddle) refl q i (b .has .at) in
-        pieces-from n lo fuel (l ++ (p ∷ [])) (next q) (more p (b .is .is) (spelled-by g c (λ k. eqb k TemplateMiddle) refl q i)) (grown p (told-here g c q) x (b .has) u)) λ _ _.
+        pieces-from m n lo fuel (l ++ (p ∷ [])) (next q) (more p (b .is .is) (spelled-by g c (λ k. eqb k TemplateMiddle) refl q i)) (grown p (told-here g c q) x (b .has) u) (omega arith)) λ _ _.
         gives-must (stands g TemplateTail q) (refusal (b .has .at) tt) λ i _.
         let u = step c (λ k. eqb k TemplateTail) refl q i (b .has .at) in
         let y = grown p (told-here g c q) x (b .has) u in
-        gives (record { is = more p (b .is .is) (spelled-by g c (λ k. eqb k TemplateTail) refl q i); has = y; whole = refl; rise = omega (arith, has-le y) })
+        gives (record { is = more p (b .is .is) (spelled-by g c (λ k. eqb k TemplateTail) refl q i); has = y; whole = refl; rise = omega (arith, has-le y); light = omega arith })
       where
         more : (p : Placed × Spelling) → Is type (p .0) → IsSpelling (p .1) → Each IsPiece (l ++ (p ∷ []))
         more p i j = makers.each-more IsPiece l p e (record { type-is = i; spelling-is = j })
+
+        heavier : (p : Placed × Spelling) → weightOf (entries (node.pieces (l ++ (p ∷ [])))) ≡ weightOf (entries (node.pieces l)) + (weightOf (p .0) + (2 + length (p .1 .1)))
+        heavier p = rw pieces-more (weight-more (node.pieces l) (join (p .0) (node.spell (p .1))))
 
         grown : (p : Placed × Spelling) → Told (g .text) (node.spell (p .1)) → {q : State} → Has g n lo (entries (node.pieces l)) s → Has g (n + sizeOf (entries (node.pieces l))) (end g s) (p .0) q
             → Step g (n + sizeOf (entries (node.pieces l)) + sizeOf (p .0)) q → Has g n lo (entries (node.pieces (l ++ (p ∷ [])))) (next q)
@@ -497,24 +521,24 @@ module _ (g : Given) (c : Checked g) where
         let head : Has g n (first g s) (node.spell (spelling g s)) (next s) = flat-has _ refl (told-here g c s) (omega arith) (t .at) in
         let none : Has g (n + 0) (end g (next s)) void (next s) = flat-has void refl tt (omega arith) (head .at) in
         gives-then
-        (gives-test (stands g NoSubstitutionTemplate s) (λ _ _. gives (record { is = tt; has = none; whole = refl; rise = omega arith })) λ _ _.
-        pieces-from _ (end g (next s)) (turns g) [] (next s) tt none)
+        (gives-test (stands g NoSubstitutionTemplate s) (λ _ _. gives (record { is = tt; has = none; whole = refl; rise = omega arith; light = omega arith })) λ _ _.
+        pieces-from (worth g (next s)) _ (end g (next s)) (turns g) [] (next s) tt none (omega arith))
         λ ps q b.
-        made _ (b .whole) (pick-has (length ps) (head & b .has)) l (omega (arith, has-le (b .has))) λ few.
+        made _ (b .whole) (pick-has (length ps) (head & b .has)) l (omega (arith, has-le (b .has))) (omega arith) λ few.
         makers.template-is (first g s) _ ps (spelled-by g c (among (NoSubstitutionTemplate ∷ TemplateHead ∷ [])) refl s e) (few .0) (b .is)
 
     -- ---- Primary
 
-    keyword-gives : (n lo : ℕ) (s : State) → position (kind g s) keywords < 13 → lo ≤ first g s → Step g n s → Gives g (Got g (Good type) itself 1 n lo) (keyword g s)
+    keyword-gives : (n lo : ℕ) (s : State) → position (kind g s) keywords < 13 → lo ≤ first g s → Step g n s → Gives g (Got g (Good type) itself 1 (worth g s) n lo) (keyword g s)
     unfolding keyword
     keyword-gives n lo s e l t =
-        made [] refl (flat-has (node.number _) refl tt (omega arith) (t .at)) l (t .rise) λ _. makers.keyword-is (first g s) _ _ e
+        made [] refl (flat-has (node.number _) refl tt (omega arith) (t .at)) l (t .rise) (omega arith) λ _. makers.keyword-is (first g s) _ _ e
 
     literal-gives : ReadsIf g (λ s. among literals (kind g s)) type (literal g)
     unfolding literal
     literal-gives n lo s e l a =
         let t = step c (among literals) refl s e a in
-        made [] refl (flat-has _ (literal-size (kind g s) (spelling g s)) (told-literal g c s (kind g s)) (omega arith) (t .at)) l (t .rise) λ _.
+        made [] refl (flat-has _ (literal-size (kind g s) (spelling g s)) (told-literal g c s (kind g s)) (omega arith) (t .at)) l (t .rise) (omega (arith, literal-weight (kind g s) (spelling g s))) λ _.
         literal-fits (first g s) _ (kind g s) (spelled-by g c (among literals) refl s e) e
 
     negative-gives : ReadsIf g (isNegative g) type (negative g)
@@ -524,7 +548,7 @@ module _ (g : Given) (c : Checked g) where
         let t = step c (λ k. eqb k Minus) refl s (p .0) a in
         let u = step c (among (NumberLiteral ∷ BigIntLiteral ∷ [])) refl (next s) (p .1) (t .at) in
         let x = spelled-by g c (among (NumberLiteral ∷ BigIntLiteral ∷ [])) refl (next s) (p .1) in
-        made [] refl (flat-has _ refl (told-here g c (next s)) (omega arith) (u .at)) l (omega arith) λ _.
+        made [] refl (flat-has _ refl (told-here g c (next s)) (omega arith) (u .at)) l (omega arith) (omega arith) λ _.
         negative-fits (first g s) _ (kindAfter g 1 s) (record { some = x .some; few = x .few; bytes = x .bytes }) (p .1)
 
     this-gives : ReadsIf g (stands g This) type (this g T)
@@ -536,7 +560,7 @@ module _ (g : Given) (c : Checked g) where
         let is = both-true (onLine g (next s)) _ (not-false (onLine g (next s) and stands g IsWord (next s)) i) .1 in
         let u = step c (λ k. eqb k IsWord) refl (next s) is (t .at) in
         gives-then (h true n (first g s) (next (next s)) (omega arith) (u .at)) λ x q b.
-        made [] (b .whole) (pick-has 0 (front-has (node.subjectOf absent) refl tt (pick-has 1 (b .has)))) l (omega arith) λ _.
+        made [] (b .whole) (pick-has 0 (front-has (node.subjectOf absent) refl tt (pick-has 1 (b .has)))) l (omega arith) (omega arith) λ _.
         makers.predicate-is (first g s) _ false absent tt (b .is .is)
 
     assertion-gives : ReadsIf g (isAssertion g) type (assertion g T)
@@ -549,7 +573,7 @@ module _ (g : Given) (c : Checked g) where
         gives-then (optional-gives IsWord refl true n (end g (next (next s))) (next (next s)) refl (omega arith) (u .at)) λ x q b.
         let m : first g s < end g (next (next s)) = omega arith in
         let y = front-has (node.subjectOf (subject g (next s))) (subject-size (subject g (next s))) (told-subject g c (next s)) (has-down (omega arith) (b .has)) in
-        made [] (b .whole) (pick-has 1 y) l (omega arith) λ _.
+        made [] (b .whole) (pick-has 1 y) l (omega arith) (omega (arith, subject-weight g (next s))) λ _.
         asserted (first g s) _ (subject g (next s)) x (subject-is (next s) named) (b .is)
 
     query-gives : ReadsIf g (stands g Typeof) type (query g T)
@@ -557,8 +581,8 @@ module _ (g : Given) (c : Checked g) where
     query-gives n lo s e l a =
         let t = step c (λ k. eqb k Typeof) refl s e a in
         let m : first g s ≤ first g (next s) = omega arith in
-        gives-test (stands g Import (next s)) (λ _ _. import-gives true n lo (first g s) (next s) l m (t .at)) λ _ _.
-        named-gives 17 (λ b e l o. makers.typeof-is b e o) n lo (first g s) (next s) l m (t .at)
+        gives-test (stands g Import (next s)) (λ _ _. import-gives true (worth g s) n lo (first g s) (next s) l m (omega arith) (t .at)) λ _ _.
+        named-gives 17 (λ b e l o. makers.typeof-is b e o) (worth g s) n lo (first g s) (next s) l m (omega arith) (t .at)
 
     brackets-give : ReadsIf g (stands g LParen) type (brackets g T)
     unfolding brackets
@@ -567,8 +591,8 @@ module _ (g : Given) (c : Checked g) where
         gives-then (h true n (first g s) (next s) (omega arith) (t .at)) λ x q b.
         gives-mark c RParen refl q (b .has .at) (refusal (b .has .at) tt) λ u _.
         let y = has-next (b .has) u in
-        gives-test (g .parens) (λ _ _. made [] refl y l (omega arith) λ _. makers.parens-is (first g s) _ (b .is .is)) λ _ _.
-        gives (record { is = b .is; has = has-down l y; whole = refl; rise = omega arith })
+        gives-test (g .parens) (λ _ _. made [] refl y l (omega arith) (omega arith) λ _. makers.parens-is (first g s) _ (b .is .is)) λ _ _.
+        gives (record { is = b .is; has = has-down l y; whole = refl; rise = omega arith; light = omega arith })
 
     enclosed-gives : ReadsTree g type (enclosed g T)
     unfolding enclosed curly reference
@@ -577,7 +601,7 @@ module _ (g : Given) (c : Checked g) where
         gives-test (stands g LBrack s) (λ _ _. tuple-gives n lo s l a) λ _ _.
         gives-test (stands g LParen s) (λ e _. brackets-give n lo s e l a) λ _ _.
         gives-test (among (NoSubstitutionTemplate ∷ TemplateHead ∷ []) (kind g s)) (λ e _. template-gives n lo s e l a) λ _ _.
-        gives-test (class.bindingWord (kind g s)) (λ _ _. named-gives 1 (λ b e l o. makers.reference-is b e o) n lo (first g s) s l (omega arith) a) λ _ _.
+        gives-test (class.bindingWord (kind g s)) (λ _ _. named-gives 1 (λ b e l o. makers.reference-is b e o) (worth g s) n lo (first g s) s l (omega arith) (omega arith) a) λ _ _.
         gives-test (among (Question ∷ Bang ∷ Star ∷ []) (kind g s)) (refusal a tt) λ _ _. stops tt (a .inside)
 
     worded-gives : ReadsTree g type (worded g T)
@@ -585,7 +609,7 @@ module _ (g : Given) (c : Checked g) where
     worded-gives n lo s l a =
         gives-test (isAssertion g s) (λ e _. assertion-gives n lo s e l a) λ _ _.
         gives-test (stands g Typeof s) (λ e _. query-gives n lo s e l a) λ _ _.
-        gives-test (stands g Import s) (λ _ _. import-gives false n lo (first g s) s l (omega arith) a) λ _ _.
+        gives-test (stands g Import s) (λ _ _. import-gives false (worth g s) n lo (first g s) s l (omega arith) (omega arith) a) λ _ _.
         enclosed-gives n lo s l a
 
     primary-gives : ReadsTree g type (primary g T)
@@ -600,52 +624,49 @@ module _ (g : Given) (c : Checked g) where
 
     -- ---- Postfix
 
-    bracketed-gives : (n lo b : ℕ) (t : Placed) (s : State) → lo ≤ b → b < end g s → Is type t → Has g n b t s → Gives g (Got g (Good type) itself 1 n lo) (bracketed g T b t s)
+    bracketed-gives : (m n lo b : ℕ) (t : Placed) (s : State) → lo ≤ b → b < end g s → Is type t → Has g n b t s → weightOf t + m ≤ worth g s
+        → Gives g (Got g (Good type) itself 1 m n lo) (bracketed g T b t s)
     unfolding bracketed
-    bracketed-gives n lo b t s l m i x =
+    bracketed-gives m n lo b t s l k i x o =
         gives-test (not (starter (g .words) (s .at)))
-        (λ _ _. gives-mark c RBrack refl s (x .at) (refusal (x .at) tt) λ u _. made [] refl (has-next x u) l (omega arith) λ _. makers.array-is b _ i) λ _ _.
+        (λ _ _. gives-mark c RBrack refl s (x .at) (refusal (x .at) tt) λ u _. made [] refl (has-next x u) l (omega arith) (omega arith) λ _. makers.array-is b _ i) λ _ _.
         gives-then (h true _ (end g s) s (x .at .order) (x .at)) λ y q d.
         gives-mark c RBrack refl q (d .has .at) (refusal (d .has .at) tt) λ u _.
-        made [] refl (x & has-next (d .has) u) l (omega arith) λ _. makers.indexed-is b _ i (d .is .is)
+        made [] refl (x & has-next (d .has) u) l (omega arith) (omega arith) λ _. makers.indexed-is b _ i (d .is .is)
 
     suffix-gives : ReadsAbout g (suffixed g) (suffix g T)
     unfolding suffix
-    suffix-gives n lo b t s e l m i x =
+    suffix-gives m n lo b t s e l r i x o =
         let u = step c (λ k. eqb k Bang or (eqb k Question and not (starter (g .words) (s .at + 1))) or eqb k LBrack) refl s (both-true (onLine g s) _ e .1) (x .at) in
         let y = has-next x u in
         let k : b < end g (next s) = omega arith in
-        gives-test (stands g Bang s) (λ _ _. made [] refl y l k λ _. makers.nonNull-is b _ i) λ _ _.
-        gives-test (stands g Question s) (λ _ _. made [] refl y l k λ _. makers.asked-is b _ i) λ _ _.
-        bracketed-gives n lo b t (next s) l k i y
+        gives-test (stands g Bang s) (λ _ _. made [] refl y l k (omega arith) λ _. makers.nonNull-is b _ i) λ _ _.
+        gives-test (stands g Question s) (λ _ _. made [] refl y l k (omega arith) λ _. makers.asked-is b _ i) λ _ _.
+        bracketed-gives m n lo b t (next s) l k i y (omega arith)
 
-    postfix-from : (n b fuel : ℕ) (t : Placed) (s : State) → Got g (Good type) itself 1 n b t s → Gives g (Got g (Good type) itself 1 n b) (postfixFrom g T b fuel t s)
+    postfix-from : (m n b fuel : ℕ) (t : Placed) (s : State) → Got g (Good type) itself 1 m n b t s → Gives g (Got g (Good type) itself 1 m n b) (postfixFrom g T b fuel t s)
     unfolding postfixFrom
-    postfix-from n b zero t s x = stops tt (x .has .at .inside)
-    postfix-from n b (suc fuel) t s x =
+    postfix-from m n b zero t s x = stops tt (x .has .at .inside)
+    postfix-from m n b (suc fuel) t s x =
         gives-test (suffixed g s)
-        (λ e _. gives-then (suffix-gives n b b t s e (omega arith) (omega arith) (x .is .is) (x .has)) λ u q d. postfix-from n b fuel u q d) λ _ _. gives x
-
-    down : {n a b : ℕ} {r : Result Placed} → a ≤ b → Gives g (Got g (Good type) itself 1 n b) r → Gives g (Got g (Good type) itself 1 n a) r
-    down l (gives x) = gives (record { is = x .is; has = has-down l (x .has); whole = x .whole; rise = omega arith })
-    down l (stops e i) = stops e i
+        (λ e _. gives-then (suffix-gives m n b b t s e (omega arith) (omega arith) (x .is .is) (x .has) (x .light)) λ u q d. postfix-from m n b fuel u q d) λ _ _. gives x
 
     postfix-gives : ReadsTree g type (postfix g T)
     unfolding postfix
     postfix-gives n lo s l a =
         gives-then (primary-gives n (first g s) s (omega arith) a) λ t q b.
-        down l (postfix-from n (first g s) (turns g) t q b)
+        gives-down l (omega arith) (postfix-from (worth g s) n (first g s) (turns g) t q b)
 
     -- ---- Infer
 
     trial-gives : (on : Bool) → ReadsOn g (λ (t : Trial). IfAny (Is type) (constraintOf t)) (λ (t : Trial). maybe (constraintOf t)) (trial g T on)
     unfolding trial
     trial-gives on n lo s w l a =
-        gives-test (not (stands g Extends s)) (λ _ _. gives (record { is = tt; has = flat-has (maybe absent) refl tt l a; whole = w; rise = omega arith })) λ e _.
+        gives-test (not (stands g Extends s)) (λ _ _. gives (record { is = tt; has = flat-has (maybe absent) refl tt l a; whole = w; rise = omega arith; light = omega arith })) λ e _.
         let u = step c (λ k. eqb k Extends) refl s (not-false (stands g Extends s) e) a in
         gives-then (h false _ lo (next s) (omega arith) (u .at)) λ t q b.
-        gives-test (on and stands g Question q) (λ _ _. gives (record { is = tt; has = flat-has (maybe absent) refl tt l a; whole = w; rise = omega arith })) λ _ _.
-        gives (record { is = b .is .is; has = pick-has 1 (b .has); whole = b .whole; rise = omega arith })
+        gives-test (on and stands g Question q) (λ _ _. gives (record { is = tt; has = flat-has (maybe absent) refl tt l a; whole = w; rise = omega arith; light = omega arith })) λ _ _.
+        gives (record { is = b .is .is; has = pick-has 1 (b .has); whole = b .whole; rise = omega arith; light = omega arith })
 
     infer-gives : (on : Bool) → ReadsIf g (stands g Infer) type (infer g T on)
     unfolding infer
@@ -653,7 +674,7 @@ module _ (g : Given) (c : Checked g) where
         let u = step c (λ k. eqb k Infer) refl s e a in
         gives-then (binding-gives n (first g s) (next s) (omega arith) (u .at)) λ x q b.
         gives-then (trial-gives on _ (end g q) q (b .whole) (omega arith) (b .has .at)) λ t p d.
-        made [] (d .whole) (b .has & d .has) l (omega arith) λ _. makers.infer-is (first g s) _ (constraintOf t) (b .is) (d .is)
+        made [] (d .whole) (b .has & d .has) l (omega arith) (omega arith) λ _. makers.infer-is (first g s) _ (constraintOf t) (b .is) (d .is)
 
     -- ---- Operator
 
@@ -665,34 +686,43 @@ module _ (g : Given) (c : Checked g) where
         let isOne = not-false (among operators (kind g s)) e in
         let u = step c (among operators) refl s isOne a in
         gives-then (operator-from on fuel n (first g s) (next s) (omega arith) (u .at)) λ t q b.
-        made [] (b .whole) (front-has (node.number _) refl tt (b .has)) l (omega arith) λ _.
+        made [] (b .whole) (front-has (node.number _) refl tt (b .has)) l (omega arith) (omega arith) λ _.
         makers.operator-is (first g s) _ _ (among-each (λ (k : ℕ). position k operators < 3) operators (kind g s) (omega arith, (omega arith, (omega arith, tt))) isOne) (b .is .is)
 
     -- ---- Union, intersection
 
     module _ (mark : ℕ) (ok : eqb Eof mark ≡ false) (tag : ℕ) (part : State → Result Placed)
         (is : (b e : ℕ) (l : List Placed) → IsList 1 type l → Is type (tree tag b e (node.listed l))) (reads : ReadsTree g type part) where
-      parts-from : (n lo fuel : ℕ) (l : List Placed) (s : State) → Got g (Enough (Is type) 1) entries 1 n lo l s
-          → Gives g (Got g (Enough (Is type) 1) entries 1 n lo) (partsFrom g mark part fuel l s)
+      parts-from : (m n lo fuel : ℕ) (l : List Placed) (s : State) → Got g (Enough (Is type) 1) entries 1 m n lo l s
+          → (stands g mark s ≡ false → weightOf (entries l) + m + 2 ≤ worth g s) → Gives g (Got g (Enough (Is type) 1) entries 1 (m + 4) n lo) (partsFrom g mark part fuel l s)
       unfolding partsFrom
-      parts-from n lo zero l s x = stops tt (x .has .at .inside)
-      parts-from n lo (suc fuel) l s x =
-          gives-mark c mark ok s (x .has .at) (λ _ _. gives x) λ u _.
+      parts-from m n lo zero l s x o = stops tt (x .has .at .inside)
+      parts-from m n lo (suc fuel) l s x o =
+          gives-mark c mark ok s (x .has .at) (λ e _. gives (record { is = x .is; has = x .has; whole = x .whole; rise = x .rise; light = omega (arith, o e) })) λ u _.
           gives-then (reads _ (end g s) (next s) (omega arith) (u .at)) λ t q b.
-          parts-from n lo fuel (l ++ (t ∷ [])) q
-          (record { is = enough-more (x .is) (b .is .is); has = has-more l (x .has) (b .has); whole = b .whole; rise = omega arith })
+          let sum = weight-more l t in
+          parts-from m n lo fuel (l ++ (t ∷ [])) q
+          (record { is = enough-more (x .is) (b .is .is); has = has-more l (x .has) (b .has); whole = b .whole; rise = omega arith; light = omega arith })
+          λ _. omega arith
 
       joined-gives : ReadsTree g type (joined g mark (λ b e l. tree tag b e (node.listed l)) part)
       unfolding joined
       joined-gives n lo s l a =
           let leading = past-mark c mark ok s a in
           gives-then (reads n (first g s) (past g mark s) (leading .first-later) (leading .at)) λ t q b.
-          gives-test (not (stands g mark s or stands g mark q)) (λ _ _. gives (record { is = b .is; has = has-down l (b .has); whole = b .whole; rise = omega arith })) λ _ _.
+          gives-test (not (stands g mark s or stands g mark q)) (λ _ _. gives (record { is = b .is; has = has-down l (b .has); whole = b .whole; rise = omega arith; light = omega arith })) λ i _.
           gives-then
-          (parts-from n (first g s) (turns g) (t ∷ []) q
-          (record { is = record { enough = omega arith; each = (b .is .is, tt) }; has = b .has & flat-has void refl tt (omega arith) (b .has .at); whole = b .whole; rise = b .rise }))
+          (parts-from (worth g s) n (first g s) (turns g) (t ∷ []) q
+          (record {
+            is = record { enough = omega arith; each = (b .is .is, tt) };
+            has = b .has & flat-has void refl tt (omega arith) (b .has .at);
+            whole = b .whole;
+            rise = b .rise;
+            light = omega arith;
+          })
+          λ j. omega (arith, past-more c mark ok s (or-first (stands g mark s) (not-false _ i) j) a))
           λ ts p d.
-          made _ (d .whole) (pick-has (length ts) (d .has)) l (omega arith) λ few. is (first g s) _ ts (list-is (d .is) (few .0))
+          made _ (d .whole) (pick-has (length ts) (d .has)) l (omega arith) (omega arith) λ few. is (first g s) _ ts (list-is (d .is) (few .0))
 
     -- ---- Type
 
@@ -704,14 +734,14 @@ module _ (g : Given) (c : Checked g) where
 
     conditional-gives : ReadsAbout g (stands g Extends) (conditional g T)
     unfolding conditional
-    conditional-gives n lo b t s e l m i x =
+    conditional-gives m n lo b t s e l k i x o =
         let u = step c (λ k. eqb k Extends) refl s e (x .at) in
         gives-then (h false _ (end g s) (next s) (omega arith) (u .at)) λ y q d.
-        gives-mark c Question refl q (d .has .at) (refusal (d .has .at) tt) λ u _.
-        gives-then (h true _ (end g q) (next q) (omega arith) (u .at)) λ z p e.
-        gives-mark c Colon refl p (e .has .at) (refusal (e .has .at) tt) λ u _.
-        gives-then (h true _ (end g p) (next p) (omega arith) (u .at)) λ w r f.
-        made [] (f .whole) (x & d .has & e .has & f .has) l (omega arith) λ _. makers.conditional-is b _ i (d .is .is) (e .is .is) (f .is .is)
+        gives-mark c Question refl q (d .has .at) (refusal (d .has .at) tt) λ v _.
+        gives-then (h true _ (end g q) (next q) (omega arith) (v .at)) λ z p e.
+        gives-mark c Colon refl p (e .has .at) (refusal (e .has .at) tt) λ j _.
+        gives-then (h true _ (end g p) (next p) (omega arith) (j .at)) λ w r f.
+        made [] (f .whole) (x & d .has & e .has & f .has) l (omega arith) (omega arith) λ _. makers.conditional-is b _ i (d .is .is) (e .is .is) (f .is .is)
 
     type-gives : (on : Bool) → ReadsTree g type (typeRule g T on)
     unfolding typeRule unionOrConditional
@@ -719,8 +749,8 @@ module _ (g : Given) (c : Checked g) where
         gives-test (begins (functionStart (g .words) (s .at) (s .half))) (λ _ _. function-gives on n lo s l a) λ _ _.
         gives-then (union-gives on n (first g s) s (omega arith) a) λ t q b.
         gives-test (on and onLine g q and stands g Extends q)
-        (λ e _. conditional-gives n lo (first g s) t q (both-true (onLine g q) _ (both-true on _ e .1) .1) l (omega arith) (b .is .is) (b .has)) λ _ _.
-        gives (record { is = b .is; has = has-down l (b .has); whole = b .whole; rise = omega arith })
+        (λ e _. conditional-gives (worth g s) n lo (first g s) t q (both-true (onLine g q) _ (both-true on _ e .1) .1) l (omega arith) (b .is .is) (b .has) (b .light)) λ _ _.
+        gives (record { is = b .is; has = has-down l (b .has); whole = b .whole; rise = omega arith; light = omega arith })
 
 -- ---- All rules together
 
@@ -742,6 +772,6 @@ begin-at g c =
     }
 
 -- What a reading of a checked list reads.
-pub reading-gives : (g : Given) (c : Checked g) → Gives g (Got g (Good type) itself 1 0 0) (reading g (c .start))
+pub reading-gives : (g : Given) (c : Checked g) → Gives g (Got g (Good type) itself 1 0 0 0) (reading g (c .start))
 unfolding reading
-reading-gives g c = types-read g c mostOpen true 0 0 (begin (c .start)) (omega arith) (begin-at g c)
+reading-gives g c = gives-down (omega arith) (omega arith) (types-read g c mostOpen true 0 0 (begin (c .start)) (omega arith) (begin-at g c))

@@ -7,7 +7,7 @@ use Prim.Native.Nat.{ℕ, _/_, _^_, _≤_, _<_}
 use native.Mathlib.Omega.{arith}
 use lib.ListN.{length}
 use lib.Seq.{take-append-seam}
-use Rattle.words.specs.Limits.{tallest, mostNotes}
+use Rattle.words.specs.Limits.{tallest, mostNotes, mostKey}
 use Rattle.words.specs.Check.{sound, check}
 use Rattle.keys.specs.Limits.{recordWords}
 use Rattle.keys.specs.Table.{type}
@@ -22,9 +22,10 @@ use Rattle.rules.specs.Reading.{reading}
 use Rattle.rules.specs.Read.{granted, denied, Outcome, outcome, refuses, written, read}
 use Rattle.rules.specs.Places.{after, InOrder}
 use Rattle.rules.specs.Call.{Call, left, ruled, grants, keyLeft, Granted, Kept, AllZero, IsRefusal}
-use Rattle.rules.specs.TokenLaws.{Checked, taken-inside, text-few}
+use Rattle.rules.specs.TokenLaws.{Checked, taken-inside, text-few, words-few}
 use Rattle.rules.specs.FewLaws.{nodes-most}
 use Rattle.rules.specs.ToldLaws.{names-told}
+use Rattle.rules.specs.WeightLaws.{key-most}
 use Rattle.rules.specs.Gives.{Got, Good, itself}
 use Rattle.rules.specs.RuleLaws.{reading-gives}
 use Rattle.rules.specs.CallLaws.{gave, facts, ruled-by, filled-zero, kept-granted, kept-refused, call-refusal}
@@ -35,7 +36,7 @@ module _ (g : Given) (start : ℕ) {t : Placed} {s : State}
   abbrev givenChecked : Checked g
   givenChecked = record { bytes = bytes; start = start; sound = passed }
 
-  all : Got g (Good type) itself 1 0 0 t s
+  all : Got g (Good type) itself 1 0 0 0 t s
   all = gave (reading-gives g givenChecked) e
 
   -- The tree is a type of the node table: every list has at most 4,095 entries, every spelling 1 to 65,535 bytes.
@@ -88,6 +89,11 @@ module _ (g : Given) (start : ℕ) {t : Placed} {s : State}
   pub ends-whole : s .half ≡ 0
   ends-whole = all .whole
 
+  -- Its key keeps the limit of keys.
+  pub key-short : length (keyOf (bare t)) ≤ mostKey
+  key-short =
+      omega (arith, key-most tree-fits, all .light, ends-inside, taken-inside g givenChecked (s .at) ends-inside, text-few (g .text) (g .words) start passed, words-few (g .text) (g .words) start passed)
+
 -- ---- A granted call
 module _ {c : Call} {t : Placed} {s : State} (x : Granted c t s) where
   -- It leaves the rules' tree, its names, the diagnostics and its key, each with zeros behind it, and answers how much of each.
@@ -96,7 +102,9 @@ module _ {c : Call} {t : Placed} {s : State} (x : Granted c t s) where
 
   -- Its tree is one of the node table within the limits of heights and of keys.
   pub call-tree : IsTree (bare t)
-  call-tree = let f = facts x in record { fits = f .good .is .is .fits; tall = f .good .is .low; short = f .fit .short }
+  call-tree =
+      let f = facts x in
+      record { fits = f .good .is .is .fits; tall = f .good .is .low; short = key-short _ (c .start) (x .bytes) (f .passed) (x .rules) }
 
   -- Its nodes are numbers of 32 bits.
   pub call-few : nodes (bare t) < 2 ^ 32

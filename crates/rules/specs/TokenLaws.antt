@@ -27,6 +27,11 @@ pub both-true : (a b : Bool) → a and b ≡ true → (a ≡ true) × (b ≡ tru
 both-true true b e = (refl, e)
 both-true false b e = clash (cc)
 
+-- One of two holds, and it is not the second.
+pub or-first : (a : Bool) {b : Bool} → a or b ≡ true → b ≡ false → a ≡ true
+or-first true e i = refl
+or-first false e i = clash (cc)
+
 -- What holds of every number of a list holds of a number among them.
 pub among-each : (P : ℕ → Type 0) (l : List ℕ) (k : ℕ) → Each P l → among l k ≡ true → P k
 among-each P [] k h e = clash (cc)

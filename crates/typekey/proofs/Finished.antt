@@ -7,7 +7,6 @@ use native.Mathlib.Omega.{arith}
 use borrow.Author.Tests.{le-leb, lt-leb}
 use lib.Dec.{leb}
 use lib.ListN.{length, take}
-use Rattle.words.specs.Limits.{mostKey}
 use Rattle.words.specs.Test.{_and_}
 use Rattle.keys.specs.Form.{nodes}
 use Rattle.keys.specs.Limits.{recordWords}
@@ -69,34 +68,26 @@ module _ {X N M : List ℕ} {q : Mark} {t : Placed} (h : HeldIn X N M q t) where
   -- The names find no space.
   pub no-names : (c d : ℕ) → length M < q .named → fits (lend (length N) (length M) c d) t key ≡ false
   no-names c d l =
-      ap (λ (b : Bool). leb (length key) mostKey and (leb (length key) d and b)) (lt-leb (length (namesOf t)) (length M) (omega (arith, h .named-is)))
-      ∙ ap (λ (b : Bool). leb (length key) mostKey and b) (and-false (leb (length key) d)) ∙ and-false (leb (length key) mostKey)
+      ap (λ (b : Bool). leb (length key) d and b) (lt-leb (length (namesOf t)) (length M) (omega (arith, h .named-is))) ∙ and-false (leb (length key) d)
 
   module _ {root d n : ℕ} {K : List ℕ} (w : WroteIn N M X root d n K) (e : root + 1 ≡ q .used) (spaced : q .named ≤ length M) where
     size : n ≡ min (2 ^ 57) (length key)
     size = w .long t (stands spaced) (e ∙ h .used-is) (h .low)
 
-    -- The key passes its limit.
-    pub too-long : (c : ℕ) → mostKey < n → fits (lend (length N) (length M) c d) t key ≡ false
-    too-long c l = ap (λ (b : Bool). b and (leb (length key) d and leb (length (namesOf t)) (length M))) (lt-leb (length key) mostKey (omega (arith, size)))
-
-    -- It finds no space.
+    -- The key finds no space.
     pub no-bytes : (c : ℕ) → d < n → fits (lend (length N) (length M) c d) t key ≡ false
-    no-bytes c l =
-        ap (λ (b : Bool). leb (length key) mostKey and (b and leb (length (namesOf t)) (length M))) (lt-leb (length key) d (omega (arith, size)))
-        ∙ and-false (leb (length key) mostKey)
+    no-bytes c l = ap (λ (b : Bool). b and leb (length (namesOf t)) (length M)) (lt-leb (length key) d (omega (arith, size)))
 
     -- All fits.
-    pub finished : (c : ℕ) (O : List ℕ) {N' M' O' : List ℕ} → n ≤ mostKey → n ≤ d → N' ≡ filled (length N) (take (q .used * recordWords) N) → M' ≡ filled (length M) (take (q .named) M)
+    pub finished : (c : ℕ) (O : List ℕ) {N' M' O' : List ℕ} → n ≤ d → N' ≡ filled (length N) (take (q .used * recordWords) N) → M' ≡ filled (length M) (take (q .named) M)
         → O' ≡ filled c (noteWords (notesOf O (q .noted)))
         → seen (Read (record { nodes = q .used; names = q .named; notes = q .noted; key = n; at = q .at; half = q .half })) N' M' O' K
         ≡ written (lend (length N) (length M) c d) (withKey (lend (length N) (length M) c d) t (view q O))
-    finished c O short fit as-nodes as-names as-notes =
-        let long : n ≡ length key = omega (arith, size) in
+    finished c O fit as-nodes as-names as-notes =
+        let long : n ≡ length key = omega (arith, size, h .short) in
         rw (
-          le-leb (length key) mostKey (omega arith),
           le-leb (length key) d (omega arith),
           le-leb (length (namesOf t)) (length M) (omega (arith, h .named-is)),
         )
         (called-is (rw (h .used-is, h .named-is, length-notes O (q .noted), long) refl) (as-nodes ∙ ap (filled (length N)) (h .nodes-are)) (as-names ∙ ap (filled (length M)) (h .names-are spaced))
-        as-notes (w .is t (stands spaced) (e ∙ h .used-is) (h .low) (omega arith) (omega arith)))
+        as-notes (w .is t (stands spaced) (e ∙ h .used-is) (h .low) (h .short) (omega arith)))

@@ -21,7 +21,7 @@ use Rattle.rules.specs.Reading.{readType, reading}
 use Rattle.rules.specs.Read as rules
 use Rattle.rules.specs.Read.{Lent, lend, given, denied, withKey, Called, written}
 use Rattle.rules.specs.TokenLaws.{text-few, words-few, word-inside, word-sized}
-use Rattle.rules.specs.Theorems.{tree-fits, tree-low, nodes-used, nodes-few, notes-few, names-spelled}
+use Rattle.rules.specs.Theorems.{tree-fits, tree-low, nodes-used, nodes-few, notes-few, key-short, names-spelled}
 use Rattle.parts.specs.Marks.{noteAt, notingWords, notesOf, view, Sound, Spelt}
 use Rattle.parts.specs.Laid.{runIn, wasAt, Laid}
 use Rattle.parts.specs.LaidLaws.{length-notes}
@@ -74,6 +74,7 @@ module _ (text W : List ℕ) (start : ℕ) (parens : Bool) (l : Lent) (passed : 
           fits = tree-fits g start bytes passed is;
           low = tree-low g start bytes passed is;
           few = omega (arith, few-used, used);
+          short = key-short g start bytes passed is;
           used-is = used;
           named-is = named;
           nodes-are = ap (λ (n : ℕ). take n N') (let e : q .used * recordWords ≡ 4 * q .used = omega arith in e) ∙ d .nodes-are;

@@ -62,6 +62,7 @@ pub record HeldIn (X N M : List ℕ) (q : Mark) (t : Placed) : Type 0 where
   pub fits : Fits nodeTable type (bare t)
   pub low : height (bare t) ≤ tallest
   pub few : nodesIn (bare t) < 2 ^ 32
+  pub short : length (keyOf (bare t)) ≤ mostKey
   pub used-is : q .used ≡ nodesIn (bare t)
   pub named-is : q .named ≡ length (namesOf t)
   pub nodes-are : take (q .used * recordWords) N ≡ nodesOf t

@@ -79,7 +79,7 @@ fn no_space() -> Refused
     }
 }
 
-// The key of the type whose root is given, then zeros, if it keeps its limit and fits; its length.
+// The key of the type whose root is given, then zeros, if it fits; its length.
 fn put(nodes: &[u64], names: &[u64], text: &[u8], root: usize, key: &mut [u8]) -> usize
     requires { ⌜ root < 2 ^ 32 ⌝ }
     ensures { λ n. ⌜ Wrote nodes names text root key n ⌝ }
@@ -109,9 +109,6 @@ fn finish(
         return refuse(nodes, names, notes, key, no_space());
     }
     let n = put(nodes, names, text, q.used - 1, key);
-    if Key::MOST < n {
-        return refuse(nodes, names, notes, key, no_space());
-    }
     if key.len() < n {
         return refuse(nodes, names, notes, key, no_space());
     }

@@ -1,9 +1,9 @@
--- 11 where the names, the limit of keys or the bytes lent are too little; else the tree, its names and diagnostics, and the key.
+-- 11 where the names or the key find no space; else the tree, its names and diagnostics, and the key.
 use mathlib.Core.Path.{refl}
 use native.Mathlib.Omega.{arith}
 use lib.ListN.{length}
 use Rattle.parts.specs.Marks.{view}
-use Rattle.typekey.proofs.Finished.{same-key-lent, comes-none, no-names, too-long, no-bytes, finished}
+use Rattle.typekey.proofs.Finished.{same-key-lent, comes-none, no-names, no-bytes, finished}
 use borrow.Author.Needs.{needs}
 use Rattle.typekey.proofs.reading.finish.Statement.{statement}
 use Rattle.typekey.proofs.reading.finish.Tie as tie
@@ -27,12 +27,7 @@ same-length-4 : tie.Need-same-length-4
 same-length-4 c = search needs
 
 returns : tie.Need-returns
-returns c =
-    let args = c .before .before .before .before .before .before .before .before .before .before .before .before .before .before .before .before .before .before .before .before .before .before .args in
-    let if1 = c .before .before .before .before .before .before .before .before .before .before .before .before .before .before .if1 in
-    let no-space = c .before .before .before .before .before .before .before .before .before .no-space in
-    let refuse = c .before .before .before .before .before .before .before .before .refuse in
-    λ t h. comes-none t (view (args .q) (args .noting .now)) (no-space .ensures) (refuse .ensures) refl (no-names h (length (args .notes .now)) (length (args .key .now)) (if1 .taken))
+returns c = λ t h. comes-none t (view (@args .q) (@args .noting .now)) (@no-space .ensures) (@refuse .ensures) refl (no-names h (length (@args .notes .now)) (length (@args .key .now)) (@if1 .taken))
 
 sub-put : tie.Need-sub-put
 sub-put c = search needs
@@ -59,21 +54,19 @@ same-length-8 : tie.Need-same-length-8
 same-length-8 c = search needs
 
 returns-2 : tie.Need-returns-2
-returns-2 c =
-    let args = c .before .before .before .before .before .before .before .before .before .before .before .before .before .before .before .before .before .before .before .before .before .before .before .before .before .before .before .before .before .before .args in
-    let pre = c .before .before .before .before .before .before .before .before .before .before .before .before .before .before .before .before .before .before .before .before .before .before .before .before .before .before .before .before .before .before .pre in
-    let if1 = c .before .before .before .before .before .before .before .before .before .before .before .before .before .before .before .before .before .before .before .before .before .before .if1 in
-    let put = c .before .before .before .before .before .before .before .before .before .before .before .before .before .before .before .before .before .put in
-    let if2 = c .before .before .before .before .before .before .before .before .before .before .before .before .before .before .if2 in
-    let no-space2 = c .before .before .before .before .before .before .before .before .before .no-space2 in
-    let refuse2 = c .before .before .before .before .before .before .before .before .refuse2 in
-    λ t h. comes-none t (view (args .q) (args .noting .now)) (no-space2 .ensures) (refuse2 .ensures) (same-key-lent (put .kept .1 .1 .1 .1 .0)) (too-long h (put .ensures) (omega (arith, pre)) (omega (arith, if1 .left)) (length (args .notes .now)) (if2 .taken))
+returns-2 c = λ t h. comes-none t (view (@args .q) (@args .noting .now)) (@no-space2 .ensures) (@refuse2 .ensures) (same-key-lent (@put .kept .1 .1 .1 .1 .0)) (no-bytes h (@put .ensures) (omega (arith, @pre)) (omega (arith, @if1 .left)) (length (@args .notes .now)) (omega (arith, @if2 .taken, @put .kept)))
 
-no-space-requires-3 : tie.Need-no-space-requires-3
-no-space-requires-3 c κs = search needs
+mul-clear-words : tie.Need-mul-clear-words
+mul-clear-words c = search needs
 
-refuse-requires-3 : tie.Need-refuse-requires-3
-refuse-requires-3 c κs = search needs
+clear-words-requires : tie.Need-clear-words-requires
+clear-words-requires c κs = search needs
+
+clear-words-requires-2 : tie.Need-clear-words-requires-2
+clear-words-requires-2 c κs = search needs
+
+copy-notes-requires : tie.Need-copy-notes-requires
+copy-notes-requires c κs = search needs
 
 same-length-9 : tie.Need-same-length-9
 same-length-9 c = search needs
@@ -88,52 +81,7 @@ same-length-12 : tie.Need-same-length-12
 same-length-12 c = search needs
 
 returns-3 : tie.Need-returns-3
-returns-3 c =
-    let args = c .before .before .before .before .before .before .before .before .before .before .before .before .before .before .before .before .before .before .before .before .before .before .before .before .before .before .before .before .before .before .before .args in
-    let pre = c .before .before .before .before .before .before .before .before .before .before .before .before .before .before .before .before .before .before .before .before .before .before .before .before .before .before .before .before .before .before .before .pre in
-    let if1 = c .before .before .before .before .before .before .before .before .before .before .before .before .before .before .before .before .before .before .before .before .before .before .before .if1 in
-    let put = c .before .before .before .before .before .before .before .before .before .before .before .before .before .before .before .before .before .before .put in
-    let if3 = c .before .before .before .before .before .before .before .before .before .before .before .before .before .before .if3 in
-    let no-space3 = c .before .before .before .before .before .before .before .before .before .no-space3 in
-    let refuse3 = c .before .before .before .before .before .before .before .before .refuse3 in
-    λ t h. comes-none t (view (args .q) (args .noting .now)) (no-space3 .ensures) (refuse3 .ensures) (same-key-lent (put .kept .1 .1 .1 .1 .0)) (no-bytes h (put .ensures) (omega (arith, pre)) (omega (arith, if1 .left)) (length (args .notes .now)) (omega (arith, if3 .taken, put .kept)))
-
-mul-clear-words : tie.Need-mul-clear-words
-mul-clear-words c = search needs
-
-clear-words-requires : tie.Need-clear-words-requires
-clear-words-requires c κs = search needs
-
-clear-words-requires-2 : tie.Need-clear-words-requires-2
-clear-words-requires-2 c κs = search needs
-
-copy-notes-requires : tie.Need-copy-notes-requires
-copy-notes-requires c κs = search needs
-
-same-length-13 : tie.Need-same-length-13
-same-length-13 c = search needs
-
-same-length-14 : tie.Need-same-length-14
-same-length-14 c = search needs
-
-same-length-15 : tie.Need-same-length-15
-same-length-15 c = search needs
-
-same-length-16 : tie.Need-same-length-16
-same-length-16 c = search needs
-
-returns-4 : tie.Need-returns-4
-returns-4 c =
-    let pre = c .before .before .before .before .before .before .before .before .before .before .before .before .before .before .before .before .before .before .before .before .before .before .before .before .before .before .before .before .before .before .pre in
-    let args = c .before .before .before .before .before .before .before .before .before .before .before .before .before .before .before .before .before .before .before .before .before .before .before .before .before .before .before .before .before .before .args in
-    let if1 = c .before .before .before .before .before .before .before .before .before .before .before .before .before .before .before .before .before .before .before .before .before .before .if1 in
-    let put = c .before .before .before .before .before .before .before .before .before .before .before .before .before .before .before .before .before .put in
-    let if2 = c .before .before .before .before .before .before .before .before .before .before .before .before .before .before .if2 in
-    let if3 = c .before .before .before .before .before .before .before .before .before .before .before .before .before .if3 in
-    let clear-words = c .before .before .before .before .before .before .before .before .before .before .clear-words in
-    let clear-words2 = c .before .before .before .before .before .before .clear-words2 in
-    let copy-notes = c .before .before .copy-notes in
-    λ t h. finished h (put .ensures) (omega (arith, pre)) (omega (arith, if1 .left)) _ (args .noting .now) (omega (arith, if2 .left)) (omega (arith, if3 .left, put .kept)) (clear-words .ensures) (clear-words2 .ensures) (copy-notes .ensures)
+returns-3 c = λ t h. finished h (@put .ensures) (omega (arith, @pre)) (omega (arith, @if1 .left)) _ (@args .noting .now) (omega (arith, @if2 .left, @put .kept)) (@clear-words .ensures) (@clear-words2 .ensures) (@copy-notes .ensures)
 
 pub finish-spec : {M : Type 1} → statement M
 finish-spec =
@@ -155,19 +103,12 @@ finish-spec =
     same-length-7
     same-length-8
     returns-2
-    no-space-requires-3
-    refuse-requires-3
-    same-length-9
-    same-length-10
-    same-length-11
-    same-length-12
-    returns-3
     mul-clear-words
     clear-words-requires
     clear-words-requires-2
     copy-notes-requires
-    same-length-13
-    same-length-14
-    same-length-15
-    same-length-16
-    returns-4)
+    same-length-9
+    same-length-10
+    same-length-11
+    same-length-12
+    returns-3)
