@@ -27,7 +27,12 @@ same-length-4 : tie.Need-same-length-4
 same-length-4 c = search needs
 
 returns : tie.Need-returns
-returns c = λ t h. comes-none t (view (@args .q) (@args .noting .now)) (@no-space .ensures) (@refuse .ensures) refl (no-names h (length (@args .notes .now)) (length (@args .key .now)) (@if1 .taken))
+returns c =
+    let args = c .before .before .before .before .before .before .before .before .before .before .before .before .before .before .before .before .before .before .before .before .before .before .args in
+    let if1 = c .before .before .before .before .before .before .before .before .before .before .before .before .before .before .if1 in
+    let no-space = c .before .before .before .before .before .before .before .before .before .no-space in
+    let refuse = c .before .before .before .before .before .before .before .before .refuse in
+    λ t h. comes-none t (view (args .q) (args .noting .now)) (no-space .ensures) (refuse .ensures) refl (no-names h (length (args .notes .now)) (length (args .key .now)) (if1 .taken))
 
 sub-put : tie.Need-sub-put
 sub-put c = search needs
@@ -54,7 +59,15 @@ same-length-8 : tie.Need-same-length-8
 same-length-8 c = search needs
 
 returns-2 : tie.Need-returns-2
-returns-2 c = λ t h. comes-none t (view (@args .q) (@args .noting .now)) (@no-space2 .ensures) (@refuse2 .ensures) (same-key-lent (@put .kept .1 .1 .1 .1 .0)) (no-bytes h (@put .ensures) (omega (arith, @pre)) (omega (arith, @if1 .left)) (length (@args .notes .now)) (omega (arith, @if2 .taken, @put .kept)))
+returns-2 c =
+    let pre = c .before .before .before .before .before .before .before .before .before .before .before .before .before .before .before .before .before .before .before .before .before .before .before .before .before .before .before .before .before .before .pre in
+    let args = c .before .before .before .before .before .before .before .before .before .before .before .before .before .before .before .before .before .before .before .before .before .before .before .before .before .before .before .before .before .before .args in
+    let if1 = c .before .before .before .before .before .before .before .before .before .before .before .before .before .before .before .before .before .before .before .before .before .before .if1 in
+    let put = c .before .before .before .before .before .before .before .before .before .before .before .before .before .before .before .before .before .put in
+    let if2 = c .before .before .before .before .before .before .before .before .before .before .before .before .before .before .if2 in
+    let no-space2 = c .before .before .before .before .before .before .before .before .before .no-space2 in
+    let refuse2 = c .before .before .before .before .before .before .before .before .refuse2 in
+    λ t h. comes-none t (view (args .q) (args .noting .now)) (no-space2 .ensures) (refuse2 .ensures) (same-key-lent (put .kept .1 .1 .1 .1 .0)) (no-bytes h (put .ensures) (omega (arith, pre)) (omega (arith, if1 .left)) (length (args .notes .now)) (omega (arith, if2 .taken, put .kept)))
 
 mul-clear-words : tie.Need-mul-clear-words
 mul-clear-words c = search needs
@@ -81,7 +94,16 @@ same-length-12 : tie.Need-same-length-12
 same-length-12 c = search needs
 
 returns-3 : tie.Need-returns-3
-returns-3 c = λ t h. finished h (@put .ensures) (omega (arith, @pre)) (omega (arith, @if1 .left)) _ (@args .noting .now) (omega (arith, @if2 .left, @put .kept)) (@clear-words .ensures) (@clear-words2 .ensures) (@copy-notes .ensures)
+returns-3 c =
+    let pre = c .before .before .before .before .before .before .before .before .before .before .before .before .before .before .before .before .before .before .before .before .before .before .before .before .before .before .before .before .before .pre in
+    let args = c .before .before .before .before .before .before .before .before .before .before .before .before .before .before .before .before .before .before .before .before .before .before .before .before .before .before .before .before .before .args in
+    let if1 = c .before .before .before .before .before .before .before .before .before .before .before .before .before .before .before .before .before .before .before .before .before .if1 in
+    let put = c .before .before .before .before .before .before .before .before .before .before .before .before .before .before .before .before .put in
+    let if2 = c .before .before .before .before .before .before .before .before .before .before .before .before .before .if2 in
+    let clear-words = c .before .before .before .before .before .before .before .before .before .before .clear-words in
+    let clear-words2 = c .before .before .before .before .before .before .clear-words2 in
+    let copy-notes = c .before .before .copy-notes in
+    λ t h. finished h (put .ensures) (omega (arith, pre)) (omega (arith, if1 .left)) _ (args .noting .now) (omega (arith, if2 .left, put .kept)) (clear-words .ensures) (clear-words2 .ensures) (copy-notes .ensures)
 
 pub finish-spec : {M : Type 1} → statement M
 finish-spec =
