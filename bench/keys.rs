@@ -1,5 +1,5 @@
-//! Times taking a key back and writing a key, of the crate `keys`, beside a plain Rust version of the same two jobs, on the
-//! keys of some files.
+//! Times taking a key back and writing a key, of the crates `key_in` and `key_out`, beside a plain Rust version of the same
+//! two jobs, on the keys of some files.
 //!
 //!     keys FILE..
 //!

@@ -1,8 +1,9 @@
 #!/bin/sh
-# keys.sh [FOLDER]: times taking a key back and writing it, of crates/keys, beside a plain Rust version of both (keys.rs), on
-# the keys of the types in FOLDER's .d.ts files (the Debian package node-typescript has some: its folder is found where none
-# is given). It needs rt (and the clang of its kit), rustc, a C linker and python3, and leaves its files in target/bench/keys.
-# The wrapper that exports the two functions is made here, in a folder of its own, and is no part of the product.
+# keys.sh [FOLDER]: times taking a key back and writing it, of crates/key_in and crates/key_out, beside a plain Rust version
+# of both (keys.rs), on the keys of the types in FOLDER's .d.ts files (the Debian package node-typescript has some: its folder
+# is found where none is given). It needs rt (and the clang of its kit), rustc, a C linker and python3, and leaves its files
+# in target/bench/keys. The wrapper that exports the two functions is made here, in a folder of its own, and is no part of
+# the product.
 set -eu
 here=$(cd "$(dirname "$0")" && pwd -P)
 root=$(cd "$here/.." && pwd -P)
@@ -12,14 +13,17 @@ mkdir -p "$out"
 
 work=$(mktemp -d); trap 'rm -rf "$work"' EXIT
 mkdir -p "$work/crates/bench/src"
-cp -R "$root/crates/words" "$root/crates/keys" "$work/crates/"
-printf 'words:\nkeys: words\nbench: words keys\n' >"$work/crates.txt"
+for name in words keys fields node_table key_in key_out; do
+    cp -R "$root/crates/$name" "$work/crates/"
+    grep "^$name:" "$root/crates.txt" >>"$work/crates.txt"
+done
+echo 'bench: words keys fields node_table key_in key_out' >>"$work/crates.txt"
 cat >"$work/crates/bench/src/main.rt" <<'END'
-use keys::back::Answer;
+use key_in::back::Answer;
 
 // 1, then the nodes, names and bytes of text taken; or 0, then the refusal's number and place.
 fn keys_take(key: &[u8], nodes: &mut [u64], names: &mut [u64], text: &mut [u8], answer: &mut [u64]) {
-    match keys::back::take_back(key, nodes, names, text) {
+    match key_in::back::take_back(key, nodes, names, text) {
         Answer::Taken(a, b, c) => {
             answer[0] = 1;
             answer[1] = a as u64;
@@ -36,7 +40,7 @@ fn keys_take(key: &[u8], nodes: &mut [u64], names: &mut [u64], text: &mut [u8], 
 }
 
 fn keys_put(nodes: &[u64], names: &[u64], text: &[u8], root: usize, key: &mut [u8]) -> usize {
-    keys::out::put_key(nodes, names, text, root, words::limits::Tree::TALLEST, key)
+    key_out::out::put_key(nodes, names, text, root, words::limits::Tree::TALLEST, key)
 }
 
 fn main() {

@@ -1,5 +1,5 @@
 #!/usr/bin/env python3
-"""Runs the crate `keys` beside model.py on keys, sound and damaged, and compares each line.
+"""Runs the crates `key_in`, `key_out` and `visits` beside model.py on keys, sound and damaged, and compares each line.
 
     compare_keys.py [COUNT [SEED [BUILD]]]     COUNT keys (200000), SEED (1), BUILD (O3, or O0, or checked)
     compare_keys.py --stack [BUILD]            the least stack that taking back and writing a tree of height 256 takes

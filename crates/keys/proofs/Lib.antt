@@ -1,12 +1,1 @@
-pub mod Chunks
-pub mod Windows
 pub mod Cells
-pub mod Nevers
-pub mod Steps
-pub mod Spelling
-pub mod Walk
-pub mod Nodes
-pub mod Padding
-pub mod Lines
-pub mod Rows
-pub mod Whole

@@ -2,6 +2,7 @@
 use mathlib.Core.Path.{_≡_, refl, sym, ap, ap₂, _∙_, subst}
 use mathlib.Core.Bool.{Bool, true, false}
 use mathlib.Core.List.{List, [], _∷_, _++_, append-assoc}
+use mathlib.Core.Logic.{_⊎_, inl, inr, ⊎-elim}
 use Prim.Native.Nat.{ℕ, zero, suc, _+_, _-_, _*_, _/_, _%_, _^_, _≤_, _<_}
 use native.Mathlib.Nat.{pow-succ', mod-one, mul-add-mod-self-right, mod-lt, mod-eq-of-lt, add-mul-div-right, add-comm, zero-lt-suc, le-refl}
 use native.Mathlib.Omega.{arith}
@@ -15,6 +16,12 @@ use Rattle.keys.specs.Form.{Bytes}
 -- Two constructors are never equal, and cc says so by 0 ≡ 1.
 pub clash {ℓ} : {A : Type ℓ} → _≡_ {A = ℕ} 0 1 → A
 clash z = absurd (omega arith)
+
+-- One number is at most the other, or above it.
+pub le-or-lt : (a b : ℕ) → (a ≤ b) ⊎ (b < a)
+le-or-lt zero b = inl (omega arith)
+le-or-lt (suc a) zero = inr (omega arith)
+le-or-lt (suc a) (suc b) = ⊎-elim (λ p. inl (omega arith)) (λ q. inr (omega arith)) (le-or-lt a b)
 
 -- ---- One bit
 

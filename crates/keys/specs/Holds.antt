@@ -7,8 +7,7 @@ use Rattle.keys.specs.Form.{Fits, nodes, names}
 use Rattle.keys.specs.Table.{type}
 use Rattle.keys.specs.Placed.{Placed, bare}
 use Rattle.keys.specs.Key.{nodeTable}
-use Rattle.keys.specs.Store.{Run, done, chose, name, kid, called, nodesOf, namesOf, allPointed}
-use Rattle.keys.specs.Put.{part}
+use Rattle.keys.specs.Store.{Run, done, chose, name, kid, called, nodesOf, namesOf, allPointed, part}
 
 -- ---- Words
 

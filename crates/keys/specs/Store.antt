@@ -102,6 +102,10 @@ textOf (choice k v) = textOf v
 textOf (pair a b) = textOf a ++ textOf b
 textOf (node t v) = textOf v
 
+-- n bytes of a text.
+abbrev pub part : List ℕ → ℕ → ℕ → List ℕ
+part text start n = take n (drop start text)
+
 -- The bytes of a text at which a name's word points.
 abbrev pub pointed : List ℕ → ℕ → List ℕ
 pointed text w = take (w % 2 ^ 32) (drop (w / 2 ^ 32) text)

@@ -226,3 +226,11 @@ pub names-point : (G : Grammar) (f : Form) (v : Value) (post : List ℕ) → let
     → allPointed (textOf v ++ post) (namesIn (plant G f (laid v 0) done)) ≡ names v
 names-point G f v post h =
     ap (allPointed (textOf v ++ post)) (names-laid G f v 0 done ∙ append-nil (nameWords v 0)) ∙ pointed-all v [] post h
+
+-- ---- Cleared outputs
+
+-- Bytes that were cleared from the start are zeros.
+pub zeros : (l k : List ℕ) → l ≡ filled (length k) (take 0 k) → l ≡ replicate (length k) 0
+zeros l k e =
+    let q : length k - 0 ≡ length k = omega arith in
+    e ∙ ap (λ (x : ℕ). replicate x 0) q

@@ -1,11 +1,2 @@
-// The canonical key of a type: its bits, the node table, trees, what the store holds of them, key out and key in, the visits of a tree.
-pub mod back;
-pub mod forms;
-pub mod moves;
-pub mod out;
-pub mod put;
-pub mod refusal;
+// The canonical key of a type: its bits, the node table, trees, what the lent words hold of them, and what is proved of all that. The code is the store's alone.
 pub mod store;
-mod tables;
-pub mod take;
-pub mod visits;

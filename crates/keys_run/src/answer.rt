@@ -2,17 +2,17 @@
 ghost use mathlib.Core.Path.{_≡_};
 ghost use Prim.Native.Nat.{_*_, _^_, _<_, _≤_};
 ghost use lib.ListN.{length};
-ghost use Rattle.keys.specs.Put.{far};
+ghost use Rattle.fields.specs.Put.{far};
 use crate::record;
 use crate::sum;
-use keys::back::Answer;
-use keys::back::take_back;
-use keys::out::put_key;
-use keys::visits::walk;
+use key_in::back::Answer;
+use key_in::back::take_back;
+use key_out::out::put_key;
 use lines::line::bytes;
 use lines::line::next;
 use lines::sum::dirty_words;
 use lines::sum::of_words;
+use visits::visits::walk;
 use words::limits::Tree;
 
 // All of the lent nodes, names and text as one number.

@@ -1,4 +1,4 @@
-// Runs the crate `keys` on each record of the file that the first argument names, and prints a line for each.
+// Runs the crates `key_in`, `key_out` and `visits` on each record of the file that the first argument names, and prints a line for each.
 // A record: op (1 byte), the words lent for nodes and for names, the bytes lent for text and for the key written again,
 // the key's length (4 bytes each, lowest first), the key. A record that the file cuts short, or that is too large,
 // prints `cut`.

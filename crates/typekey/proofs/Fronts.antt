@@ -9,9 +9,9 @@ use Rattle.keys.specs.Limits.{tallest}
 use Rattle.keys.specs.Placed.{bare}
 use Rattle.keys.specs.Key.{keyOf}
 use Rattle.keys.specs.Store.{filled}
-use Rattle.keys.specs.Put.{far}
-use Rattle.keys.specs.Out.{fitted, Keyed}
-use Rattle.keys.specs.KeyedLaws.{fitted-whole}
+use Rattle.fields.specs.Put.{far, fitted}
+use Rattle.fields.specs.PutLaws.{fitted-whole}
+use Rattle.key_out.specs.Out.{Keyed}
 use Rattle.typekey.specs.Reading.{WroteIn}
 
 drop-copies : (m n : ℕ) → drop {A = ℕ} m (replicate n 0) ≡ replicate (n - m) 0

@@ -1,11 +1,11 @@
--- From the answer of the crate `keys` to what a caller sees.
+-- From the answer of the crate `key_in` to what a caller sees.
 use mathlib.Core.Path.{_≡_, refl, sym, ap, _∙_}
 use mathlib.Core.List.{List}
 use Prim.Native.Nat.{ℕ}
 use Rattle.keys.specs.Store.{TakenBack}
-use Rattle.keys.specs.Back.{told, Answers}
-use Rattle.keys.specs.declared.back.Answer.{Answer}
-use Rattle.keys.specs.declared.back.Answer.the-variants.{Taken, Refused}
+use Rattle.key_in.specs.Back.{told, Answers}
+use Rattle.key_in.specs.declared.back.Answer.{Answer}
+use Rattle.key_in.specs.declared.back.Answer.the-variants.{Taken, Refused}
 use Rattle.typekey.specs.Taking.{seen}
 use Rattle.typekey.specs.declared.taking.Taking.the-variants as taking
 

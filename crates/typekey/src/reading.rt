@@ -8,7 +8,7 @@ ghost use Rattle.keys.specs.Placed.{Placed};
 ghost use Rattle.rules.specs.Notes.{noteWidth};
 ghost use Rattle.parts.specs.Marks.{noteAt, notingWords};
 ghost use Rattle.typekey.specs.Reading.{Reads, Refuses, NoSpace, Held, Finishes, Wrote};
-use keys::out::put_key;
+use key_out::out::put_key;
 use keys::store;
 use keys::store::clear_bytes;
 use keys::store::clear_words;

@@ -1,6 +1,6 @@
 // The call that takes a key back: any bytes and lent slices; the key's tree, names and spellings, or a refusal and zeros.
 ghost use Rattle.typekey.specs.Taking.{TakesBack};
-use keys::back::Answer;
+use key_in::back::Answer;
 
 // What the call answers.
 pub enum Taking {
@@ -25,7 +25,7 @@ pub struct NotTaken {
 pub fn take_back(key: &[u8], nodes: &mut [u64], names: &mut [u64], text: &mut [u8]) -> Taking
     ensures { λ r. ⌜ TakesBack key nodes names text r ⌝ }
 {
-    let answer = keys::back::take_back(key, nodes, names, text);
+    let answer = key_in::back::take_back(key, nodes, names, text);
     match answer {
         Answer::Taken(nodes, names, letters) => {
             let u = Used {

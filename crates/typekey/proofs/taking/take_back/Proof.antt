@@ -1,4 +1,4 @@
--- The answer of the crate `keys`, in other words.
+-- The answer of the crate `key_in`, in other words.
 use Rattle.typekey.proofs.Taken.{seen-taken, seen-refused}
 use borrow.Author.Needs.{needs}
 use Rattle.typekey.proofs.taking.take_back.Statement.{statement}

@@ -1,0 +1,9 @@
+pub mod Nevers
+pub mod Steps
+pub mod Spelling
+pub mod Walk
+pub mod Nodes
+pub mod Padding
+pub mod Lines
+pub mod Rows
+pub mod Whole

@@ -1,0 +1,272 @@
+-- What each function that takes a key back answers, and what it leaves in the outputs (01, The two calls; Refusal numbers).
+use mathlib.Core.Path.{_≡_}
+use mathlib.Core.Bool.{Bool}
+use mathlib.Core.List.{List, [], _∷_, _++_}
+use Prim.Native.Nat.{ℕ, _+_, _-_, _*_, _%_, _^_, _≤_, _<_}
+use lib.Dec.{eqb}
+use lib.ListN.{length, take, drop}
+use Rattle.keys.specs.Bits.{Bits}
+use Rattle.keys.specs.Form.{Value, spelt, nodes, names, letters, Form, never, one, word, choose, both, child, Grammar, State, state, Result, got, stop, takeSpelling}
+use Rattle.keys.specs.Limits.{badKey, noSpace, widest}
+use Rattle.keys.specs.Placed.{laid}
+use Rattle.keys.specs.Key.{padding, taken, refused, placeOf, takeKey}
+use Rattle.keys.specs.Store.{Run, done, chose, name, kid, under, called, packed, firstKid, records, nameOf, namesIn, nodesOf, namesOf, textOf, TakenBack}
+use Rattle.keys.specs.Store as store
+use Rattle.keys.specs.StoreLaws.{_⊕_, span}
+use Rattle.keys.specs.Words.{firstNodes, firstNames}
+use Rattle.keys.specs.Stored.{Base, base, Stored, Own}
+use Rattle.node_table.specs.Forms.{formOf, formBy, leads, entryAt, classAt, grammarOf, entryOf, spellingsThen, nodesThen, spellingIf, Narrow}
+use Rattle.node_table.specs.declared.forms.Row.{Row}
+use Rattle.key_in.specs.Runs.{Ran, ran, halt, after, choiceRun, formRun, nodeRun}
+use Rattle.key_in.specs.declared.back.Pos.{Pos}
+use Rattle.key_in.specs.declared.back.Fill.{Fill}
+use Rattle.key_in.specs.declared.back.Pick.{Pick}
+use Rattle.key_in.specs.declared.back.Answer.{Answer}
+use Rattle.key_in.specs.declared.back.Answer.the-variants.{Taken, Refused}
+
+-- ---- Where taking is
+
+-- What is left at a place, of bits, names and text of these lengths.
+abbrev pub stateAt : Bits → (lm lx : ℕ) → Pos → State
+stateAt bs lm lx p = state (p .nodes) (lm - p .names) (lx - p .chars) (drop (p .bit) bs)
+
+-- A place inside the key, the names and the text.
+pub record Inside (bs : Bits) (lm lx : ℕ) (p : Pos) : Type 0 where
+  pub in-key : p .bit ≤ length bs
+  pub in-names : p .names ≤ lm
+  pub in-text : p .chars ≤ lx
+  pub few-names : p .names ≤ p .chars
+  pub few-chars : p .chars * 8 ≤ p .bit
+
+-- A place inside a node: its choices fit their word, its numbers the table.
+pub record Steady (bs : Bits) (lm lx : ℕ) (s : Fill) : Type 0 where
+  pub ok : s .at .why ≡ 0
+  pub inside : Inside bs lm lx (s .at)
+  pub small : s .word < 2 ^ s .shift
+  pub narrow : s .shift ≤ 60
+  pub in-table : s .form < 2 ^ 32
+  pub few : s .n < 2 ^ 32
+
+-- The same of its nodes, of which there are ln words: one is kept for the node itself.
+pub record Housed (ln : ℕ) (s : Fill) : Type 0 where
+  pub above : s .base ≤ s .at .used
+  pub nodes-fit : (s .at .used + s .at .nodes + 1) * 4 ≤ ln
+  pub in-nodes : s .child * 4 ≤ ln
+
+-- How many bits the choices of a form in line have: at most n.
+abbrev pub Spans : Form → ℕ → Type 0
+Spans never n = Unit {0}
+Spans one n = Unit {0}
+Spans (word w) n = Unit {0}
+Spans (choose w fs) n = (w ≤ n) × ((k : ℕ) → Spans (fs k) (n - w))
+Spans (both f g) n = Spans g n
+Spans (child c) n = Unit {0}
+
+-- The table's choices fit: each in 24 bits, all of a node's in 60.
+pub record Slim (T : List ℕ) : Type 0 where
+  pub narrow : Narrow T
+  pub rows : (c t : ℕ) → Spans (grammarOf T .row c t) (60 - classAt T c .w)
+
+-- What a row that was read has: widths to 24 bits, numbers that fit the table.
+pub record Sized (r : Row) : Type 0 where
+  pub w : r .w ≤ widest
+  pub a : r .a < 2 ^ 32
+  pub b : r .b < 2 ^ 32
+
+-- A place that is refused.
+abbrev pub refusedAt : (why bit : ℕ) → Pos
+refusedAt why bit = record { why = why; bit = bit; nodes = 0; used = 0; names = 0; chars = 0 }
+
+-- The walk of a node at another place.
+abbrev pub movedTo : Fill → Pos → Fill
+movedTo s p = record { at = p; base = s .base; word = s .word; shift = s .shift; child = s .child; form = s .form; n = s .n }
+
+-- The walk at another place, with another first child.
+abbrev pub withChild : Fill → Pos → ℕ → Fill
+withChild s p x = record { at = p; base = s .base; word = s .word; shift = s .shift; child = x; form = s .form; n = s .n }
+
+-- The walk at another place, with another form to come.
+abbrev pub onward : Fill → Pos → (form n : ℕ) → Fill
+onward s p f n = record { at = p; base = s .base; word = s .word; shift = s .shift; child = s .child; form = f; n = n }
+
+-- A place further on in the key.
+abbrev pub atBit : Pos → ℕ → Pos
+atBit p bit = record { why = 0; bit = bit; nodes = p .nodes; used = p .used; names = p .names; chars = p .chars }
+
+-- No choice, at a bit.
+abbrev pub unpicked : ℕ → Pick
+unpicked bit = record { why = badKey; bit = bit; number = 0; form = 0; n = 0 }
+
+-- The walk after a choice of w bits: its number stands above those before it.
+abbrev pub chosen : Fill → Pick → ℕ → Fill
+chosen s c w =
+    record {
+      at = atBit (s .at) (c .bit);
+      base = s .base;
+      word = s .word + 2 ^ s .shift * c .number;
+      shift = s .shift + w;
+      child = s .child;
+      form = c .form;
+      n = c .n;
+    }
+
+-- ---- Names alone
+
+-- From p to q names were stored, which are the run u: nothing but names and text has changed.
+pub record Named (bs : Bits) (lm lx : ℕ) (p : Pos) (M X : List ℕ) (q : Pos) (M' X' : List ℕ) (u : Run) : Type 0 where
+  pub ok : q .why ≡ 0
+  pub inside : Inside bs lm lx q
+  pub used : q .used ≡ p .used
+  pub nodes : q .nodes ≡ p .nodes
+  pub stored : (B : Base) (t : Run) (N : List ℕ) → Stored B t N M X (p .used) (p .names) (p .chars) → Stored B (t ⊕ u) N M' X' (q .used) (q .names) (q .chars)
+  pub own : (B : Base) (t : Run) (a b c : ℕ) → Own B t a b c → Own B (t ⊕ u) a b c
+
+-- Some form at p is the form g at q with a run of names before it; or it is refused as q says.
+pub record NamesIn (bs : Bits) (lm lx : ℕ) (f g : Form) (p : Pos) (M X : List ℕ) (q : Pos) (M' X' : List ℕ) : Type 0 where
+  pub names-same : length M' ≡ length M
+  pub text-same : length X' ≡ length X
+  pub in-key : q .bit ≤ length bs
+  pub stopped : (q .why ≡ 0 → ⊥) → (Y : ℕ → State → Ran) → formRun lx Y f (stateAt bs lm lx p) ≡ halt (q .why) (length bs - q .bit)
+  pub run : Run
+  pub went : q .why ≡ 0 → (Y : ℕ → State → Ran) → formRun lx Y f (stateAt bs lm lx p) ≡ after run (formRun lx Y g (stateAt bs lm lx q))
+  pub left : q .why ≡ 0 → Named bs lm lx p M X q M' X' run
+
+-- A spelling, and then any form.
+abbrev pub SpellingIn : (bs : Bits) (lm lx w : ℕ) (p : Pos) (M X : List ℕ) (q : Pos) (M' X' : List ℕ) → Type 0
+SpellingIn bs lm lx w p M X q M' X' = (g : Form) → NamesIn bs lm lx (both (word w) g) g p M X q M' X'
+
+-- n spellings, and then any form.
+abbrev pub SpellingsIn : (bs : Bits) (lm lx w n : ℕ) (p : Pos) (M X : List ℕ) (q : Pos) (M' X' : List ℕ) → Type 0
+SpellingsIn bs lm lx w n p M X q M' X' = (g : Form) → NamesIn bs lm lx (spellingsThen n w g) g p M X q M' X'
+
+-- ---- Choices
+
+-- A choice among forms: refused with 10 at its bit, or its number, the bit after it and the form that it leads to.
+pub record Picked (bs : Bits) (T : List ℕ) (steps w : ℕ) (fs : ℕ → Form) (bit : ℕ) (c : Pick) : Type 0 where
+  pub stopped : (c .why ≡ 0 → ⊥) → (n k m : ℕ) (K : ℕ → Bits → Ran) → choiceRun w fs (state n k m (drop bit bs)) K ≡ halt badKey (length bs - bit)
+  pub went : c .why ≡ 0 → (n k m : ℕ) (K : ℕ → Bits → Ran) → choiceRun w fs (state n k m (drop bit bs)) K ≡ K (c .number) (drop (c .bit) bs)
+  pub small : c .why ≡ 0 → c .number < 2 ^ w
+  pub next : c .why ≡ 0 → c .bit ≡ bit + w
+  pub inside : c .bit ≤ length bs
+  pub to : c .why ≡ 0 → fs (c .number) ≡ formOf T steps (c .n) (c .form)
+  pub in-table : c .form < 2 ^ 32
+  pub few : c .n < 2 ^ 32
+
+-- ---- Steps inside a node
+
+-- From s to s' the node was filled with the run u, and the form f became f'.
+pub record Went (bs : Bits) (lm lx : ℕ) (Y : ℕ → State → Ran) (f f' : Form) (s : Fill) (N M X : List ℕ) (s' : Fill) (N' M' X' : List ℕ) : Type 0 where
+  pub steady : Steady bs lm lx s'
+  pub housed : Housed (length N) s → Housed (length N') s'
+  pub spans : Spans f' (60 - s' .shift)
+  pub base-same : s' .base ≡ s .base
+  pub total : s' .at .used + s' .at .nodes ≡ s .at .used + s .at .nodes
+  pub nodes-same : length N' ≡ length N
+  pub names-same : length M' ≡ length M
+  pub text-same : length X' ≡ length X
+  pub run : Run
+  pub same : formRun lx Y f (stateAt bs lm lx (s .at)) ≡ after run (formRun lx Y f' (stateAt bs lm lx (s' .at)))
+  pub fill : (B : Base) (t : Run) → B .used ≡ s .base → Stored B t N M X (s .at .used) (s .at .names) (s .at .chars) → Own B t (s .word) (s .shift) (s .child)
+      → Stored B (t ⊕ run) N' M' X' (s' .at .used) (s' .at .names) (s' .at .chars) × Own B (t ⊕ run) (s' .word) (s' .shift) (s' .child)
+
+-- A step that goes into no child: refused as s' says, or gone on.
+pub record PlainIn (bs : Bits) (lm lx : ℕ) (T : List ℕ) (steps : ℕ) (r : Row) (s : Fill) (M X : List ℕ) (s' : Fill) (M' X' : List ℕ) : Type 0 where
+  pub names-same : length M' ≡ length M
+  pub text-same : length X' ≡ length X
+  pub in-key : s' .at .bit ≤ length bs
+  pub stopped : (s' .at .why ≡ 0 → ⊥) → (Y : ℕ → State → Ran)
+      → formRun lx Y (formBy T (formOf T steps) (s .n) (entryOf r) (r .op)) (stateAt bs lm lx (s .at)) ≡ halt (s' .at .why) (length bs - s' .at .bit)
+  pub went : s' .at .why ≡ 0 → (Y : ℕ → State → Ran) (N : List ℕ)
+      → Went bs lm lx Y (formBy T (formOf T steps) (s .n) (entryOf r) (r .op)) (formOf T steps (s' .n) (s' .form)) s N M X s' N M' X'
+
+-- ---- Nodes
+
+-- The node that was taken is a child, and beyond what stood there the outputs hold it.
+pub record Grown (bs : Bits) (lm lx : ℕ) (G : Grammar) (left c : ℕ) (p : Pos) (N M X : List ℕ) (q : Pos) (N' M' X' : List ℕ) : Type 0 where
+  pub run : Run
+  pub is : nodeRun lx G left c (stateAt bs lm lx p) ≡ ran (kid 0 0 run done) (stateAt bs lm lx q)
+  pub stored : Stored (base N M X (p .used) (p .names) (p .chars)) (kid 0 0 run done) N' M' X' (q .used) (q .names) (q .chars)
+  pub total : q .used + q .nodes ≡ p .used + p .nodes
+  pub inside : Inside bs lm lx q
+
+-- A node: refused as q says, or taken.
+pub record NodeIn (bs : Bits) (lm lx : ℕ) (G : Grammar) (left c : ℕ) (p : Pos) (N M X : List ℕ) (q : Pos) (N' M' X' : List ℕ) : Type 0 where
+  pub nodes-same : length N' ≡ length N
+  pub names-same : length M' ≡ length M
+  pub text-same : length X' ≡ length X
+  pub in-key : q .bit ≤ length bs
+  pub stopped : (q .why ≡ 0 → ⊥) → nodeRun lx G left c (stateAt bs lm lx p) ≡ halt (q .why) (length bs - q .bit)
+  pub grown : q .why ≡ 0 → Grown bs lm lx G left c p N M X q N' M' X'
+
+-- What a node asks.
+pub record Asks (bs : Bits) (ln lm lx : ℕ) (T : List ℕ) (class : ℕ) (p : Pos) : Type 0 where
+  pub inside : Inside bs lm lx p
+  pub nodes-fit : (p .used + p .nodes) * 4 ≤ ln
+  pub in-table : class < 2 ^ 32
+  pub slim : Slim T
+
+-- The walk after a child that stands last in the nodes: x is the first child now.
+pub record Linked (N : List ℕ) (s : Fill) (p : Pos) (q : Fill) (N' : List ℕ) : Type 0 where
+  pub same : length N' ≡ length N
+  pub child : ℕ
+  pub is : q ≡ withChild s p child
+  pub small : child * 4 ≤ length N
+  pub grew : (B : Base) (t a : Run) (N₀ M₀ X₀ M X : List ℕ) → B .used ≡ s .base → length N₀ ≡ length N
+      → Stored B t N₀ M₀ X₀ (s .at .used) (s .at .names) (s .at .chars) → Own B t (s .word) (s .shift) (s .child)
+      → Stored (base N₀ M₀ X₀ (s .at .used) (s .at .names) (s .at .chars)) (kid 0 0 a done) N M X (p .used) (p .names) (p .chars)
+      → Stored B (t ⊕ kid 0 0 a done) N' M X (p .used) (p .names) (p .chars) × Own B (t ⊕ kid 0 0 a done) (s .word) (s .shift) child
+
+-- The walk after the spelling that may follow a child.
+pub record AfterIn (bs : Bits) (lm lx w : ℕ) (s : Fill) (M X : List ℕ) (q : Fill) (M' X' : List ℕ) : Type 0 where
+  pub at : Pos
+  pub is : q ≡ movedTo s at
+  pub names : (g : Form) → NamesIn bs lm lx (spellingIf w g) g (s .at) M X at M' X'
+
+-- n nodes, a spelling after each if w > 0: refused as s' says, or gone on to the next form.
+pub record NodesIn (bs : Bits) (lm lx : ℕ) (G : Grammar) (left : ℕ) (r : Row) (s : Fill) (N M X : List ℕ) (s' : Fill) (N' M' X' : List ℕ) : Type 0 where
+  pub nodes-same : length N' ≡ length N
+  pub names-same : length M' ≡ length M
+  pub text-same : length X' ≡ length X
+  pub in-key : s' .at .bit ≤ length bs
+  pub stopped : (s' .at .why ≡ 0 → ⊥) → (g : Form) → Spans g (60 - s .shift) → formRun lx (nodeRun lx G left) (nodesThen (s .n) (r .a) (r .w) g) (stateAt bs lm lx (s .at)) ≡ halt (s' .at .why) (length bs - s' .at .bit)
+  pub went : s' .at .why ≡ 0 → (g : Form) → Spans g (60 - s .shift)
+      → (s' .form ≡ r .b) × (s' .n ≡ 1) × Went bs lm lx (nodeRun lx G left) (nodesThen (s .n) (r .a) (r .w) g) g s N M X s' N' M' X'
+
+-- ---- The whole key
+
+-- The first bit after a tree that may not stand there is r; none is set and no byte is left over where r is the end.
+pub record Ends (bs : Bits) (bit r : ℕ) : Type 0 where
+  pub inside : r ≤ length bs
+  pub stopped : r < length bs → (v : Value) → padding v (length (drop bit bs) % 8) (drop bit bs) ≡ stop badKey (length bs - r)
+  pub went : r ≡ length bs → (v : Value) → padding v (length (drop bit bs) % 8) (drop bit bs) ≡ got v (state 0 0 0 [])
+
+-- A tree was taken, with room for n nodes, k names and m bytes: the outputs hold it, used as q says.
+pub record Held (key : List ℕ) (n k m : ℕ) (q : Pos) (N M X : List ℕ) : Type 0 where
+  pub tree : Value
+  pub is : takeKey n k m key ≡ taken tree
+  pub room : q .used ≤ n
+  pub used : q .used ≡ nodes tree
+  pub named : q .names ≡ length (names tree)
+  pub chars : q .chars ≡ letters tree
+  pub nodes-are : firstNodes N (q .used) ≡ nodesOf (laid tree 0)
+  pub names-are : firstNames M (q .names) ≡ namesOf (laid tree 0)
+  pub text-is : take (q .chars) X ≡ textOf tree
+
+-- A whole key: refused as q says, or taken.
+pub record WholeIn (key : List ℕ) (n k m : ℕ) (q : Pos) (N M X : List ℕ) : Type 0 where
+  pub stopped : (q .why ≡ 0 → ⊥) → takeKey n k m key ≡ refused (q .why) (placeOf (eqb (q .why) noSpace) (q .bit))
+  pub held : q .why ≡ 0 → Held key n k m q N M X
+
+-- ---- The call
+
+-- 01's number and values for each case of the answer.
+abbrev pub told : Answer → store.Answer
+told (Taken n k m) = store.back n k m
+told (Refused number place) = store.no number place
+
+-- The answer and the final content of each output are those of the definition.
+pub record Answers (d : TakenBack) (r : Answer) (N M X : List ℕ) : Type 0 where
+  pub answer : told r ≡ d .answer
+  pub nodes-are : N ≡ d .nodeWords
+  pub names-are : M ≡ d .nameWords
+  pub text-is : X ≡ d .text

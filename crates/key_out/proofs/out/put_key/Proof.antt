@@ -1,0 +1,61 @@
+use native.Mathlib.Omega.{arith}
+use mathlib.Core.Path.{sym, subst}
+use mathlib.Core.List.{List}
+use Prim.Native.Nat.{ℕ}
+use lib.ListN.{length}
+use Rattle.keys.specs.Holds.{Spells}
+use Rattle.keys.specs.StoreLaws.{zeros}
+use Rattle.node_table.specs.Forms.{grammarOf, Narrow}
+use Rattle.node_table.specs.FormsLaws.{words-narrow}
+use Rattle.node_table.specs.Moves.{Noded}
+use Rattle.key_out.specs.Out.{keyBits}
+use Rattle.key_out.specs.KeyedLaws.{keyed, bytes-of}
+use borrow.Author.Needs.{needs}
+use Rattle.key_out.proofs.out.put_key.Statement.{statement}
+use Rattle.key_out.proofs.out.put_key.Tie as tie
+
+words-requires : tie.Need-words-requires
+words-requires c κs = search needs
+
+clear-bytes-requires : tie.Need-clear-bytes-requires
+clear-bytes-requires c κs = search needs
+
+put-number-requires : tie.Need-put-number-requires
+put-number-requires c κs = search needs
+
+slice-aggregate-put-node : tie.Need-slice-aggregate-put-node
+slice-aggregate-put-node c = search needs
+
+put-node-requires : tie.Need-put-node-requires
+put-node-requires c κs =
+    let words = c .before .before .before .before .before .before .before .before .before .before .words in
+    (search needs, search needs, search needs, search needs, search needs, subst Narrow (sym (words .ensures)) words-narrow)
+
+add-result : tie.Need-add-result
+add-result c = search needs
+
+same-length : tie.Need-same-length
+same-length c = search needs
+
+returns : tie.Need-returns
+returns c =
+    let args = c .before .before .before .before .before .before .before .before .before .before .before .before .before .before .before .before .before .before .before .args in
+    let words = c .before .before .before .before .before .before .before .before .before .before .before .before .before .before .words in
+    let clear-bytes = c .before .before .before .before .before .before .before .before .before .before .before .before .clear-bytes in
+    let put-number = c .before .before .before .before .before .before .before .before .put-number in
+    let put-node = c .before .before .before .put-node in
+    let slice-known4 = c .before .slice-known4 in
+    keyed (args .nodes .now) (args .names .now) (args .text .now) (args .root) (args .tall) (length (args .key .now)) (put-node .result .name) (put-number .result) (put-node .result .to) (clear-bytes .last .0) (put-number .last .0) (put-node .last .1 .1 .1 .1 .0) (zeros (clear-bytes .last .0) (args .key .now) (clear-bytes .ensures)) (put-number .ensures) (subst (λ (T : List ℕ). Noded keyBits (grammarOf T) (args .nodes .now) (Spells (args .names .now) (args .text .now)) (args .tall) 0 (length (args .names .now)) 0 (args .root) 0 (put-number .result) (put-number .last .0) (put-node .result .name) (put-node .result .to) (put-node .last .1 .1 .1 .1 .0)) (words .ensures) (put-node .ensures)) (bytes-of (put-node .last .1 .1 .1 .1 .0) (λ i. omega (arith, slice-known4 .given i)))
+
+pub put-key-spec : {M : Type 1} → statement M
+put-key-spec =
+    tie.close
+    (tie.spec
+    words-requires
+    clear-bytes-requires
+    put-number-requires
+    slice-aggregate-put-node
+    put-node-requires
+    add-result
+    same-length
+    returns)

@@ -1,0 +1,3 @@
+pub mod Out
+pub mod OutLaws
+pub mod KeyedLaws

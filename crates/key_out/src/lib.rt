@@ -1,0 +1,2 @@
+// Key out: the key of a tree that stands in the store.
+pub mod out;

@@ -1,0 +1,4 @@
+pub mod Forms
+pub mod Moves
+pub mod FormsLaws
+pub mod MovesLaws
