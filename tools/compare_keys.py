@@ -8,6 +8,7 @@ It runs in the folder that holds crates.txt, on target/unproved/keys_run.BUILD, 
 there. Sound keys come from generated texts that the model reads and from trees over every tag; the others from these by
 bits turned, bytes changed, cuts, splices and bytes put in. Rooms are ample, exact, or too small by a little. Before them
 the stored vectors run. A build that is not optimized holds the program's arrays twice, and gets a larger stack.
+compare_rules.py --sorts keys runs the same keys through the open call.
 """
 import random
 import sys

@@ -1,18 +1,20 @@
 #!/usr/bin/env python3
-"""Runs the readers of types beside model.py on texts, stored and generated, and compares each answer and all that is lent.
+"""Runs the two open calls beside model.py, on texts and keys, stored and generated, and compares each answer and all
+that is lent.
 
     compare_rules.py [--count N] [--seed S] [--build O3|O0|checked] [--sorts SORTS] [--no-build]
-        SORTS: stored, limits, orders, short, generated
+        SORTS: stored, limits, orders, short, generated (N texts), keys (N keys, as compare_keys.py makes them)
     compare_rules.py --stack [--build B]       the least stack that the program needs for each of the largest readings
 
-It runs in the folder that holds crates.txt. The program crate `readers_run` is compiled unproved by tools/unproved.sh. What
-is compared: the refusal with its place and half, or the counts and the end cursor; and every word of the three lent
-slices, which are filled with something else before the call. A record holds its nine numbers by the model, the last three
-of them sums over the slices; where the program comes to others, the record runs once more and all words are shown.
+It runs in the folder that holds crates.txt. The program crate `rows` is compiled unproved by tools/unproved.sh. What is
+compared: the refusal with its place, or the counts and the end cursor; and every word and byte of the lent slices, which
+are filled with something else before the call. A record holds its eleven numbers by the model, the last four of them sums
+over the slices; where the program comes to others, the record runs once more and all is shown. The program also takes the
+key of each granted reading back and writes it again, and tells a key that does not come out the same.
 
 --stack finds by halving, in KiB, the least `ulimit -s` under which the program gives the right answer, and prints it less
-that of a text of one token. The program's own arrays are in both; it fails if all else takes over 256 KiB. As the system
-places the stack at random, figures are right to some 8 KiB.
+that of a text of one token: the whole call with its key, and that key taken back. The program's own arrays are in both;
+it fails if all else takes over 256 KiB. As the system places the stack at random, figures are right to some 8 KiB.
 """
 import argparse
 import collections
@@ -24,7 +26,8 @@ import time
 import model as m
 import rules_vectors as v
 from compare import answers
-from rules_model import TAGS, WIDE, Cases, expected, keyofs, read, record
+from compare_keys import keys
+from rules_model import TAGS, WIDE, Cases, called, expected, keyofs, read, record
 from words_vectors import root
 
 # ---- texts
@@ -48,55 +51,61 @@ def limits(c):
               'typeof A' + '.b' * 4094, 'typeof A' + '.b' * 4095, '(infer U extends ' * 11 + 'A' + ' ? X : Y)' * 11, '(infer U extends ' * 8 + 'A' + ')' * 8):
         for p in (False, True): yield c.case('limits', t, None, 0, p, WIDE)
     for t, lent in (('A' + '.b' * 3000, (4, 3001, 0)), ('A' + '.b' * 3000, (4, 3000, 0)), ('A' + '.b' * 5000, (4, 4000, 0)), ('A' + '.b' * 3000 + '<>', (4, 2000, 0))):
-        yield c.case('limits', t, None, 0, False, lent)
+        yield c.case('limits', t, None, 0, False, lent + WIDE[3:])
 
 
 def orders(c):
     """Rooms short at once: which refusal comes first."""
     for t in v.texts():
         w = m.cut(t)
-        x = read(t.encode('latin1'), w, 0, False, (1600, 400, 120))
+        x = read(t.encode('latin1'), w, 0, False, WIDE)
         if x[0][0] != 0: continue
-        n, k, d = x[0][1:4]
+        n, k, d, s = x[0][1:5]
         for a in range(max(0, n - 3), n + 2):
             for b in range(max(0, d - 2), d + 1):
-                for e in (k, max(0, k - 1)): yield c.case('orders', t, w, 0, False, (4 * a + c.r.randrange(4), e, 3 * b + c.r.randrange(3)))
+                for e in (k, max(0, k - 1)): yield c.case('orders', t, w, 0, False, (4 * a + c.r.randrange(4), e, 3 * b + c.r.randrange(3), s - c.r.randrange(2)))
 
 
 def cases(seed, count, sorts):
     c = Cases(seed)
     has = lambda s: not sorts or s in sorts
     if has('stored'):
-        for x in v.cases(): yield ('stored',) + x[1:]
+        for x in v.stored(): yield ('stored',) + x[1:]
     if has('limits'): yield from limits(c)
     if has('orders'): yield from orders(c)
     if has('short'):
         for t in short(): yield c.case('short', t)
     if has('generated'): yield from c.generated(count)
+    if has('keys'):
+        for op, key, rooms in keys(count, seed): yield 'keys', key, tuple(rooms[:3])
 
 
 # ---- the program
+BUILDS = {'O3': None, 'O0': 64 << 20, 'checked': 64 << 20}    # bytes of stack: a build that is not optimized holds the arrays twice
+
+
 def build():
-    """Compiles the program readers_run without proof."""
-    done = subprocess.run(['sh', os.path.join(root(), 'tools', 'unproved.sh'), 'readers_run'], cwd=root(), capture_output=True, text=True)
+    """Compiles the program rows without proof."""
+    done = subprocess.run(['sh', os.path.join(root(), 'tools', 'unproved.sh'), 'rows'], cwd=root(), capture_output=True, text=True)
     if done.returncode != 0: sys.exit(done.stdout + done.stderr)
 
 
 def run(which, records, stack=None):
     """The records that differ, each with what the program prints; None if it failed or did not run all."""
-    lines, status = answers('readers_run.' + which, records, stack)
+    lines, status = answers('rows.' + which, records, stack or BUILDS[which])
     if not lines: return None
     other = [l.split(' ', 2)[1:] for l in lines[:-1] if l.startswith('different ')]
     return {int(i): what for i, what in other} if lines[-1] == '%d vectors, %d different' % (len(records), len(other)) else None
 
 
 def differs(which, c, want, got):
-    sort, text, words, start, parens, lent = c
-    print('DIFFERENT, sort %s: text %r start %d parens %d lent %s\n  program %s\n  model   %s' % (sort, text[:300], start, parens, lent, got, ' '.join(map(str, want))))
-    if len(words) < 100:
-        x = read(text, words, start, parens, lent)
+    lent = c[-1]
+    what = 'key %s' % c[1][:300].hex() if len(c) == 3 else 'text %r start %d parens %d' % (c[1][:300], c[3], c[4])
+    print('DIFFERENT, sort %s: %s lent %s\n  program %s\n  model   %s' % (c[0], what, lent, got, ' '.join(map(str, want))))
+    if len(c[1]) < 400:
+        x = called(c)
         print('  program', run(which, [record(c, want, True)])[0])
-        print('  model  ', x[0], *('| ' + ' '.join(map(str, u + [0] * (n - len(u)))) for u, n in zip(x[1:], lent)))
+        print('  model  ', x[0], *('| ' + ' '.join(map(str, list(u) + [0] * (n - len(u)))) for u, n in zip(x[1:], lent)))
 
 
 def compare(args):
@@ -118,10 +127,10 @@ def compare(args):
         batch.append(c)
         if len(batch) >= 20000: flush()
     flush()
-    print('%s, seed %d: %d texts, %d different, %.0f s' % (args.build, args.seed, sum(figures.values()), different, time.time() - began))
+    print('%s, seed %d: %d texts and keys, %d different, %.0f s' % (args.build, args.seed, sum(figures.values()), different, time.time() - began))
     print('sorts: ' + ', '.join('%s %d' % x for x in figures.items()))
-    print('answers: ' + ', '.join('%s %d' % ('refusal %d' % k if k else 'read', n) for k, n in sorted(answered.items())))
-    print('nodes by tag: ' + ', '.join('%s %d' % x for x in sorted(TAGS.items(), key=str)))
+    print('answers: ' + ', '.join('%s %d' % ('refusal %d' % k if k else 'granted', n) for k, n in sorted(answered.items())))
+    if TAGS: print('nodes by tag: ' + ', '.join('%s %d' % x for x in sorted(TAGS.items(), key=str)))
     return different
 
 
@@ -140,7 +149,7 @@ def largest():
     yield ('13,106 keyof',) + keyofs(13106)
 
 
-ARRAYS = 2 * 65536 + 131080 + 8 * (16385 + sum(WIDE))         # bytes: lines and text, words as bytes, words, what is lent
+ARRAYS = 2 * 65536 + 8 * (2 * 16385 + 838860 + 128) + 2 * 262146 + 131072   # bytes: lines and text, all words, two keys, letters
 
 
 def least_stack(which, case):

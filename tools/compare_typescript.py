@@ -1,6 +1,6 @@
 #!/usr/bin/env python3
 """Compares the model's trees with those of TypeScript's own parser, on the types of .d.ts files; then runs the program
-readers_run on the same texts beside the model.
+rows on the same texts beside the model.
 
     compare_typescript.py [FOLDER ..]     without a folder: those of the Debian packages below, as far as they are installed
 

@@ -22,24 +22,16 @@ args = ap.parse_args()
 sys.setrecursionlimit(20000)
 sys.path.insert(0, args.model)
 import model as m
-from rules_model import Reading, TAGS, Text, store
+import rules_model
+from rules_model import TAGS
 
 def fill(n, l): return l + [0] * (n - len(l))
 def read(text, words, start, parens, lent):
-    a, b, c, d = lent
-    none = ([0] * a, [0] * b, [0] * c, [0] * d)
-    def no(n, p, h): return (('refuses', n, p, h),) + none
-    if len(text) > m.TEXT or len(words) > m.TOKENS or not words or start >= len(words): return no(1, 0, 0)
-    for i in range(len(words)):
-        if m.bad(text, words, i): return no(2, i, 0)
-    r = Reading(Text(text), words, start, parens, a // 4, c // 3)
-    try: t = r.type(True)
-    except m.Refused as x: return no(*x.args)
-    k, (nodes, names) = list(m.key_of(t)), store(t)
-    assert len(nodes) == 4 * r.live
-    if len(k) > d or len(k) > m.KEY or len(names) > b: return no(11, 0, 0)
-    return (('reads', r.live, len(names), len(r.notes), r.i, r.half, len(k)),
-            fill(a, nodes), fill(b, names), fill(c, [w for n in r.notes for w in n]), fill(d, k))
+    """The answer in the definitions' order, and all that is lent."""
+    x = rules_model.read(text, words, start, parens, lent)
+    n, *rest = x[0]
+    if n == 0: *rest, key, at, half = rest
+    return (('refuses', n, *rest) if n else ('reads', *rest, at, half, key),) + tuple(fill(k, list(u)) for u, k in zip(x[1:], lent))
 
 # ---- inputs
 rng = random.Random(args.seed)
@@ -303,19 +295,19 @@ use Rattle.rules.specs.State.{Given, State, Result, read, refuse, make}
 use Rattle.rules.specs.Read.{lend, denied, outcome}
 use Rattle.rules.specs.Rules.{rules}
 
-text-over : outcome (replicate 65536 65) (0 ∷ []) 0 false (lend 4 4 4 4) ≡ denied 1 0 0
+text-over : outcome (replicate 65536 65) (0 ∷ []) 0 false (lend 4 4 4 4) ≡ denied 1 0 0 0
 unfolding rules
 text-over = refl
 
-text-at : outcome (replicate 65535 65) (0 ∷ []) 0 false (lend 4 4 4 4) ≡ denied 3 0 0
+text-at : outcome (replicate 65535 65) (0 ∷ []) 0 false (lend 4 4 4 4) ≡ denied 3 0 0 0
 unfolding rules
 text-at = refl
 
-tokens-over : outcome (65 ∷ []) (replicate 16385 0) 0 false (lend 4 4 4 4) ≡ denied 1 0 0
+tokens-over : outcome (65 ∷ []) (replicate 16385 0) 0 false (lend 4 4 4 4) ≡ denied 1 0 0 0
 unfolding rules
 tokens-over = refl
 
-tokens-at : outcome (65 ∷ []) (replicate 16384 0) 0 false (lend 4 4 4 4) ≡ denied 2 0 0
+tokens-at : outcome (65 ∷ []) (replicate 16384 0) 0 false (lend 4 4 4 4) ≡ denied 2 0 0 0
 unfolding rules
 tokens-at = refl
 

@@ -1,25 +1,31 @@
-"""What rules_vectors.py and compare_rules.py share: what the call that reads comes to by model.py, as nine numbers; a
-record of the program readers_run; and generated texts.
+"""What rules_vectors.py and compare_rules.py share: what the two open calls come to by model.py, as eleven numbers; a
+record of the program rows; and generated texts.
 
-The nine numbers: 0, the counts of nodes, names and diagnostics, the end's token and half; or a refusal's number, place
-and half, and three zeros; then a sum over each of the lent slices, whole. A record: 1 for preserve_parens plus 2 to see
-all words where they differ, the start, the lengths of text and token words, the words lent for nodes, names and
-diagnostics, the nine numbers, the text, the token words.
+A case is a sort, a text, its token words, a start, preserve_parens and what is lent: words for nodes, names and
+diagnostics, and bytes for the key. Or it is a sort, a key and what is lent: words for nodes and names, bytes for letters.
+
+The eleven numbers: 0, the counts of nodes, names, diagnostics and bytes of key, the end's token and half; or a refusal's
+number, token, half and byte, and three zeros; then a sum over each of the four lent slices, whole. For a key: 0 and the
+counts of nodes, names and letters, or a refusal's number and bit; zeros up to seven numbers; then a sum over each of the
+three lent slices, and 0. A record: one byte, 4 for a key or 1 for preserve_parens, plus 2 to see all that is lent where
+it differs; the start, the lengths of text and token words, the words lent for nodes, names and diagnostics, the bytes
+lent for the key or its length, the bytes lent for letters, the eleven numbers; the text and the token words, or the key.
 """
 import collections
 import random
 import struct
 import sys
 
+import keys_model
 import model as m
-from keys_vectors import sum_words
+from keys_vectors import sum_bytes, sum_words
 
 sys.setrecursionlimit(100000)
 
-WIDE = 65552, 16385, 128                                    # all that the program can lend
+WIDE = 65552, 16385, 128, 262146                            # nodes and names for all tokens, all diagnostics, any key; and more
 
 
-# ---- the model, with the half of a refusal and the start of a spelling
+# ---- the model, with the half and the byte of a refusal and the start of a spelling
 class Spelled(bytes):
     start = 0
 
@@ -35,7 +41,7 @@ class Text(bytes):
 
 class Reading(m.Reading):
     def refuse(r, number):
-        raise m.Refused(number, r.i, r.half)
+        raise m.Refused(number, r.i, r.half, r.first())
 
 
 # ---- what the store holds of a tree (keys' Store): runs in key order, records in postorder, names in key order
@@ -104,29 +110,46 @@ def store(root):
 
 def read(text, words, start, parens, lent):
     """What the call comes to: the answer, and what of each slice is used."""
-    def no(n, p, h): return (n, p, h), [], [], []
-    if len(text) > m.TEXT or len(words) > m.TOKENS or not words or start >= len(words): return no(1, 0, 0)
+    def no(*refusal): return refusal, [], [], [], b''
+    if len(text) > m.TEXT or len(words) > m.TOKENS or not words or start >= len(words): return no(1, 0, 0, 0)
     for i in range(len(words)):
-        if m.bad(text, words, i): return no(2, i, 0)
+        if m.bad(text, words, i): return no(2, i, 0, 0)
     r = Reading(Text(text), words, start, parens, lent[0] // 4, lent[2] // 3)
     try: t = r.type(True)
     except m.Refused as x: return no(*x.args)
     nodes, names = store(t)
+    key = m.key_of(t)
     assert len(nodes) == 4 * r.live
-    if len(names) > lent[1]: return no(11, 0, 0)
-    return (0, r.live, len(names), len(r.notes), r.i, r.half), nodes, names, [w for n in r.notes for w in n]
+    if len(names) > lent[1] or len(key) > lent[3] or len(key) > m.KEY: return no(11, 0, 0, 0)
+    return (0, r.live, len(names), len(r.notes), len(key), r.i, r.half), nodes, names, [w for n in r.notes for w in n], key
+
+
+def take_back(key, lent):
+    """The same of a key that is taken back."""
+    x = keys_model.take_back(key, lent[0] // 4, *lent[1:])
+    if x[0] == 'refused': return x[1:], [], [], b''
+    nodes, names, letters = keys_model.store(x[1])
+    return (0, x[3], x[4], len(x[2])), nodes, names, letters
+
+
+def called(case):
+    """What the case's call comes to."""
+    return take_back(*case[1:]) if len(case) == 3 else read(*case[1:])
 
 
 def expected(case):
-    """The nine numbers: the answer, filled with zeros, and a sum over each lent slice."""
-    sort, text, words, start, parens, lent = case
-    x = read(text, words, start, parens, lent)
-    return x[0] + (0,) * (6 - len(x[0])) + tuple(sum_words(u, n, 1) for u, n in zip(x[1:], lent))
+    """The eleven numbers: the answer, filled with zeros, and a sum over each lent slice."""
+    x, lent = called(case), case[-1]
+    sums = [sum_words(u, n, 1) for u, n in zip(x[1:-1], lent)] + [sum_bytes(x[-1], lent[-1], 1)]
+    return x[0] + (0,) * (7 - len(x[0])) + tuple(sums) + (0,) * (4 - len(sums))
 
 
 def record(case, want, all_words=False):
+    if len(case) == 3:
+        sort, key, (nodes, names, letters) = case
+        return struct.pack('<B19I', 4 + 2 * all_words, 0, 0, 0, nodes, names, 0, len(key), letters, *want) + key
     sort, text, words, start, parens, lent = case
-    return (struct.pack('<B15I', parens + 2 * all_words, start, len(text), len(words), *lent, *want)
+    return (struct.pack('<B19I', parens + 2 * all_words, start, len(text), len(words), *lent, len(text), *want)
             + text + struct.pack('<%dQ' % len(words), *words))
 
 
@@ -214,7 +237,7 @@ def damaged(r, t):
 
 
 class Cases:
-    def __init__(c, seed): c.r = random.Random(seed); c.g = Maker(c.r)
+    def __init__(c, seed): c.r, c.k = random.Random(seed), random.Random(seed); c.g = Maker(c.r)
 
     def lent(c, need):
         """Words to be lent: about what is needed, mostly more, at times less."""
@@ -226,7 +249,15 @@ class Cases:
         l[j] = max(0, l[j] - c.r.choice((1, 3, 4, 8, l[j], c.r.randrange(1 + l[j]))))
         return tuple(l)
 
+    def key_room(c, t, words, start, parens):
+        """Bytes to be lent for a key: mostly more than it takes, at times just that, one more or less, or few."""
+        x, ample = c.k.random(), len(t) + 4 * len(words) + c.k.randrange(9)
+        if x < 0.8: return ample
+        if x < 0.9: return max(0, len(read(t, words, start, parens, WIDE)[4]) + c.k.choice((-1, -1, 0, 0, 1, 3)))
+        return c.k.choice((0, 1, 2, 3, 5, c.k.randrange(ample)))
+
     def case(c, sort, text, words=None, start=0, parens=None, lent=None):
+        """What is lent may be left out whole, or for the key alone."""
         t = text.encode('latin1') if isinstance(text, str) else text
         if words is None:
             try: words = m.cut(text)
@@ -235,6 +266,7 @@ class Cases:
         if lent is None:                                    # a node, a name and two notes for each two tokens are enough
             n = min(len(words), 60)
             lent = c.lent((4 * n, n, 3 * min(n // 3 + 1, 34)))
+        if len(lent) == 3: lent += (c.key_room(t, words, start, parens),)
         return sort, t, words, start, parens, lent
 
     def badly(c, t):

@@ -1,23 +1,24 @@
 #!/usr/bin/env python3
-"""Writes crates/readers_run/data/vectors, the records that the program readers_run runs, and crates/readers_run/stdout,
-the line that it must print, from the answers of model.py. The same bytes each time.
+"""Writes crates/rows/data/vectors, the records that the program rows runs, and crates/rows/stdout, the line that it must
+print, from the answers of model.py. The same bytes each time.
 
     rules_vectors.py                write both files (in the folder that holds crates.txt, or above it)
     rules_vectors.py --check        say whether both are as this would write them
-    rules_vectors.py --list [ITEM]  each record's number from 0, the items that it is for, options, lent words, answer, text
+    rules_vectors.py --list [ITEM]  each record's number from 0, the items that it is for, options, what is lent, answer, text
 
-Items are those of the checklist: R1 to R41 are the reading rules of document 01 in its order, N1 to N10 its diagnostics,
-X1 to X23 its refusals (X15 is about keys). Each has a record here. The answer is refusal, place and half, or 0, nodes,
-names, diagnostics, end and its half; then three sums.
+First document 01's twelve rows, then texts, then the keys of keys_vectors.py. Items are those of the checklist: R1 to R41
+are the reading rules of document 01 in its order, N1 to N10 its diagnostics, X1 to X23 its refusals. Each has a record
+here; a row has the item `row`, a key X15. The answer is the eleven numbers of rules_model.py.
 """
 import sys
 
+import keys_vectors
 import model as m
 from rules_model import WIDE, Cases, expected, keyofs, read, record
 from words_vectors import written
 
-AMPLE = 403, 101, 40                                        # words lent for nodes, names, diagnostics
-ITEMS = ["R%d" % i for i in range(1, 42)] + ["N%d" % i for i in range(1, 11)] + ["X%d" % i for i in range(1, 24) if i != 15]
+AMPLE = 403, 101, 40, 2003                                  # words lent for nodes, names, diagnostics; bytes for the key
+ITEMS = ["R%d" % i for i in range(1, 42)] + ["N%d" % i for i in range(1, 11)] + ["X%d" % i for i in range(1, 24)]
 
 # Items, and after the colon texts with ~ between them; # is a line break.
 EXAMPLES = r"""
@@ -143,7 +144,7 @@ class Vectors(list):
         t = text.encode("latin1") if isinstance(text, str) else text
         if words is None:
             words = m.cut(text)
-        self.append((items, t, words, start, parens, lent))
+        self.append((items, t, words, start, parens, lent + AMPLE[len(lent):]))
 
     def both(self, items, text, lent=AMPLE):
         for parens in (False, True):
@@ -151,21 +152,28 @@ class Vectors(list):
 
 
 def least(text, parens=False):
-    """The fewest nodes, names and diagnostics' records with which a text is read as with more, or None if it is refused."""
+    """The fewest words for nodes, names and diagnostics with which a text is read as with more, and the bytes of its key; or
+    None if it is refused."""
     t, words = text.encode("latin1"), m.cut(text)
     x = read(t, words, 0, parens, WIDE)
     if x[0][0] != 0:
         return None
-    _, n, k, d, _, _ = x[0]
-    while read(t, words, 0, parens, (4 * n, k, WIDE[2]))[0][0] == 8:
+    n, k, d, s = x[0][1:5]
+    while read(t, words, 0, parens, (4 * n, k) + WIDE[2:])[0][0] == 8:
         n += 1
-    while read(t, words, 0, parens, (4 * n, k, 3 * d))[0][0] == 9:
+    while read(t, words, 0, parens, (4 * n, k, 3 * d, s))[0][0] == 9:
         d += 1
-    return n, k, d
+    return 4 * n, k, 3 * d, s
 
 
-def words_of(room):
-    return 4 * room[0], room[1], 3 * room[2]
+def rows(v):
+    """The twelve rows, with what 01 says of them in numbers."""
+    says = {"A": "104004000504", "string[]": "11c270", "[A?, ...B[]]": [], "[a?: A, B]": [4], "A\n[B]": (1, 0), "T extends U ? : V": (3, 4),
+            "new (this: A) => B": [3]}
+    for t in m.ROWS:
+        x = m.read(t.encode(), m.cut(t), 0, False)
+        assert says.get(t) in (None, x[1:], *(() if x[0] == "refused" else (x[4].hex(), [n[0] for n in x[2]], x[3])))
+        v.add("row", t)
 
 
 def by_example(v):
@@ -181,12 +189,12 @@ def by_example(v):
         if t in done or least(t) is None:
             continue
         done.add(t)
-        n, k, d = words_of(least(t))
+        n, k, d, s = least(t)
         for a in (n, n - 1):
             for b in (k, k - 1):
                 for c in (d, d - 1):
                     if min(b, c) >= 0:
-                        v.add(items + " X13 X14 X16 X17", t, (a, b, c))
+                        v.add(items + " X13 X14 X16 X17", t, (a, b, c, s))
 
 
 def unfinished(v, items, t):
@@ -288,6 +296,23 @@ def short_of_room(v):
     for lent in ((0, 0, 0), (1, 0, 0), (3, 1, 1), (4, 0, 0), (4, 1, 0), (7, 1, 2), (0, 1, 3)):
         for t in ("A", "any", "A<>", "()", "A["):
             v.add("X13 X14 X16 X17", t, lent)
+
+
+def short_of_key(v):
+    """Bytes for the key: one too few, none, one, and one too many; too few for names as well."""
+    for t in texts():
+        if least(t) is None:
+            continue
+        n, k, d, s = least(t)
+        v.add("X16", t, (n, k, d, s - 1))
+        v.add("X16", t, (n + 1, k + 1, d + 1, s + 1))
+        if len(t) < 6:
+            for few in (0, 1, s // 2):
+                v.add("X16", t, (n + 3, k, d + 2, few))
+                v.add("X16 X17", t, (n, max(0, k - 1), d, few))
+                v.add("X17", t, (n - 1, k, d, few))
+    for more in (-2, -1, 0):                                                # about the most that a key may have
+        v.add("X16", "A", AMPLE[:3] + (WIDE[3] + more,))
 
 
 def many_notes(v):
@@ -392,9 +417,16 @@ def generated(v):
         v.append(c)
 
 
-def cases():
+def taken(v):
+    """The stored keys, through the open call."""
+    for op, key, rooms in keys_vectors.cases():
+        v.append(("X15", key, rooms[:3]))
+
+
+def stored():
     v = Vectors()
-    for part in (by_example, by_kind, mapped, elements, deep, high, long, short_of_room, many_notes, in_a_trial, orders, bad_lists, bad_words, generated):
+    for part in (rows, by_example, by_kind, mapped, elements, deep, high, long, short_of_room, many_notes, in_a_trial, orders, bad_lists, bad_words,
+                 generated, short_of_key, taken):
         part(v)
     missing = set(ITEMS) - set(i for c in v for i in c[0].split())
     assert not missing, missing
@@ -402,17 +434,18 @@ def cases():
 
 
 def listed(item):
-    for i, c in enumerate(cases()):
+    for i, c in enumerate(stored()):
         if item is None or item in c[0].split():
-            print(i, c[0], "| start %d parens %d lent %d %d %d |" % (c[3:5] + tuple(c[5])), *expected(c), "|", repr(c[1].decode("latin1")[:100]))
+            what = repr(c[1].decode("latin1")[:100]) if len(c) > 3 else c[1][:50].hex()
+            print(i, c[0], "|", *("start %d parens %d" % c[3:5] if len(c) > 3 else "key", "lent", *c[-1], "|"), *expected(c), "|", what)
 
 
 def main():
     if sys.argv[1:2] == ["--list"]:
         return listed(sys.argv[2] if len(sys.argv) > 2 else None)
-    c = cases()
+    c = stored()
     data = b"".join(record(x, expected(x)) for x in c)
-    written("readers_run", data, ["%d vectors, 0 different" % len(c)], "%d records, %d bytes" % (len(c), len(data)))
+    written("rows", data, ["%d vectors, 0 different" % len(c)], "%d records, %d bytes" % (len(c), len(data)))
 
 
 if __name__ == "__main__":

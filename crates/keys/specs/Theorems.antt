@@ -86,6 +86,14 @@ module _ (key : List ℕ) (a b c : ℕ) (ok : Bytes key) where
       by (taken t) j = clash (cc)
       by (refused x y) j = let i : refused x y ≡ refused n p = cc in ap (lent a b c) i
 
+  -- It refuses under 6, 8, 10 or 11, at a bit of the key or at its end, and at 0 for 11.
+  pub call-placed : {n p : ℕ} → takeBack key a b c .answer ≡ no n p → IsRefusal (length (bitsOfBytes key)) n p
+  call-placed {n} {p} e = by (takeKey (a / recordWords) b c key) refl e
+    where
+      by : (o : Taken) → takeKey (a / recordWords) b c key ≡ o → lent a b c o .answer ≡ no n p → IsRefusal (length (bitsOfBytes key)) n p
+      by (taken t) i j = clash (cc)
+      by (refused x y) i j = let k : refused x y ≡ refused n p = cc in refusals (a / recordWords) b c key (i ∙ k)
+
   -- It leaves every output as long as it was lent.
   pub lengths-kept : Kept a b c (takeBack key a b c)
   lengths-kept = by (takeKey (a / recordWords) b c key) refl

@@ -7,9 +7,11 @@ use mathlib.Core.List.{List}
 use Prim.Native.Nat.{ℕ, _/_}
 use lib.ListN.{length, take}
 use lib.Seq.{take-append-seam}
+use Rattle.keys.specs.Bits.{bitsOfBytes}
 use Rattle.keys.specs.Form.{Value, Bytes, nodes}
 use Rattle.keys.specs.Limits.{recordWords}
 use Rattle.keys.specs.Placed.{Placed, bare}
+use Rattle.keys.specs.Key as table
 use Rattle.keys.specs.Key.{taken, refused, keyOf, HasRoom, IsKey}
 use Rattle.keys.specs.Store.{TakenBack, back, no, lent, takeBack, nodesOf, namesOf, Left}
 use Rattle.keys.specs.Holds.{Stands}
@@ -76,7 +78,11 @@ module _ (c : Call) (bytes : Bytes (c .text)) {z : Called} (seen : z ≡ left c)
 
 -- ---- What a caller of `take_back` sees, who lends a words for nodes, b words for names and d bytes for text
 module _ (key : List ℕ) (bytes : Bytes key) (a b d : ℕ) {z : TakenBack} (seen : z ≡ takeBack key a b d) where
-  -- Demand 1: a refusal leaves zeros.
+  -- Demand 1: a refusal has one of the numbers, at a bit of the key or at its end, or at 0 for 11.
+  pub untaken-placed : {n p : ℕ} → z .answer ≡ no n p → table.IsRefusal (length (bitsOfBytes key)) n p
+  untaken-placed e = keys.call-placed key a b d bytes (sym (ap (λ y. y .answer) seen) ∙ e)
+
+  -- It leaves zeros.
   pub untaken-zero : {n p : ℕ} → z .answer ≡ no n p → z ≡ lent a b d (refused n p)
   untaken-zero e = seen ∙ keys.call-refused key a b d bytes (sym (ap (λ y. y .answer) seen) ∙ e)
 

@@ -1,0 +1,90 @@
+// A record's head: what it asks for, and the answer that it must have.
+ghost use mathlib.Core.Path.{_≡_};
+ghost use Prim.Native.Nat.{_≤_};
+ghost use lib.ListN.{length};
+use lines::record::four;
+
+// The words of as many nodes as a key may have, of ten bits each.
+pub fn node_room() -> [u64; 838860]
+    ensures { λ r. ⌜ 838860 ≡ length r ⌝ }
+{
+    [0; 838860]
+}
+
+// Words for ten diagnostics more than there may be, and two words.
+pub fn note_room() -> [u64; 128]
+    ensures { λ r. ⌜ 128 ≡ length r ⌝ }
+{
+    [0; 128]
+}
+
+// Two bytes more than a key may have.
+pub fn key_room() -> [u8; 262146]
+    ensures { λ r. ⌜ 262146 ≡ length r ⌝ }
+{
+    [0; 262146]
+}
+
+// Bytes for the spellings of a key that is taken back.
+pub fn letter_room() -> [u8; 131072]
+    ensures { λ r. ⌜ 131072 ≡ length r ⌝ }
+{
+    [0; 131072]
+}
+
+// A number, or the most there is room for.
+pub fn least(n: usize, most: usize) -> usize
+    ensures { λ r. ⌜ r ≤ most ⌝ }
+{
+    if n < most {
+        return n;
+    }
+    most
+}
+
+// What a record asks for: its call and options, the start, and the lengths of all that is lent.
+pub struct Asked {
+    pub op: u8,
+    pub start: usize,
+    pub text: usize,
+    pub words: usize,
+    pub nodes: usize,
+    pub names: usize,
+    pub notes: usize,
+    pub key: usize,
+    pub letters: usize,
+}
+
+// The head's first byte and eight numbers.
+pub fn asked_by(head: &[u8; 77]) -> Asked
+    ensures { λ r. ⌜ (r .text ≤ 65536) × (r .words ≤ 16385) × (r .nodes ≤ 838860) × (r .names ≤ 16385) × (r .notes ≤ 128) × (r .key ≤ 262146) × (r .letters ≤ 131072) ⌝ }
+{
+    Asked {
+        op: head[0],
+        start: four(head, 1),
+        text: least(four(head, 5), 65536),
+        words: least(four(head, 9), 16385),
+        nodes: least(four(head, 13), 838860),
+        names: least(four(head, 17), 16385),
+        notes: least(four(head, 21), 128),
+        key: least(four(head, 25), 262146),
+        letters: least(four(head, 29), 131072),
+    }
+}
+
+// The eleven numbers of the answer that the head holds.
+pub fn wanted(head: &[u8; 77]) -> [u64; 11] {
+    [
+        four(head, 33) as u64,
+        four(head, 37) as u64,
+        four(head, 41) as u64,
+        four(head, 45) as u64,
+        four(head, 49) as u64,
+        four(head, 53) as u64,
+        four(head, 57) as u64,
+        four(head, 61) as u64,
+        four(head, 65) as u64,
+        four(head, 69) as u64,
+        four(head, 73) as u64,
+    ]
+}
