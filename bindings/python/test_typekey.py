@@ -1,0 +1,233 @@
+"""Tests of typekey.py: document 01's twelve rows, refusals, what is lent, walks, every stored vector, and a sample beside the
+model. The model and its cutter are in the repository's tools/."""
+import contextlib
+import ctypes
+import io
+import pathlib
+import pickle
+import struct
+import sys
+import textwrap
+import unittest
+
+ROOT = pathlib.Path(__file__).resolve().parents[2]
+sys.path[:0] = [str(ROOT / "bindings" / "python"), str(ROOT / "tools")]
+import keys_model
+import model
+import rules_model
+import typekey
+from keys_vectors import sum_bytes, sum_words
+from typekey import Buffers, Diagnostic, Node, Note, Refused, Why, kind_of, token
+
+
+def read(text, **options):
+    return typekey.read(text.encode("latin1"), model.cut(text), **options)
+
+
+def shown(node):
+    """A node, its names and children: `union(reference A, reference B)`."""
+    head = " ".join([node.tag] + [n.decode() for n in node.names])
+    children = ", ".join(map(shown, node.children))
+    return "%s(%s)" % (head, children) if children else head
+
+
+def written(tree):
+    """The key of a tree, from what its fields hold."""
+    bits = ["0001"]
+    def put(node):
+        if node.number is not None: bits.append(format(node.number, "06b"))
+        for f in node.fields():
+            if isinstance(f.value, Node): put(f.value)
+            elif isinstance(f.value, bytes): bits.append(format(len(f.value), "016b") + format(int.from_bytes(f.value, "big"), "0%db" % (8 * len(f.value))))
+            else: bits.append(format(f.value, "0%db" % f.bits))
+    put(tree.root)
+    s = "".join(bits)
+    return int(s.ljust(-(-len(s) // 8) * 8, "0"), 2).to_bytes(-(-len(s) // 8), "big")
+
+
+class Rows(unittest.TestCase):
+    READINGS = {
+        "A": "reference A", "string[]": "array(keyword)", "| A": "union(reference A)",
+        "A | B & C": "union(reference A, intersection(reference B, reference C))",
+        "() => A extends B ? C : D": "function(conditional(reference A, reference B, reference C, reference D))",
+        "T extends infer U extends number ? X : Y": "conditional(reference T, infer U(keyword), reference X, reference Y)",
+        "(infer U extends number ? X : Y)": "conditional(infer U, keyword, reference X, reference Y)",
+        "[A?, ...B[]]": "tuple(optional(reference A), rest(array(reference B)))",
+        "[a?: A, B]": "tuple(named a(reference A), reference B)",
+        "A<<T>() => T>": "reference A(function(type parameter T, reference T))",
+        "A\n[B]": "reference A", "new (this: A) => B": "constructor(reference B)"}
+
+    def test_rows(self):
+        for text, tree in self.READINGS.items():
+            r = read(text)
+            _, _, notes, end, key, _ = model.read(text.encode(), model.cut(text), 0, False)
+            self.assertEqual((shown(r.tree.root), [tuple(n) for n in r.notes], tuple(r.end), r.key), (tree, notes, end, key), text)
+            self.assertEqual(shown(typekey.take_back(r.key).root), tree, text)
+        self.assertEqual(read("A").key.hex(), "104004000504")
+        self.assertEqual(read("string[]").key.hex(), "11c270")
+        self.assertEqual(read("[a?: A, B]").notes, [Note(Diagnostic.RequiredAfter, 8, 9)])
+        self.assertEqual(str(read("new (this: A) => B").notes[0]), "diagnostic 3 (ConstructorThis): `this` on a constructor, at bytes 5 to 12")
+        with self.assertRaises(Refused) as x: read("T extends U ? : V")
+        self.assertEqual((x.exception.why, x.exception.number, x.exception.token, x.exception.half, x.exception.byte), (Why.Unexpected, 3, 4, 0, 14))
+
+    def test_brackets_and_starts(self):
+        self.assertEqual(read("(A)").key, read("A").key)
+        self.assertNotEqual(read("(A)", preserve_parens=True).key, read("A", preserve_parens=True).key)
+        self.assertEqual(read("A | B", start=2).key, read("B").key)
+
+
+class Refusals(unittest.TestCase):
+    def sentence(self, sentence, call, *given, **options):
+        with self.assertRaises(Refused) as x: call(*given, **options)
+        self.assertEqual(str(x.exception), sentence)
+
+    def test_sentences(self):
+        no_rule, no_list = "refusal 3 (Unexpected): a token that no rule takes, ", "refusal 1 (BadList): no tokens or too many, too long a text, or a start that is no token"
+        self.sentence(no_rule + "at token 4, byte 14", read, "T extends U ? : V")
+        self.sentence(no_rule + "behind the first half of token 1, byte 2", read, "A<=B>")
+        self.sentence("refusal 4 (Unsupported): a form that is not read, at token 0, byte 0", read, "{}")
+        self.sentence("refusal 5 (TooDeep): a 65th type rule open, at token 64, byte 64", read, "(" * 64 + "A")
+        self.sentence("refusal 6 (TooTall): a node higher than 256, at token 257, byte 1537", read, "keyof " * 256 + "A")
+        self.sentence("refusal 7 (TooLong): a list of more than 4,095 entries, at token 8191, byte 8191", read, "|".join("A" * 4096))
+        self.sentence("refusal 9 (ManyNotes): no record for another diagnostic, or a 33rd one, at token 132, byte 132", read, "[" + "A<>," * 33 + "]")
+        self.sentence("refusal 2 (BadToken): a word that is no good token, at token 0", typekey.read, b"A", [token(64, 0, 1), token(0, 1, 0)])
+        self.sentence("refusal 10 (BadKey): a field that is no part of a key, at bit 4", typekey.take_back, b"\x10\x00")
+        self.sentence("refusal 10 (BadKey): a field that is no part of a key, at bit 0", typekey.take_back, b"")
+        for start in (2, -1, 1 << 64, (1 << 64) + 1): self.sentence(no_list, read, "A", start=start)
+        self.sentence(no_list, typekey.read, b"", [])
+        self.sentence(no_list, typekey.read, b"a" * 65536, [token(0, 65536, 0)])
+        self.sentence(no_list, typekey.read, b"", [0] * 16385)
+
+    def test_rooms(self):
+        text, no_space = "A<B, C>", "refusal 11 (NoSpace): no space for the names, the key or the letters"
+        key = read(text, buffers=Buffers(12, 3, 0, 19)).key
+        self.assertEqual(len(key), 19)
+        self.sentence("refusal 8 (NoRoom): no room for another node, at token 6, byte 7", read, text, buffers=Buffers(11, 3, 0, 19))
+        self.sentence(no_space, read, text, buffers=Buffers(12, 2, 0, 19))
+        self.sentence(no_space, read, text, buffers=Buffers(12, 3, 0, 18))
+        self.sentence("refusal 8 (NoRoom): no room for another node, at bit 4", typekey.take_back, key, buffers=Buffers(0, 0, 0, 0))
+        self.sentence(no_space, typekey.take_back, key, buffers=Buffers(12, 3, 0, 2))
+
+    def test_null_slices(self):
+        answer = typekey._Answer(*[9] * 8)
+        typekey._library.typekey_read(None, 0, None, 0, 0, 0, None, 0, None, 0, None, 0, None, 0, answer)
+        self.assertEqual(list(answer), [1, 0, 0, 0, 0, 0, 0, 0])
+        answer = typekey._Answer(*[9] * 8)
+        typekey._library.typekey_take_back(None, 0, None, 0, None, 0, None, 0, answer)
+        self.assertEqual(list(answer), [10, 0, 0, 0, 0, 0, 0, 0])
+
+    def test_pickled(self):
+        with self.assertRaises(Refused) as x: read("A<=B>")
+        again = pickle.loads(pickle.dumps(x.exception))
+        self.assertEqual((str(again), again.byte, again.bit), (str(x.exception), 2, None))
+
+    def test_wrong_types(self):
+        for text in ("A", 5, None):
+            with self.assertRaises(TypeError): typekey.read(text, [0])
+        for tokens in ([-1], [1 << 64]):
+            with self.assertRaises(OverflowError): typekey.read(b"", tokens)
+        for fields in ((256, 0, 0), (1, 1 << 32, 0), (1, 0, 1 << 17), (-1, 0, 0)):
+            with self.assertRaises(ValueError): token(*fields)
+
+
+class Trees(unittest.TestCase):
+    def test_walk(self):
+        r = read("<T extends A>(this: B, ...c?: T[]) => asserts this")
+        self.assertEqual(["%d %s" % x for x in r.tree.walk()], [
+            "0 function 0..50", "1 type parameter 1..12", "2 reference 11..12", "1 reference 20..21", "1 parameter 23..33", "2 array 30..33",
+            "3 reference 30..31", "1 predicate 38..50"])
+        p = r.tree.root.get("parameter")
+        self.assertEqual([tuple(f) for f in p.fields()][:4], [("rest", 1, 1), ("name", b"c", 0), ("optional", 1, 1), ("has type", 1, 1)])
+        self.assertEqual((p.number, r.tree.root.number, r.tree.root.get("none")), (None, 12, None))
+
+    def test_nested_templates(self):
+        self.assertEqual(shown(read("`a${`b${X}c`}d${Y}e`").tree.root), "template `a${ }d${ }e`(template `b${ }c`(reference X), reference Y)")
+
+    def test_example(self):
+        """The example over typekey.py says what it prints."""
+        example = textwrap.dedent("\n".join(line for line in typekey.__doc__.split("\n") if line[:4] in ("    ", "")))
+        with contextlib.redirect_stdout(io.StringIO()) as said: exec(example, {})
+        self.assertEqual(said.getvalue().split("\n"), [read("A | B").key.hex(), " union 0..5", "   reference 0..1", "   reference 4..5", ""])
+
+    def test_kinds(self):
+        for kind, spelling in model.SPELL.items(): self.assertEqual((kind_of(spelling), kind_of(spelling.decode())), (kind, kind))
+        self.assertEqual([kind_of(s) for s in ("A", "$a", "#a", "public", "class", "@", "")], [1, 1, 1, 83, 107, 41, 41])
+        self.assertEqual(token(1, 2, 3, True), model.pack(1, 1, 2, 3))
+
+
+def dirty(*lengths):
+    b = Buffers(*lengths)
+    for part in (b.nodes, b.names, b.notes, b.letters): ctypes.memset(part, 255, ctypes.sizeof(part))
+    return b
+
+
+def sums(b):
+    """A sum over all of each buffer."""
+    def words(part):
+        used = bytes(part).rstrip(b"\0")
+        used += bytes(-len(used) % 8)
+        return sum_words(struct.unpack("<%dQ" % (len(used) // 8), used), len(part), 1)
+    return words(b.nodes), words(b.names), words(b.notes), sum_bytes(bytes(b.letters).rstrip(b"\0"), len(b.letters), 1)
+
+
+class Vectors(unittest.TestCase):
+    def reads(self, text, tokens, start, parens, lent):
+        """The eleven numbers of a reading, and its key where there is one."""
+        b = dirty(*lent)
+        try: r = typekey.read(text, tokens, start=start, preserve_parens=parens, buffers=b)
+        except Refused as x: return (x.number, x.token, x.half, x.byte, 0, 0, 0) + sums(b), None
+        self.assertEqual(written(r.tree), r.key)
+        return (0, r.tree.size, len(r.tree.name_words), len(r.notes), len(r.key), *r.end) + sums(b), r.key
+
+    def takes(self, key, lent):
+        """The eleven numbers of a key that is taken back."""
+        b = dirty(lent[0], lent[1], 0, lent[2])
+        try: t = typekey.take_back(key, buffers=b)
+        except Refused as x: answer = x.number, x.bit, 0, 0, 0, 0, 0
+        else:
+            self.assertEqual(written(t), key)
+            answer = 0, t.size, len(t.name_words), len(t.text), 0, 0, 0
+        a, c, _, d = sums(b)
+        return answer + (a, c, d, 0)
+
+    def test_stored(self):
+        """Every record of crates/rows/data/vectors (tools/rules_model.py says how one is laid out)."""
+        data = (ROOT / "crates" / "rows" / "data" / "vectors").read_bytes()
+        at = run = different = 0
+        while at < len(data):
+            op, start, text, words, nodes, names, notes, key, letters, *want = struct.unpack_from("<B19I", data, at)
+            at += 77
+            if op < 4:
+                t, w = data[at:at + text], struct.unpack_from("<%dQ" % words, data, at + text)
+                at += text + 8 * words
+                got, k = self.reads(t, w, start, op & 1, (nodes, names, notes, key))
+                if k is not None: self.assertEqual(written(typekey.take_back(k)), k)
+            else:
+                got = self.takes(data[at:at + key], (nodes, names, letters))
+                at += key
+            if list(got) != want:
+                print("record", run, "is", *got, "and should be", *want)
+                different += 1
+            run += 1
+        print("%d vectors, %d different" % (run, different))
+        self.assertTrue(run > 0 and different == 0)
+
+    def test_beside_the_model(self):
+        """Texts of a grammar, sound and damaged, and keys, sound and damaged: answers and all that is lent."""
+        cases = [c for c in rules_model.Cases(20260).generated(1500) if c]
+        for sort, text, words, start, parens, lent in cases:
+            got, key = self.reads(text, words, start, parens, lent)
+            self.assertEqual(got, rules_model.expected((sort, text, words, start, parens, lent)), text)
+            if key is None: continue
+            for k in (key, key[:-1], key + b"\0", bytes([key[0] ^ 1]) + key[1:], key[:len(key) // 2] + bytes([key[len(key) // 2] ^ 64]) + key[len(key) // 2 + 1:]):
+                lent = 400, 100, 200
+                self.assertEqual(self.takes(k, lent), rules_model.expected(("key", k, lent)), k.hex())
+        keys_model.seed(20260)
+        for _ in range(500):
+            k = model.key_of(keys_model.gen())
+            self.assertEqual(written(typekey.take_back(k)), k)
+        print("%d texts beside the model, 0 different" % len(cases))
+
+
+if __name__ == "__main__":
+    unittest.main()

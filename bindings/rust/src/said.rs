@@ -1,0 +1,172 @@
+//! What a call has to say beside the tree: refusals and diagnostics, by name and in words.
+use core::fmt;
+use core::ops::Range;
+
+/// Why a call was refused. The discriminant is the refusal's number.
+#[derive(Clone, Copy, Debug, PartialEq, Eq, Hash)]
+#[repr(u8)]
+pub enum Why {
+    /// The text or the number of tokens is over its limit, there are no tokens, or the start is none of them.
+    BadList = 1,
+    /// A word is no good token, or the list does not end with an Eof.
+    BadToken,
+    /// A token that no rule takes.
+    Unexpected,
+    /// A form that is not read.
+    Unsupported,
+    /// A 65th type rule would be open.
+    TooDeep,
+    /// A node would be higher than 256.
+    TooTall,
+    /// A list has more than 4,095 entries.
+    TooLong,
+    /// No room is left for a node.
+    NoRoom,
+    /// A diagnostic would be the 33rd, or no record is left for it.
+    ManyNotes,
+    /// The bytes are no key.
+    BadKey,
+    /// The names, the key or the letters do not fit.
+    NoSpace,
+}
+
+use Why::*;
+
+const WHY: [(Why, &str); 11] = [
+    (BadList, "no tokens or too many, too long a text, or a start that is no token"),
+    (BadToken, "a word that is no good token"),
+    (Unexpected, "a token that no rule takes"),
+    (Unsupported, "a form that is not read"),
+    (TooDeep, "a 65th type rule open"),
+    (TooTall, "a node higher than 256"),
+    (TooLong, "a list of more than 4,095 entries"),
+    (NoRoom, "no room for another node"),
+    (ManyNotes, "no record for another diagnostic, or a 33rd one"),
+    (BadKey, "a field that is no part of a key"),
+    (NoSpace, "no space for the names, the key or the letters"),
+];
+
+impl Why {
+    // The library has no other numbers.
+    pub(crate) fn of(number: usize) -> Why {
+        WHY[number - 1].0
+    }
+
+    /// The refusal's number.
+    pub const fn number(self) -> u8 {
+        self as u8
+    }
+
+    /// What it says, in words.
+    pub const fn words(self) -> &'static str {
+        WHY[self as usize - 1].1
+    }
+}
+
+/// Where a call was refused.
+#[derive(Clone, Copy, Debug, PartialEq, Eq, Hash)]
+pub enum Place {
+    /// In reading.
+    Token {
+        /// The token's index; 0 for `BadList` and `NoSpace`, which have no place.
+        token: usize,
+        /// Whether its first half was used, as the first `<` of `<<`.
+        half: bool,
+        /// The first byte not yet used, but 0 for `BadList`, `BadToken` and `NoSpace`.
+        byte: usize,
+    },
+    /// In taking a key back: the bit's number, from 0; 0 also for `NoSpace`, which has no place.
+    Bit(usize),
+}
+
+/// A refusal: why and where. It displays as a sentence.
+#[derive(Clone, Copy, Debug, PartialEq, Eq, Hash)]
+pub struct Refusal {
+    /// Why.
+    pub why: Why,
+    /// Where.
+    pub place: Place,
+}
+
+impl fmt::Display for Refusal {
+    fn fmt(&self, f: &mut fmt::Formatter) -> fmt::Result {
+        let Refusal { why, place } = *self;
+        write!(f, "refusal {} ({why:?}): {}", why.number(), why.words())?;
+        match place {
+            _ if matches!(why, BadList | NoSpace) => Ok(()),
+            Place::Bit(bit) => write!(f, ", at bit {bit}"),
+            Place::Token { token, .. } if why == BadToken => write!(f, ", at token {token}"),
+            Place::Token { token, half: false, byte } => write!(f, ", at token {token}, byte {byte}"),
+            Place::Token { token, half: true, byte } => {
+                write!(f, ", behind the first half of token {token}, byte {byte}")
+            }
+        }
+    }
+}
+
+impl core::error::Error for Refusal {}
+
+/// What is reported of a type that is read all the same. The discriminant is the diagnostic's number.
+#[derive(Clone, Copy, Debug, PartialEq, Eq, Hash)]
+#[repr(u8)]
+pub enum Diagnostic {
+    /// Type parameters with none between `<` and `>`.
+    NoTypeParameters = 1,
+    /// Arguments with none between `<` and `>`.
+    NoArguments,
+    /// A `this` parameter on a constructor.
+    ConstructorThis,
+    /// A required element somewhere after an optional one.
+    RequiredAfter,
+    /// Dots behind a label.
+    RestAfterLabel,
+    /// A `?` after the type behind a label.
+    OptionalAfterLabel,
+    /// An element that is optional and a rest.
+    OptionalRest,
+}
+
+use Diagnostic::*;
+
+const DIAGNOSTICS: [(Diagnostic, &str); 7] = [
+    (NoTypeParameters, "type parameters with none between the brackets"),
+    (NoArguments, "arguments with none between the brackets"),
+    (ConstructorThis, "`this` on a constructor"),
+    (RequiredAfter, "a required element after an optional one"),
+    (RestAfterLabel, "dots behind a label"),
+    (OptionalAfterLabel, "a `?` after the type behind a label"),
+    (OptionalRest, "an element that is optional and a rest"),
+];
+
+impl Diagnostic {
+    // The library has no other numbers.
+    pub(crate) fn of(number: u64) -> Diagnostic {
+        DIAGNOSTICS[number as usize - 1].0
+    }
+
+    /// The diagnostic's number.
+    pub const fn number(self) -> u8 {
+        self as u8
+    }
+
+    /// What it says, in words.
+    pub const fn words(self) -> &'static str {
+        DIAGNOSTICS[self as usize - 1].1
+    }
+}
+
+/// A diagnostic and the bytes that it is about. It displays as a sentence.
+#[derive(Clone, Debug, PartialEq, Eq, Hash)]
+pub struct Note {
+    /// What is reported.
+    pub what: Diagnostic,
+    /// Of which bytes of the text.
+    pub span: Range<usize>,
+}
+
+impl fmt::Display for Note {
+    fn fmt(&self, f: &mut fmt::Formatter) -> fmt::Result {
+        let Note { what, span } = self;
+        write!(f, "diagnostic {} ({what:?}): {}, at bytes {} to {}", what.number(), what.words(), span.start, span.end)
+    }
+}

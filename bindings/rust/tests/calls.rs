@@ -1,0 +1,290 @@
+//! The calls by example: document 01's twelve rows, refusals, empty and null slices, and walks.
+use typekey::*;
+
+/// Cuts a text of words and marks into tokens. It is for these tests alone: no strings, numbers, templates or comments.
+fn cut(text: &str) -> Vec<u64> {
+    const MARKS: [&str; 5] = ["<<=", "...", "<<", "<=", "=>"];
+    let (mut tokens, mut at, mut newline) = (Vec::new(), 0, false);
+    while at < text.len() {
+        let rest = &text[at..];
+        let word = rest.find(|c: char| !c.is_alphanumeric()).unwrap_or(rest.len());
+        let length = match MARKS.iter().find(|m| rest.starts_with(**m)) {
+            _ if word > 0 => word,
+            Some(mark) => mark.len(),
+            None => 1,
+        };
+        let spelling = &rest[..length];
+        if spelling.trim().is_empty() {
+            newline |= spelling == "\n";
+        } else {
+            tokens.push(token(kind_of(spelling.as_bytes()), newline, at as u32, length as u32));
+            newline = false;
+        }
+        at += length;
+    }
+    tokens.push(token(EOF, newline, at as u32, 0));
+    tokens
+}
+
+/// A node, its names and children: `union(reference A, reference B)`.
+fn shown(node: Node) -> String {
+    let names: String = node.names().map(|n| format!(" {}", str::from_utf8(n).unwrap())).collect();
+    let children: Vec<String> = node.children().map(shown).collect();
+    if children.is_empty() {
+        format!("{}{names}", node.tag)
+    } else {
+        format!("{}{names}({})", node.tag, children.join(", "))
+    }
+}
+
+fn key_of(text: &str, options: Options) -> Result<Vec<u8>, Refusal> {
+    read(text.as_bytes(), &cut(text), options, &mut Buffers::default()).map(|r| r.key.to_vec())
+}
+
+fn refused(text: &str) -> Refusal {
+    key_of(text, Options::default()).unwrap_err()
+}
+
+#[test]
+fn rows() {
+    let function = "function(type parameter T, reference T)";
+    let rows: [(&str, &str, &[u8], usize); 12] = [
+        ("A", "reference A", &[], 1),
+        ("string[]", "array(keyword)", &[], 3),
+        ("| A", "union(reference A)", &[], 2),
+        ("A | B & C", "union(reference A, intersection(reference B, reference C))", &[], 5),
+        (
+            "() => A extends B ? C : D",
+            "function(conditional(reference A, reference B, reference C, reference D))",
+            &[],
+            10,
+        ),
+        (
+            "T extends infer U extends number ? X : Y",
+            "conditional(reference T, infer U(keyword), reference X, reference Y)",
+            &[],
+            10,
+        ),
+        ("(infer U extends number ? X : Y)", "conditional(infer U, keyword, reference X, reference Y)", &[], 10),
+        ("[A?, ...B[]]", "tuple(optional(reference A), rest(array(reference B)))", &[], 9),
+        ("[a?: A, B]", "tuple(named a(reference A), reference B)", &[4], 8),
+        ("A<<T>() => T>", &format!("reference A({function})"), &[], 9),
+        ("A\n[B]", "reference A", &[], 1),
+        ("new (this: A) => B", "constructor(reference B)", &[3], 8),
+    ];
+    let (mut buffers, mut others) = (Buffers::default(), Buffers::default());
+    for (text, tree, notes, end) in rows {
+        let r = read(text.as_bytes(), &cut(text), Options::default(), &mut buffers).unwrap();
+        assert_eq!(shown(r.tree.root()), tree, "{text}");
+        assert_eq!(r.notes().map(|n| n.what.number()).collect::<Vec<_>>(), notes, "{text}");
+        assert_eq!(r.end, End { token: end, half: false }, "{text}");
+        assert_eq!(shown(take_back(r.key, &mut others).unwrap().root()), tree, "{text}");
+    }
+    assert_eq!(key_of("A", Options::default()).unwrap(), [0x10, 0x40, 0x04, 0x00, 0x05, 0x04]);
+    assert_eq!(key_of("string[]", Options::default()).unwrap(), [0x11, 0xC2, 0x70]);
+    let place = Place::Token { token: 4, half: false, byte: 14 };
+    assert_eq!(refused("T extends U ? : V"), Refusal { why: Why::Unexpected, place });
+}
+
+#[test]
+fn notes_say_what_and_where() {
+    let (text, mut buffers) = ("[a?: A, B]", Buffers::default());
+    let r = read(text.as_bytes(), &cut(text), Options::default(), &mut buffers).unwrap();
+    let notes: Vec<Note> = r.notes().collect();
+    assert_eq!(notes, [Note { what: Diagnostic::RequiredAfter, span: 8..9 }]);
+    let sentence = "diagnostic 4 (RequiredAfter): a required element after an optional one, at bytes 8 to 9";
+    assert_eq!(notes[0].to_string(), sentence);
+}
+
+#[test]
+fn brackets_and_starts() {
+    let kept = Options { preserve_parens: true, ..Options::default() };
+    assert_eq!(key_of("(A)", Options::default()), key_of("A", Options::default()));
+    assert_ne!(key_of("(A)", kept), key_of("A", kept));
+    let second = Options { start: 2, ..Options::default() };
+    assert_eq!(key_of("A | B", second), key_of("B", Options::default()));
+    assert_eq!(key_of("A", Options { start: 2, ..second }).unwrap_err().why, Why::BadList);
+}
+
+#[test]
+fn refusals_are_sentences() {
+    let cases = [
+        ("T extends U ? : V", "refusal 3 (Unexpected): a token that no rule takes, at token 4, byte 14"),
+        ("A<=B>", "refusal 3 (Unexpected): a token that no rule takes, behind the first half of token 1, byte 2"),
+        ("A | ?", "refusal 4 (Unsupported): a form that is not read, at token 2, byte 4"),
+    ];
+    for (text, sentence) in cases {
+        assert_eq!(refused(text).to_string(), sentence);
+    }
+    let deep = "(".repeat(64) + "A";
+    assert_eq!(refused(&deep).to_string(), "refusal 5 (TooDeep): a 65th type rule open, at token 64, byte 64");
+    assert_eq!(refused(&("keyof ".repeat(256) + "A")).why, Why::TooTall);
+    assert_eq!(refused(&vec!["A"; 4096].join("|")).why, Why::TooLong);
+    assert_eq!(refused(&format!("[{}]", "A<>,".repeat(33))).why, Why::ManyNotes);
+    let mut tokens = cut("A B");
+    tokens[1] = token(kind_of(b"any"), false, 2, 1);
+    let bad = read(b"A B", &tokens, Options::default(), &mut Buffers::default()).unwrap_err();
+    assert_eq!(bad.to_string(), "refusal 2 (BadToken): a word that is no good token, at token 1");
+    let bad = take_back(&[0x10, 0x00], &mut Buffers::default()).unwrap_err();
+    assert_eq!(bad.to_string(), "refusal 10 (BadKey): a field that is no part of a key, at bit 4");
+    let long = vec![b'a'; 65_536];
+    let bad = read(&long, &[token(EOF, false, 65_536, 0)], Options::default(), &mut Buffers::default()).unwrap_err();
+    assert_eq!((bad.why, bad.why.number()), (Why::BadList, 1));
+    let too_long = [token(WORD, false, 0, u32::MAX), token(EOF, false, 1, 0)];
+    let bad = read(b"a", &too_long, Options::default(), &mut Buffers::default()).unwrap_err();
+    assert_eq!(bad.why, Why::BadToken);
+}
+
+#[test]
+fn less_than_is_needed() {
+    let (text, tokens) = (b"A<B, C>", cut("A<B, C>"));
+    let none = |why, place| Some(Refusal { why, place });
+    let no_place = Place::Token { token: 0, half: false, byte: 0 };
+    for (words, names, bytes, want) in [
+        (12, 3, 64, None),
+        (11, 3, 64, none(Why::NoRoom, Place::Token { token: 6, half: false, byte: 7 })),
+        (12, 2, 64, none(Why::NoSpace, no_place)),
+        (12, 3, 5, none(Why::NoSpace, no_place)),
+    ] {
+        let (mut a, mut b, mut d) = ([9; 12], [9; 3], [9; 64]);
+        let lent = Lent { nodes: &mut a[..words], names: &mut b[..names], notes: &mut [], bytes: &mut d[..bytes] };
+        assert_eq!(read_into(text, &tokens, Options::default(), lent).err(), want);
+        if want.is_some() {
+            assert!(a[..words].iter().chain(&b[..names]).all(|w| *w == 0) && d[..bytes].iter().all(|x| *x == 0));
+        }
+    }
+    let key = key_of("A<B, C>", Options::default()).unwrap();
+    let bit = take_back_into(&key, Lent::default()).unwrap_err();
+    assert_eq!(bit, Refusal { why: Why::NoRoom, place: Place::Bit(4) });
+}
+
+#[test]
+fn nothing_is_a_refusal() {
+    let empty = read_into(&[], &[], Options::default(), Lent::default()).unwrap_err();
+    assert_eq!(
+        empty.to_string(),
+        "refusal 1 (BadList): no tokens or too many, too long a text, or a start that is no token"
+    );
+    assert_eq!(read(&[], &[], Options::default(), &mut Buffers::default()).unwrap_err(), empty);
+    let no_key = Refusal { why: Why::BadKey, place: Place::Bit(0) };
+    assert_eq!(take_back(&[], &mut Buffers::default()).unwrap_err(), no_key);
+    assert_eq!(take_back_into(&[], Lent::default()).unwrap_err(), no_key);
+}
+
+#[test]
+fn null_slices() {
+    use core::ptr::{null, null_mut};
+    type Words = *mut u64;
+    unsafe extern "C" {
+        #[rustfmt::skip]
+        fn typekey_read(
+            t: *const u8,
+            _: u64,
+            w: *const u64,
+            _: u64,
+            start: u64,
+            options: u64,
+            n: Words,
+            _: u64,
+            m: Words,
+            _: u64,
+            d: Words,
+            _: u64,
+            k: *mut u8,
+            _: u64,
+            answer: *mut [u64; 8],
+        );
+        #[rustfmt::skip]
+        fn typekey_take_back(
+            k: *const u8,
+            _: u64,
+            n: Words,
+            _: u64,
+            m: Words,
+            _: u64,
+            t: *mut u8,
+            _: u64,
+            answer: *mut [u64; 8],
+        );
+    }
+    let (n, mut answer) = (null_mut(), [9; 8]);
+    // SAFETY: slices of length 0 may be null.
+    unsafe { typekey_read(null(), 0, null(), 0, 0, 0, n, 0, n, 0, n, 0, null_mut(), 0, &mut answer) };
+    assert_eq!(answer, [1, 0, 0, 0, 0, 0, 0, 0]);
+    answer = [9; 8];
+    // SAFETY: as above.
+    unsafe { typekey_take_back(null(), 0, n, 0, n, 0, null_mut(), 0, &mut answer) };
+    assert_eq!(answer, [10, 0, 0, 0, 0, 0, 0, 0]);
+}
+
+#[test]
+fn a_walk() {
+    let text = "<T extends A>(this: B, ...c?: T[]) => asserts this";
+    let mut buffers = Buffers::default();
+    let r = read(text.as_bytes(), &cut(text), Options::default(), &mut buffers).unwrap();
+    let lines: Vec<String> = r.tree.walk().map(|(depth, n)| format!("{depth} {n}")).collect();
+    assert_eq!(
+        lines,
+        [
+            "0 function 0..50",
+            "1 type parameter 1..12",
+            "2 reference 11..12",
+            "1 reference 20..21",
+            "1 parameter 23..33",
+            "2 array 30..33",
+            "3 reference 30..31",
+            "1 predicate 38..50",
+        ]
+    );
+    let fields: Vec<String> = r.tree.root().fields().map(|f| f.name.to_string()).collect();
+    assert_eq!(
+        fields,
+        [
+            "has type parameters",
+            "type parameters",
+            "type parameter",
+            "has this",
+            "has this type",
+            "this type",
+            "parameters",
+            "parameter",
+            "returns",
+        ]
+    );
+    let Some(Value::Node(parameter)) = r.tree.root().get("parameter") else { panic!() };
+    assert!(matches!(parameter.get("rest"), Some(Value::Number { bits: 1, is: 1 })));
+    assert!(matches!(parameter.get("optional"), Some(Value::Number { bits: 1, is: 1 })));
+    assert!(matches!(parameter.get("name"), Some(Value::Name(b"c"))));
+    assert_eq!((parameter.tag, parameter.tag.number()), (Tag::Parameter, None));
+    assert_eq!(r.tree.root().tag.number(), Some(12));
+}
+
+#[test]
+fn pieces_of_nested_templates() {
+    let text = b"`a${`b${X}c`}d${Y}e`";
+    let tokens = [
+        token(TEMPLATE_HEAD, false, 0, 4),
+        token(TEMPLATE_HEAD, false, 4, 4),
+        token(WORD, false, 8, 1),
+        token(TEMPLATE_TAIL, false, 9, 3),
+        token(TEMPLATE_MIDDLE, false, 12, 4),
+        token(WORD, false, 16, 1),
+        token(TEMPLATE_TAIL, false, 17, 3),
+        token(EOF, false, 20, 0),
+    ];
+    let mut buffers = Buffers::default();
+    let r = read(text, &tokens, Options::default(), &mut buffers).unwrap();
+    assert_eq!(shown(r.tree.root()), "template `a${ }d${ }e`(template `b${ }c`(reference X), reference Y)");
+}
+
+#[test]
+fn kinds() {
+    for (spelling, kind) in [("{", 16), ("*", 40), ("@", 41), ("any", 64), ("unique", 82), ("public", 83)] {
+        assert_eq!(kind_of(spelling.as_bytes()), kind, "{spelling}");
+    }
+    for (spelling, kind) in [("extends", 96), ("const", 106), ("class", 107), ("A", 1), ("$a", 1), ("ä", 1), ("", 41)]
+    {
+        assert_eq!(kind_of(spelling.as_bytes()), kind, "{spelling}");
+    }
+    assert_eq!(token(1, true, 2, 3), 0x0180_0003_0000_0002);
+}
