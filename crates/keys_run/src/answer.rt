@@ -10,7 +10,10 @@ use key_in::back::take_back;
 use key_out::out::put_key;
 use lines::line::bytes;
 use lines::line::next;
+use lines::sum::begins;
+use lines::sum::dirty_bytes;
 use lines::sum::dirty_words;
+use lines::sum::of_bytes;
 use lines::sum::of_words;
 use visits::visits::walk;
 use words::limits::Tree;
@@ -19,7 +22,7 @@ use words::limits::Tree;
 fn left(nodes: &[u64], names: &[u64], text: &[u8]) -> u64 {
     let a = of_words(nodes, 1);
     let b = of_words(names, a);
-    sum::of_bytes(text, b)
+    of_bytes(text, b)
 }
 
 // The last node taken: the root.
@@ -37,7 +40,7 @@ fn same(again: &[u8], size: usize, key: &[u8]) -> u64 {
     if size != key.len() {
         return 0;
     }
-    if sum::begins(again, key) { 1 } else { 0 }
+    if begins(again, key) { 1 } else { 0 }
 }
 
 // Where op is 1, the nodes' positions are made dirty: no key holds them.
@@ -110,7 +113,7 @@ fn written(
     let size = put_key(nodes, names, text, last(count), Tree::TALLEST, again);
     let p = next(out, at, size as u64);
     let q = next(out, p, same(again, size, key));
-    let r = next(out, q, sum::of_bytes(again, 1));
+    let r = next(out, q, of_bytes(again, 1));
     walked(out, r, nodes, names, count, again.len())
 }
 
@@ -189,8 +192,8 @@ fn told(
 fn dirty(nodes: &mut [u64], names: &mut [u64], text: &mut [u8], again: &mut [u8]) {
     dirty_words(nodes);
     dirty_words(names);
-    sum::dirty_bytes(text);
-    sum::dirty_bytes(again);
+    dirty_bytes(text);
+    dirty_bytes(again);
 }
 
 // A record's line, without its end. The lent buffers are dirty before.

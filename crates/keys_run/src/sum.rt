@@ -1,19 +1,7 @@
-// Whole buffers: filled with dirt, summed up, compared.
+// Dirt where no key looks.
 ghost use mathlib.Core.Path.{_≡_};
 ghost use Prim.Native.Nat.{_<_, _≤_};
 ghost use lib.ListN.{length};
-
-// The largest prime below 2^32: sums are numbers below it.
-const PRIME: u64 = 4294967291;
-
-// All bits of each byte set.
-pub fn dirty_bytes(bytes: &mut [u8]) {
-    let mut i: usize = 0;
-    while i < bytes.len() {
-        bytes[i] = 255;
-        i += 1;
-    }
-}
 
 // Dirt in the second of each four words, where a node has its position.
 pub fn dirty_places(nodes: &mut [u64]) {
@@ -22,46 +10,4 @@ pub fn dirty_places(nodes: &mut [u64]) {
         nodes[i] = 18446744073709551615;
         i += 4;
     }
-}
-
-// A sum with one number more: 1,000,003 times the sum, and the number.
-fn more(sum: u64, x: u64) -> u64
-    requires { ⌜ (sum < 4294967291) × (x < 4294967296) ⌝ }
-    ensures { λ r. ⌜ r < 4294967291 ⌝ }
-{
-    (sum * 1000003 + x) % PRIME
-}
-
-fn wide(b: u8) -> u64
-    ensures { λ r. ⌜ r < 256 ⌝ }
-{
-    b as u64
-}
-
-pub fn of_bytes(bytes: &[u8], from: u64) -> u64
-    requires { ⌜ from < 4294967291 ⌝ }
-    ensures { λ r. ⌜ r < 4294967291 ⌝ }
-{
-    let mut sum = from;
-    let mut i: usize = 0;
-    while i < bytes.len() {
-        sum = more(sum, wide(bytes[i]));
-        i += 1;
-    }
-    sum
-}
-
-// Whether a buffer begins with the bytes of a key.
-pub fn begins(bytes: &[u8], key: &[u8]) -> bool {
-    if bytes.len() < key.len() {
-        return false;
-    }
-    let mut i: usize = 0;
-    while i < key.len() {
-        if bytes[i] != key[i] {
-            return false;
-        }
-        i += 1;
-    }
-    true
 }

@@ -1,4 +1,4 @@
-// Whole buffers of words: filled with dirt, and summed up.
+// Whole buffers of words and of bytes: filled with dirt, summed up, compared.
 ghost use mathlib.Core.Path.{_≡_};
 ghost use Prim.Native.Nat.{_<_, _≤_};
 ghost use lib.ListN.{length};
@@ -44,4 +44,48 @@ pub fn of_words(words: &[u64], from: u64) -> u64
         i += 1;
     }
     sum
+}
+
+// All bits of each byte set.
+pub fn dirty_bytes(bytes: &mut [u8]) {
+    let mut i: usize = 0;
+    while i < bytes.len() {
+        bytes[i] = 255;
+        i += 1;
+    }
+}
+
+fn wide(b: u8) -> u64
+    ensures { λ r. ⌜ r < 256 ⌝ }
+{
+    b as u64
+}
+
+// The bytes one after the other as one number.
+pub fn of_bytes(bytes: &[u8], from: u64) -> u64
+    requires { ⌜ from < 4294967291 ⌝ }
+    ensures { λ r. ⌜ r < 4294967291 ⌝ }
+{
+    let mut sum = from;
+    let mut i: usize = 0;
+    while i < bytes.len() {
+        sum = more(sum, wide(bytes[i]));
+        i += 1;
+    }
+    sum
+}
+
+// Whether a buffer begins with the bytes of a key.
+pub fn begins(bytes: &[u8], key: &[u8]) -> bool {
+    if bytes.len() < key.len() {
+        return false;
+    }
+    let mut i: usize = 0;
+    while i < key.len() {
+        if bytes[i] != key[i] {
+            return false;
+        }
+        i += 1;
+    }
+    true
 }

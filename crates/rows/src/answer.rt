@@ -2,10 +2,10 @@
 ghost use mathlib.Core.Path.{_≡_};
 ghost use Prim.Native.Nat.{_<_};
 ghost use lib.ListN.{length};
-use crate::sum::of_bytes;
 use lines::line::byte;
 use lines::line::bytes;
 use lines::line::next;
+use lines::sum::of_bytes;
 use lines::sum::of_words;
 use typekey::reading::Reading;
 use typekey::taking::Taking;

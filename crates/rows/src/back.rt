@@ -3,8 +3,9 @@ ghost use mathlib.Core.Path.{_≡_};
 ghost use Prim.Native.Nat.{_*_, _^_, _<_, _≤_};
 ghost use lib.ListN.{length};
 ghost use Rattle.fields.specs.Put.{far};
-use crate::sum;
 use key_out::out::put_key;
+use lines::sum::begins;
+use lines::sum::dirty_bytes;
 use lines::sum::dirty_words;
 use typekey::taking::Taking;
 use typekey::taking::take_back;
@@ -14,8 +15,8 @@ use words::limits::Tree;
 fn dirty(nodes: &mut [u64], names: &mut [u64], letters: &mut [u8], again: &mut [u8]) {
     dirty_words(nodes);
     dirty_words(names);
-    sum::dirty_bytes(letters);
-    sum::dirty_bytes(again);
+    dirty_bytes(letters);
+    dirty_bytes(again);
 }
 
 // The last node taken: the root.
@@ -33,7 +34,7 @@ fn is_key(again: &[u8], size: usize, key: &[u8]) -> bool {
     if size != key.len() {
         return false;
     }
-    sum::begins(again, key)
+    begins(again, key)
 }
 
 // Whether the key of a tree that stands in the words is this one.

@@ -10,13 +10,13 @@
 mod answer;
 mod back;
 mod record;
-mod sum;
 
 ghost use mathlib.Core.Path.{_≡_};
 ghost use Prim.Native.Nat.{_*_, _<_, _≤_};
 ghost use lib.ListN.{length};
 use crate::record::Asked;
 use lines::line;
+use lines::sum::dirty_bytes;
 use lines::sum::dirty_words;
 use typekey::reading::read;
 use typekey::taking::take_back;
@@ -40,7 +40,7 @@ fn dirty(nodes: &mut [u64], names: &mut [u64], notes: &mut [u64], key: &mut [u8]
     dirty_words(nodes);
     dirty_words(names);
     dirty_words(notes);
-    sum::dirty_bytes(key);
+    dirty_bytes(key);
 }
 
 // What the call that reads answers and leaves, after dirt.
@@ -95,7 +95,7 @@ fn read_by(
 fn taken_by(key: &[u8], nodes: &mut [u64], names: &mut [u64], letters: &mut [u8]) -> [u64; 11] {
     dirty_words(nodes);
     dirty_words(names);
-    sum::dirty_bytes(letters);
+    dirty_bytes(letters);
     let r = take_back(key, nodes, names, letters);
     answer::of_taking(r, nodes, names, letters)
 }

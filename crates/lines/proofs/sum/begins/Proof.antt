@@ -2,8 +2,8 @@
 use Prim.Native.Nat.{_≤_, _-_}
 use borrow.Author.Needs.{needs}
 use lib.ListN.{length}
-use Rattle.rows.proofs.sum.begins.Statement.{statement}
-use Rattle.rows.proofs.sum.begins.Tie as tie
+use Rattle.lines.proofs.sum.begins.Statement.{statement}
+use Rattle.lines.proofs.sum.begins.Tie as tie
 
 abbrev Inv-loop : tie.InvT-loop
 Inv-loop bytes key i₀ i = i ≤ length key

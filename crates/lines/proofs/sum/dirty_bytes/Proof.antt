@@ -3,8 +3,8 @@ use Prim.Native.Nat.{_≤_, _-_}
 use mathlib.Core.Path.{_≡_}
 use native.Mathlib.Omega.{arith}
 use lib.ListN.{length, length-set}
-use Rattle.rows.proofs.sum.dirty_bytes.Statement.{statement}
-use Rattle.rows.proofs.sum.dirty_bytes.Tie as tie
+use Rattle.lines.proofs.sum.dirty_bytes.Statement.{statement}
+use Rattle.lines.proofs.sum.dirty_bytes.Tie as tie
 
 abbrev Inv-loop : tie.InvT-loop
 Inv-loop bytes₀ i₀ bytes i = (i ≤ length bytes) × (length bytes ≡ length bytes₀)

@@ -2,8 +2,8 @@
 use Prim.Native.Nat.{_<_, _≤_, _-_}
 use borrow.Author.Needs.{needs}
 use lib.ListN.{length}
-use Rattle.rows.proofs.sum.of_bytes.Statement.{statement}
-use Rattle.rows.proofs.sum.of_bytes.Tie as tie
+use Rattle.lines.proofs.sum.of_bytes.Statement.{statement}
+use Rattle.lines.proofs.sum.of_bytes.Tie as tie
 
 abbrev Inv-loop : tie.InvT-loop
 Inv-loop bytes from sum₀ i₀ sum i = (sum < 4294967291) × (i ≤ length bytes)
