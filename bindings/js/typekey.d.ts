@@ -1,0 +1,108 @@
+/** Loads typekey.wasm: its bytes, a compiled module, or where it is (a URL, in Node also a path). By itself: beside this module. */
+export function load(source?: BufferSource | WebAssembly.Module | URL | string): Promise<TypeKey>;
+
+/** The library. It keeps nothing between calls; one instance serves one call at a time. A trap is thrown, and the instance thrown away. */
+export class TypeKey {
+  private constructor();
+  /** Reads a type from a text and its token words. */
+  read(text: string | Uint8Array, tokens: BigUint64Array | Iterable<bigint>, options?: { preserveParens?: boolean; start?: number }): Reading | ReadRefusal;
+  /** Takes a key back: the tree that it stands for. Positions in it are 0. */
+  takeBack(key: Uint8Array): Taken | KeyRefusal;
+  /** The call as C sees it, and all that was lent. Words are two halves each, the lower first. */
+  readInto(text: Uint8Array, tokens: BigUint64Array, start: number, options: number, room: { nodes: number; names: number; notes: number; key: number }):
+    { answer: number[]; nodes: Uint32Array; names: Uint32Array; notes: Uint32Array; key: Uint8Array };
+  takeBackInto(key: Uint8Array, room: { nodes: number; names: number; text: number }):
+    { answer: number[]; nodes: Uint32Array; names: Uint32Array; text: Uint8Array };
+  /** For tests: a byte that lent memory is filled with before each call. */
+  dirt: number | undefined;
+}
+
+export interface Reading {
+  ok: true;
+  key: Uint8Array;
+  tree: Tree;
+  diagnostics: Diagnostic[];
+  /** Where reading stopped: a token, and 1 if the first half of it was used. */
+  end: { token: number; half: number };
+}
+
+export interface Taken {
+  ok: true;
+  tree: Tree;
+}
+
+export interface ReadRefusal {
+  ok: false;
+  number: 1 | 2 | 3 | 4 | 5 | 6 | 7 | 8 | 9 | 11;
+  name: RefusalName;
+  token: number;
+  half: number;
+  /** The first byte not yet used; 0 for BadList, BadToken and NoSpace. */
+  byte: number;
+  sentence: string;
+}
+
+export interface KeyRefusal {
+  ok: false;
+  number: 6 | 8 | 10 | 11;
+  name: RefusalName;
+  bit: number;
+  sentence: string;
+}
+
+export type RefusalName =
+  | 'BadList' | 'BadToken' | 'Unexpected' | 'Unsupported' | 'TooDeep' | 'TooTall' | 'TooLong' | 'NoRoom' | 'ManyNotes' | 'BadKey' | 'NoSpace';
+
+export interface Diagnostic {
+  number: 1 | 2 | 3 | 4 | 5 | 6 | 7;
+  name: 'EmptyTypeParameters' | 'EmptyArguments' | 'ThisOnConstructor' | 'RequiredAfterOptional' | 'RestAfterLabel' | 'OptionalAfterLabel' | 'OptionalRest';
+  /** Bytes of the text. */
+  first: number;
+  end: number;
+  sentence: string;
+}
+
+/** A tree. Iterating gives its nodes in the key's order: each before its children. */
+export class Tree implements Iterable<Node> {
+  private constructor();
+  /** What spans point into: the text that was read, or the spellings of a key. */
+  text: Uint8Array;
+  readonly root: Node;
+  readonly nodes: readonly Node[];
+  [Symbol.iterator](): Iterator<Node>;
+  /** Goes through the key field by field: a width and a number, or 0 and the bytes of a spelling. */
+  fields(tell?: (width: number, value: number | Uint8Array) => void): Node[];
+}
+
+export type Tag =
+  | 'reference' | 'keyword' | 'literal' | 'parens' | 'union' | 'intersection' | 'array' | 'indexed' | 'conditional' | 'infer' | 'operator'
+  | 'function' | 'constructor' | 'mapped' | 'template' | 'predicate' | 'typeof' | 'import' | 'tuple' | 'optional' | 'rest' | 'named'
+  | 'non-null' | 'nullable' | 'type parameter' | 'parameter';
+
+export interface Node {
+  tag: Tag;
+  /** What it is to the node above, such as `extends`; `root` for the first. */
+  role: string;
+  depth: number;
+  /** Its bytes in the text; 0 and 0 in a tree that was taken back. */
+  first: number;
+  end: number;
+  /** What the node itself says: `word` of a keyword or operator, `sort` of a literal, `optional`, `rest`, `abstract`, … */
+  choices: Record<string, boolean | number | string>;
+  /** Names, literals and template pieces in the key's order, and where they stand in the tree's text. */
+  spellings: string[];
+  spans: { first: number; end: number }[];
+  children: Node[];
+  /** Its bits in the key. */
+  bits: { first: number; end: number };
+}
+
+/** The bytes of a text. Throws where UTF-8 cannot say it. */
+export function bytesOf(text: string | Uint8Array): Uint8Array;
+/** The index in a string of a byte of its UTF-8. */
+export function indexAt(text: string, byte: number): number;
+/** A token word: for a cutter of your own. */
+export function token(kind: number, start: number, length: number, newline?: boolean): bigint;
+export function toHex(key: Uint8Array, between?: string): string;
+/** Throws a SyntaxError that says what is wrong. */
+export function fromHex(text: string): Uint8Array;

@@ -1,0 +1,14 @@
+// Is to pass the TypeScript compiler, and no more: the declarations as a caller meets them.
+import { fromHex, load, toHex, type Diagnostic, type Node } from 'typekey';
+import { cut } from 'typekey/cut';
+
+const keys = await load(new Uint8Array());
+const text = 'A | B & C', a = keys.read(text, cut(text), { preserveParens: true });
+if (a.ok) {
+  const key: string = toHex(a.key), notes: Diagnostic[] = a.diagnostics, tags: string[] = [...a.tree].map((n: Node) => n.tag);
+  console.log(key, notes, tags, a.end.token);
+} else console.log(a.name, a.byte, a.sentence);
+const b = keys.takeBack(fromHex('11 c2 70'));
+console.log(b.ok ? b.tree.root.spellings : b.bit);
+// @ts-expect-error: a refusal has no tree
+console.log(b.tree);
