@@ -1,0 +1,88 @@
+-- The words tell the answer: no two answers that the calls give are told by the same words, since no refusal has the number 0.
+use mathlib.Core.Path.{_≡_, refl}
+use mathlib.Core.List.{List}
+use Prim.Native.Nat.{ℕ, _<_, _/_}
+use native.Mathlib.Omega.{arith}
+use Rattle.keys.specs.Form.{Bytes}
+use Rattle.keys.specs.Key as key
+use Rattle.keys.specs.Key.{Taken, taken, refused, takeKey}
+use Rattle.keys.specs.Limits.{recordWords}
+use Rattle.keys.specs.Store as store
+use Rattle.keys.specs.Store.{back, no, lent, takeBack}
+use Rattle.keys.specs.BitsLaws.{clash}
+use Rattle.keys.specs.Theorems as keys
+use Rattle.rules.specs.Read as rules
+use Rattle.rules.specs.Read.{reads, refuses}
+use Rattle.rules.specs.Call as call
+use Rattle.rules.specs.Call.{Call, left}
+use Rattle.rules.specs.Theorems as theorems
+use Rattle.typekey_c.specs.Words.{told, toldBack}
+
+-- ---- Reading
+
+Numbered : rules.Answer → Type 0
+Numbered a = (n i h b : ℕ) → a ≡ refuses n i h b → 0 < n
+
+above-zero : {tokens n p : ℕ} → call.IsRefusal tokens n p → 0 < n
+above-zero call.is-badList = omega arith
+above-zero (call.is-badToken l) = omega arith
+above-zero (call.is-rules a b l) = omega arith
+above-zero call.is-noSpace = omega arith
+
+apart : (a b : rules.Answer) → Numbered a → Numbered b → told a ≡ told b → a ≡ b
+unfolding Numbered
+apart (reads n m o i h k) (reads n' m' o' i' h' k') p q e = cc
+apart (reads n m o i h k) (refuses n' i' h' b') p q e =
+    let z : n' ≡ 0 = cc in
+    let l = q n' i' h' b' refl in clash (omega arith)
+apart (refuses n i h b) (reads n' m' o' i' h' k') p q e =
+    let z : n ≡ 0 = cc in
+    let l = p n i h b refl in clash (omega arith)
+apart (refuses n i h b) (refuses n' i' h' b') p q e = cc
+
+-- Two readings that are told by the same words have the same answer.
+pub told-apart : (c d : Call) → Bytes (c .text) → Bytes (d .text) → told (left c .answer) ≡ told (left d .answer) → left c .answer ≡ left d .answer
+unfolding Numbered
+told-apart c d x y e =
+    apart (left c .answer) (left d .answer)
+    (λ n i h b f. above-zero (theorems.refusals c x f))
+    (λ n i h b f. above-zero (theorems.refusals d y f))
+    e
+
+-- ---- Taking back
+
+NumberedBack : store.Answer → Type 0
+NumberedBack a = (n p : ℕ) → a ≡ no n p → 0 < n
+
+above-zero-back : {all n p : ℕ} → key.IsRefusal all n p → 0 < n
+above-zero-back (key.is-tooTall l) = omega arith
+above-zero-back (key.is-noRoom l) = omega arith
+above-zero-back (key.is-badKey l) = omega arith
+above-zero-back key.is-noSpace = omega arith
+
+apart-back : (a b : store.Answer) → NumberedBack a → NumberedBack b → toldBack a ≡ toldBack b → a ≡ b
+unfolding NumberedBack
+apart-back (back n m l) (back n' m' l') p q e = cc
+apart-back (back n m l) (no n' i') p q e =
+    let z : n' ≡ 0 = cc in
+    let h = q n' i' refl in clash (omega arith)
+apart-back (no n i) (back n' m' l') p q e =
+    let z : n ≡ 0 = cc in
+    let h = p n i refl in clash (omega arith)
+apart-back (no n i) (no n' i') p q e = cc
+
+numbered-back : (k : List ℕ) (a b c : ℕ) → NumberedBack (takeBack k a b c .answer)
+unfolding NumberedBack
+numbered-back k a b c n p e = by (takeKey (a / recordWords) b c k) refl e
+  where
+    by : (o : Taken) → takeKey (a / recordWords) b c k ≡ o → lent a b c o .answer ≡ no n p → 0 < n
+    by (taken t) i j = clash (cc)
+    by (refused w x) i j =
+        let same : w ≡ n = cc in
+        let l = above-zero-back (keys.refusals (a / recordWords) b c k i) in omega arith
+
+-- Two keys taken back that are told by the same words have the same answer.
+pub told-back-apart : (k k' : List ℕ) (a b c a' b' c' : ℕ) → toldBack (takeBack k a b c .answer) ≡ toldBack (takeBack k' a' b' c' .answer)
+    → takeBack k a b c .answer ≡ takeBack k' a' b' c' .answer
+told-back-apart k k' a b c a' b' c' e =
+    apart-back (takeBack k a b c .answer) (takeBack k' a' b' c' .answer) (numbered-back k a b c) (numbered-back k' a' b' c') e

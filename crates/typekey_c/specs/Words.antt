@@ -1,0 +1,68 @@
+-- The eight words by which an exported call tells its answer, and what it promises: they and all that is lent are the definition's.
+use mathlib.Core.Path.{_≡_, sym, ap, _∙_}
+use mathlib.Core.Bool.{Bool}
+use mathlib.Core.List.{List, [], _∷_}
+use Prim.Native.Nat.{ℕ, _%_}
+use lib.Dec.{eqb}
+use lib.ListN.{length}
+use Rattle.keys.specs.Store as store
+use Rattle.keys.specs.Store.{TakenBack, takeBack}
+use Rattle.rules.specs.Read as rules
+use Rattle.rules.specs.Read.{Called, read}
+use Rattle.typekey.specs.Reading.{Slice, lentOf}
+
+-- ---- Reading
+
+-- 0, nodes, names, diagnostics, bytes of key, the end's token and half; or a refusal's number, token, half and byte. Then zeros.
+abbrev pub told : rules.Answer → List ℕ
+told (rules.reads nodes names notes at half key) = 0 ∷ nodes ∷ names ∷ notes ∷ key ∷ at ∷ half ∷ 0 ∷ []
+told (rules.refuses number token half byte) = number ∷ token ∷ half ∷ byte ∷ 0 ∷ 0 ∷ 0 ∷ 0 ∷ []
+
+-- The lowest bit of the options is preserve_parens; the others say nothing.
+abbrev pub preserveParens : ℕ → Bool
+preserveParens options = eqb (options % 2) 1
+
+-- The answer's words and the final content of all that is lent are those of a call.
+pub record TellsIn (c : Called) (A N M O K : List ℕ) : Type 0 where
+  pub answer-is : A ≡ told (c .answer)
+  pub nodes-are : N ≡ c .nodeWords
+  pub names-are : M ≡ c .nameWords
+  pub notes-are : O ≡ c .noteWords
+  pub key-is : K ≡ c .key
+
+-- The promise, whatever the call is given and lent.
+abbrev pub Tells : (text tokens : Slice) (start options : ℕ) (nodes names notes key answer : Slice) → Type 0
+Tells text tokens start options nodes names notes key answer =
+    let c = read (text .entry .now) (tokens .entry .now) start (preserveParens options) (lentOf nodes names notes key) in
+    TellsIn c (answer .exit .now) (nodes .exit .now) (names .exit .now) (notes .exit .now) (key .exit .now)
+
+-- Nothing is left open: any two results that fit it coincide.
+pub one-told : {c : Called} {A N M O K A' N' M' O' K' : List ℕ} → TellsIn c A N M O K → TellsIn c A' N' M' O' K'
+    → (A ≡ A') × (N ≡ N') × (M ≡ M') × (O ≡ O') × (K ≡ K')
+one-told x y =
+    (x .answer-is ∙ sym (y .answer-is), x .nodes-are ∙ sym (y .nodes-are), x .names-are ∙ sym (y .names-are), x .notes-are ∙ sym (y .notes-are), x .key-is ∙ sym (y .key-is))
+
+-- ---- Taking back
+
+-- 0, nodes, names and bytes of text; or a refusal's number and bit. Then zeros.
+abbrev pub toldBack : store.Answer → List ℕ
+toldBack (store.back nodes names letters) = 0 ∷ nodes ∷ names ∷ letters ∷ 0 ∷ 0 ∷ 0 ∷ 0 ∷ []
+toldBack (store.no number place) = number ∷ place ∷ 0 ∷ 0 ∷ 0 ∷ 0 ∷ 0 ∷ 0 ∷ []
+
+-- The answer's words and the final content of all that is lent are those of a key taken back.
+pub record TellsBackIn (d : TakenBack) (A N M X : List ℕ) : Type 0 where
+  pub answer-is : A ≡ toldBack (d .answer)
+  pub nodes-are : N ≡ d .nodeWords
+  pub names-are : M ≡ d .nameWords
+  pub text-is : X ≡ d .text
+
+-- The promise, whatever the call is given and lent.
+abbrev pub TellsBack : (key nodes names text answer : Slice) → Type 0
+TellsBack key nodes names text answer =
+    let d = takeBack (key .entry .now) (length (nodes .entry .now)) (length (names .entry .now)) (length (text .entry .now)) in
+    TellsBackIn d (answer .exit .now) (nodes .exit .now) (names .exit .now) (text .exit .now)
+
+-- Nothing is left open: any two results that fit it coincide.
+pub one-told-back : {d : TakenBack} {A N M X A' N' M' X' : List ℕ} → TellsBackIn d A N M X → TellsBackIn d A' N' M' X' → (A ≡ A') × (N ≡ N') × (M ≡ M') × (X ≡ X')
+one-told-back x y =
+    (x .answer-is ∙ sym (y .answer-is), x .nodes-are ∙ sym (y .nodes-are), x .names-are ∙ sym (y .names-are), x .text-is ∙ sym (y .text-is))

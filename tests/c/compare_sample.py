@@ -1,0 +1,46 @@
+#!/usr/bin/env python3
+"""compare_sample.py FILE: holds the records that fuzz wrote against tools/model.py: each answer, and a sum over each lent slice."""
+import collections
+import os
+import struct
+import sys
+
+sys.path.insert(0, os.path.join(os.path.dirname(os.path.abspath(__file__)), "..", "..", "tools"))
+from rules_model import expected
+
+
+def records(data):
+    """Each record's case, as rules_model has it, and the eleven numbers that the library came to."""
+    at = 0
+    while at < len(data):
+        op, *n = struct.unpack_from("<B19I", data, at)
+        at += 77
+        start, text, tokens, nodes, names, notes, key, letters = n[:8]
+        if op == 4:
+            yield ("key", data[at:at + key], (nodes, names, letters)), tuple(n[8:])
+            at += key
+            continue
+        words = list(struct.unpack_from("<%dQ" % tokens, data, at + text))
+        yield ("read", data[at:at + text], words, start, op == 1, (nodes, names, notes, key)), tuple(n[8:])
+        at += text + 8 * tokens
+
+
+def main():
+    with open(sys.argv[1], "rb") as f:
+        data = f.read()
+    run, different = collections.Counter(), 0
+    for case, got in records(data):
+        want = expected(case)
+        run[case[0], want[0]] += 1
+        if want != got:
+            different += 1
+            if different <= 8:
+                print("DIFFERENT", case[0], case[1][:200], "lent", case[-1], "\n  library", *got, "\n  model  ", *want)
+    print("%d records, %d different" % (sum(run.values()), different))
+    for sort in ("read", "key"):
+        print(sort + ": " + ", ".join("%d answer %d" % (n, k[1]) for k, n in sorted(run.items()) if k[0] == sort))
+    sys.exit(different != 0)
+
+
+if __name__ == "__main__":
+    main()
