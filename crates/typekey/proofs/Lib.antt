@@ -1,4 +1,1 @@
-pub mod Fronts
-pub mod Finished
-pub mod Ruled
 pub mod Taken

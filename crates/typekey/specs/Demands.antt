@@ -1,5 +1,5 @@
 -- The three demands, sentence by sentence, of what a caller of the two open calls sees. A text or a key is a list of bytes; trees are compared as bare values, positions aside.
--- That what is seen is `left c` or `takeBack`, whatever is given and lent, is the promise of each call: `Reads` in Reading, `TakesBack` in Taking.
+-- That what is seen is `left c` or `takeBack`, whatever is given and lent, is the promise of each call: `Reads` in `calls/specs/Reading`, `TakesBack` in Taking.
 use mathlib.Core.Path.{_≡_, sym, ap, _∙_, subst}
 use mathlib.Core.Logic.{_↔_}
 use mathlib.Core.Bool.{true, false}
@@ -22,11 +22,11 @@ use Rattle.rules.specs.State.{State}
 use Rattle.rules.specs.Read.{granted, refuses, Called, written}
 use Rattle.rules.specs.Call.{Call, left, grants, keyLeft, Granted, Kept, AllZero, IsRefusal}
 use Rattle.rules.specs.Theorems as rules
-use Rattle.typekey.specs.Reading as reading
+use Rattle.calls.specs.Reading as reading
 use Rattle.typekey.specs.Taking as taking
-use Rattle.typekey.specs.declared.reading.Reading.{Reading}
-use Rattle.typekey.specs.declared.reading.Reading.the-variants as reads
-use Rattle.typekey.specs.declared.reading.Reading.the-variants.{Read}
+use Rattle.calls.specs.declared.reading.Reading.{Reading}
+use Rattle.calls.specs.declared.reading.Reading.the-variants as reads
+use Rattle.calls.specs.declared.reading.Reading.the-variants.{Read}
 use Rattle.typekey.specs.declared.taking.Taking.{Taking}
 use Rattle.typekey.specs.declared.taking.Taking.the-variants as takes
 use Rattle.typekey.specs.declared.taking.Taking.the-variants.{Taken}

@@ -4,9 +4,9 @@ use mathlib.Core.List.{List}
 use Prim.Native.Nat.{ℕ}
 use Rattle.keys.specs.Store.{TakenBack}
 use Rattle.rules.specs.Read.{Called}
-use Rattle.typekey.specs.Reading as reading
+use Rattle.calls.specs.Reading as reading
 use Rattle.typekey.specs.Taking as taking
-use Rattle.typekey.specs.declared.reading.Reading.{Reading}
+use Rattle.calls.specs.declared.reading.Reading.{Reading}
 use Rattle.typekey.specs.declared.taking.Taking.{Taking}
 use Rattle.typekey_c.specs.Words.{told, TellsIn, toldBack, TellsBackIn}
 

@@ -26,7 +26,7 @@ use Rattle.parts.specs.Marks.{noteAt, notingWords, notesOf, view, Sound, Spelt}
 use Rattle.parts.specs.Laid.{runIn, wasAt, Laid}
 use Rattle.parts.specs.LaidLaws.{length-notes}
 use Rattle.parts.specs.declared.state.Mark.{Mark}
-use Rattle.typekey.specs.Reading.{HeldIn}
+use Rattle.calls.specs.Reading.{HeldIn}
 
 -- ---- A list that passed the check
 

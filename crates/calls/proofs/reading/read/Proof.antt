@@ -1,10 +1,10 @@
 -- The call is what the check says of it: a reading of a sound list, or a refusal.
 use mathlib.Core.Path.{sym, ap, _∙_}
 use Rattle.words.specs.Verdict.{verdict}
-use Rattle.typekey.proofs.Ruled.{reads-bad}
+use Rattle.calls.proofs.Ruled.{reads-bad}
 use borrow.Author.Needs.{needs}
-use Rattle.typekey.proofs.reading.read.Statement.{statement}
-use Rattle.typekey.proofs.reading.read.Tie as tie
+use Rattle.calls.proofs.reading.read.Statement.{statement}
+use Rattle.calls.proofs.reading.read.Tie as tie
 
 check-requires : tie.Need-check-requires
 check-requires c κs = search needs

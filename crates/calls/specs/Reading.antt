@@ -17,9 +17,9 @@ use Rattle.keys.specs.Holds.{Stands}
 use Rattle.rules.specs.Read.{Lent, lend, denied, withKey, Answer, reads, refuses, Called, written, read}
 use Rattle.parts.specs.Marks.{view}
 use Rattle.parts.specs.declared.state.Mark.{Mark}
-use Rattle.typekey.specs.declared.reading.Reading.{Reading}
-use Rattle.typekey.specs.declared.reading.Reading.the-variants.{Read, Refused}
-use Rattle.typekey.specs.declared.reading.Refused as declared
+use Rattle.calls.specs.declared.reading.Reading.{Reading}
+use Rattle.calls.specs.declared.reading.Reading.the-variants.{Read, Refused}
+use Rattle.calls.specs.declared.reading.Refused as declared
 
 -- A slice at a function's two moments.
 abbrev pub Slice : Type 0

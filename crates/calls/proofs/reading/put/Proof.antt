@@ -4,10 +4,10 @@ use native.Mathlib.Omega.{arith}
 use lib.ListN.{take}
 use lib.Seq.{length-take-le}
 use Rattle.keys.specs.StoreLaws.{zeros}
-use Rattle.typekey.proofs.Fronts.{wrote-all, wrote-front, short-front}
+use Rattle.calls.proofs.Fronts.{wrote-all, wrote-front, short-front}
 use borrow.Author.Needs.{needs}
-use Rattle.typekey.proofs.reading.put.Statement.{statement}
-use Rattle.typekey.proofs.reading.put.Tie as tie
+use Rattle.calls.proofs.reading.put.Statement.{statement}
+use Rattle.calls.proofs.reading.put.Tie as tie
 
 put-key-requires : tie.Need-put-key-requires
 put-key-requires c κs = search needs

@@ -5,10 +5,10 @@ use lib.ListN.{length}
 use Rattle.key_out.specs.KeyedLaws.{bytes-of}
 use Rattle.rules.specs.Read.{lend}
 use Rattle.rules.specs.TokenLaws.{start-there}
-use Rattle.typekey.proofs.Ruled.{sound-list, spelt-list, reading-from, same-lent, few-used, noted-in, held, reads-read, reads-refused}
+use Rattle.calls.proofs.Ruled.{sound-list, spelt-list, reading-from, same-lent, few-used, noted-in, held, reads-read, reads-refused}
 use borrow.Author.Needs.{needs}
-use Rattle.typekey.proofs.reading.read_noting.Statement.{statement}
-use Rattle.typekey.proofs.reading.read_noting.Tie as tie
+use Rattle.calls.proofs.reading.read_noting.Statement.{statement}
+use Rattle.calls.proofs.reading.read_noting.Tie as tie
 
 class-words-requires : tie.Need-class-words-requires
 class-words-requires c κs = search needs

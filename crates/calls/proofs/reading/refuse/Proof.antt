@@ -1,9 +1,9 @@
 -- Every slice is cleared.
 use mathlib.Core.Path.{refl}
-use Rattle.typekey.proofs.Finished.{called-is}
+use Rattle.calls.proofs.Finished.{called-is}
 use borrow.Author.Needs.{needs}
-use Rattle.typekey.proofs.reading.refuse.Statement.{statement}
-use Rattle.typekey.proofs.reading.refuse.Tie as tie
+use Rattle.calls.proofs.reading.refuse.Statement.{statement}
+use Rattle.calls.proofs.reading.refuse.Tie as tie
 
 clear-words-requires : tie.Need-clear-words-requires
 clear-words-requires c κs = search needs

@@ -3,10 +3,10 @@ use mathlib.Core.Path.{refl}
 use native.Mathlib.Omega.{arith}
 use lib.ListN.{length}
 use Rattle.parts.specs.Marks.{view}
-use Rattle.typekey.proofs.Finished.{same-key-lent, comes-none, no-names, no-bytes, finished}
+use Rattle.calls.proofs.Finished.{same-key-lent, comes-none, no-names, no-bytes, finished}
 use borrow.Author.Needs.{needs}
-use Rattle.typekey.proofs.reading.finish.Statement.{statement}
-use Rattle.typekey.proofs.reading.finish.Tie as tie
+use Rattle.calls.proofs.reading.finish.Statement.{statement}
+use Rattle.calls.proofs.reading.finish.Tie as tie
 
 no-space-requires : tie.Need-no-space-requires
 no-space-requires c κs = search needs

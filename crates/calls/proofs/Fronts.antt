@@ -12,7 +12,7 @@ use Rattle.keys.specs.Store.{filled}
 use Rattle.fields.specs.Put.{far, fitted}
 use Rattle.fields.specs.PutLaws.{fitted-whole}
 use Rattle.key_out.specs.Out.{Keyed}
-use Rattle.typekey.specs.Reading.{WroteIn}
+use Rattle.calls.specs.Reading.{WroteIn}
 
 drop-copies : (m n : ℕ) → drop {A = ℕ} m (replicate n 0) ≡ replicate (n - m) 0
 drop-copies zero n = ap (λ (x : ℕ). replicate {A = ℕ} x 0) (let z : n ≡ n - 0 = omega arith in z)

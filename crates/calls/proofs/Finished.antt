@@ -22,9 +22,9 @@ use Rattle.rules.specs.Read.{Lent, lend, Answer, Called, reads, denied, fits, w
 use Rattle.parts.specs.Marks.{notesOf, view}
 use Rattle.parts.specs.LaidLaws.{length-notes}
 use Rattle.parts.specs.declared.state.Mark.{Mark}
-use Rattle.typekey.specs.Reading.{seen, HeldIn, WroteIn, NoSpace}
-use Rattle.typekey.specs.declared.reading.Reading.the-variants.{Read}
-use Rattle.typekey.specs.declared.reading.Refused as declared
+use Rattle.calls.specs.Reading.{seen, HeldIn, WroteIn, NoSpace}
+use Rattle.calls.specs.declared.reading.Reading.the-variants.{Read}
+use Rattle.calls.specs.declared.reading.Refused as declared
 
 -- Calls that leave the same.
 pub called-is : {a b : Answer} {n m o k n' m' o' k' : List ℕ} → a ≡ b → n ≡ n' → m ≡ m' → o ≡ o' → k ≡ k'
