@@ -1,0 +1,168 @@
+// Places of a text: line and column, and the source line with carets under some of its bytes.
+ghost use Prim.Native.Nat.{_<_, _≤_};
+ghost use lib.ListN.{length};
+use crate::put::Shape;
+use crate::put::byte_at;
+use crate::put::copy;
+use crate::put::count;
+use crate::put::goes_on;
+use crate::put::least;
+use crate::put::more;
+use crate::put::numbered;
+use crate::put::since;
+use crate::put::until;
+use lines::line::byte;
+use lines::line::bytes;
+
+// A line and a column, both from 1 on; columns count characters.
+pub struct Place {
+    pub line: usize,
+    pub column: usize,
+}
+
+// The place of a byte, where the text's first line has a number.
+pub fn place_of(text: &[u8], at: usize, first_line: usize) -> Place {
+    let start = since(text, at, b'\n');
+    Place {
+        line: std::num::wrapping_add_usize(first_line, count(text, 0, at, b'\n')),
+        column: more(count(text, start, at, 0)),
+    }
+}
+
+// ` at line 1, column 15`
+pub fn told(out: &mut [u8], at: usize, p: Place) -> usize
+    requires { ⌜ at < length (now out) ⌝ }
+    ensures { λ r. ⌜ r < length (now (out .exit)) ⌝ }
+{
+    let q = numbered(out, at, b" at line ", p.line);
+    numbered(out, q, b", column ", p.column)
+}
+
+// ` at 1:15`
+pub fn short(out: &mut [u8], at: usize, p: Place) -> usize
+    requires { ⌜ at < length (now out) ⌝ }
+    ensures { λ r. ⌜ r < length (now (out .exit)) ⌝ }
+{
+    let q = numbered(out, at, b" at ", p.line);
+    numbered(out, q, b":", p.column)
+}
+
+// `"line":1,"column":15`
+pub fn json(out: &mut [u8], at: usize, p: Place) -> usize
+    requires { ⌜ at < length (now out) ⌝ }
+    ensures { λ r. ⌜ r < length (now (out .exit)) ⌝ }
+{
+    let q = numbered(out, at, b"\"line\":", p.line);
+    numbered(out, q, b",\"column\":", p.column)
+}
+
+// Where the part of a line that is shown begins: at most 60 bytes before a byte.
+fn from(start: usize, at: usize) -> usize {
+    if at < start {
+        return start;
+    }
+    if at - start <= 60 {
+        return start;
+    }
+    at - 60
+}
+
+// Where it ends: at most 60 bytes behind that.
+fn to(end: usize, at: usize) -> usize {
+    if end <= at {
+        return end;
+    }
+    if end - at <= 60 {
+        return end;
+    }
+    at + 60
+}
+
+// Past a byte that goes on with a character.
+fn past(text: &[u8], at: usize) -> usize {
+    if goes_on(byte_at(text, at)) {
+        return more(at);
+    }
+    at
+}
+
+// The next index where a character begins.
+fn aligned(text: &[u8], at: usize) -> usize {
+    past(text, past(text, past(text, at)))
+}
+
+// Dots, or as many blanks, where a line is cut.
+fn cut_mark(out: &mut [u8], at: usize, is_cut: bool, mark: &[u8]) -> usize
+    requires { ⌜ at < length (now out) ⌝ }
+    ensures { λ r. ⌜ r < length (now (out .exit)) ⌝ }
+{
+    if is_cut {
+        return bytes(out, at, mark);
+    }
+    at
+}
+
+// A source line, or the part of it from one byte up to another.
+fn shown(
+    out: &mut [u8],
+    at: usize,
+    text: &[u8],
+    start: usize,
+    a: usize,
+    e: usize,
+    end: usize,
+) -> usize
+    requires { ⌜ at < length (now out) ⌝ }
+    ensures { λ r. ⌜ r < length (now (out .exit)) ⌝ }
+{
+    let p = bytes(out, at, b"  ");
+    let q = cut_mark(out, p, a != start, b"...");
+    let r = copy(out, q, text, a, e, Shape::SOURCE);
+    let s = cut_mark(out, r, e != end, b"...");
+    byte(out, s, b'\n')
+}
+
+// The caret of a byte at the end of a line.
+fn lone(out: &mut [u8], at: usize, first: usize, end: usize) -> usize
+    requires { ⌜ at < length (now out) ⌝ }
+    ensures { λ r. ⌜ r < length (now (out .exit)) ⌝ }
+{
+    if first < end {
+        return at;
+    }
+    byte(out, at, b'^')
+}
+
+// The line under it: carets from a byte up to another, one at least.
+fn carets(
+    out: &mut [u8],
+    at: usize,
+    text: &[u8],
+    start: usize,
+    a: usize,
+    first: usize,
+    end: usize,
+) -> usize
+    requires { ⌜ at < length (now out) ⌝ }
+    ensures { λ r. ⌜ r < length (now (out .exit)) ⌝ }
+{
+    let p = bytes(out, at, b"  ");
+    let q = cut_mark(out, p, a != start, b"   ");
+    let r = copy(out, q, text, a, first, Shape::BEFORE);
+    let s = copy(out, r, text, first, end, Shape::CARET);
+    let t = lone(out, s, first, end);
+    byte(out, t, b'\n')
+}
+
+// The source line of a byte, with carets from it up to another byte of the line.
+pub fn source(out: &mut [u8], at: usize, text: &[u8], first: usize, end: usize) -> usize
+    requires { ⌜ at < length (now out) ⌝ }
+    ensures { λ r. ⌜ r < length (now (out .exit)) ⌝ }
+{
+    let start = since(text, first, b'\n');
+    let stop = until(text, first, b'\n');
+    let a = aligned(text, from(start, first));
+    let e = aligned(text, to(stop, first));
+    let p = shown(out, at, text, start, a, e, stop);
+    carets(out, p, text, start, a, first, least(end, e))
+}

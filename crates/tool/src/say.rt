@@ -1,0 +1,118 @@
+// Refusals, diagnostics and tags in words.
+ghost use Prim.Native.Nat.{_<_};
+ghost use lib.ListN.{length};
+use crate::put::more;
+use crate::put::pick;
+use crate::put::thrice;
+use words::cursor::word_at;
+
+// The name of a refusal.
+pub fn refusal(out: &mut [u8], at: usize, number: usize) -> usize
+    requires { ⌜ at < length (now out) ⌝ }
+    ensures { λ r. ⌜ r < length (now (out .exit)) ⌝ }
+{
+    pick(
+        out,
+        at,
+        b"|BadList|BadToken|Unexpected|Unsupported|TooDeep|TooTall|TooLong|NoRoom|ManyNotes|BadKey|NoSpace|",
+        number,
+    )
+}
+
+// What the first refusals mean in a reading.
+fn early(out: &mut [u8], at: usize, number: usize) -> usize
+    requires { ⌜ at < length (now out) ⌝ }
+    ensures { λ r. ⌜ r < length (now (out .exit)) ⌝ }
+{
+    pick(
+        out,
+        at,
+        b"|the text has over 65,535 bytes or over 16,384 tokens|a word with a backslash is not read|no rule takes this token|this form is not read|",
+        number,
+    )
+}
+
+// What the others mean, from 5 on.
+fn late(out: &mut [u8], at: usize, number: usize) -> usize
+    requires { ⌜ at < length (now out) ⌝ }
+    ensures { λ r. ⌜ r < length (now (out .exit)) ⌝ }
+{
+    pick(
+        out,
+        at,
+        b"a type here would be the 65th open|the tree would be over 256 nodes high|a list has over 4,095 entries|no room is left for a node|there would be over 32 diagnostics|this field is not as a key has it|the key or its spellings do not fit the space|",
+        number,
+    )
+}
+
+// What a refusal means; `ends` where it is at the text's end.
+pub fn why(out: &mut [u8], at: usize, number: usize, ends: bool) -> usize
+    requires { ⌜ at < length (now out) ⌝ }
+    ensures { λ r. ⌜ r < length (now (out .exit)) ⌝ }
+{
+    if 5 <= number {
+        return late(out, at, number - 5);
+    }
+    if number == 3 {
+        if ends {
+            return lines::line::bytes(out, at, b"the text ends here, and the type does not");
+        }
+    }
+    early(out, at, number)
+}
+
+// A diagnostic in words.
+pub fn diagnostic(out: &mut [u8], at: usize, number: usize) -> usize
+    requires { ⌜ at < length (now out) ⌝ }
+    ensures { λ r. ⌜ r < length (now (out .exit)) ⌝ }
+{
+    pick(
+        out,
+        at,
+        b"|empty type parameters|empty arguments|this on a constructor|required element after an optional one|rest after a label|? after a labelled type|optional and rest|",
+        number,
+    )
+}
+
+// The name of a tag; 25 is a type parameter, 26 a parameter.
+pub fn tag(out: &mut [u8], at: usize, number: usize) -> usize
+    requires { ⌜ at < length (now out) ⌝ }
+    ensures { λ r. ⌜ r < length (now (out .exit)) ⌝ }
+{
+    pick(
+        out,
+        at,
+        b"|reference|keyword|literal|parens|union|intersection|array|indexed|conditional|infer|operator|function|constructor|mapped|template|predicate|typeof|import|tuple|optional|rest|named|non-null|nullable|type parameter|parameter|",
+        number,
+    )
+}
+
+// The word of a keyword, after a space.
+pub fn keyword(out: &mut [u8], at: usize, number: usize) -> usize
+    requires { ⌜ at < length (now out) ⌝ }
+    ensures { λ r. ⌜ r < length (now (out .exit)) ⌝ }
+{
+    pick(
+        out,
+        at,
+        b" any| bigint| boolean| never| null| number| object| string| symbol| this| undefined| unknown| void|",
+        number,
+    )
+}
+
+// A diagnostic: its number, its first byte and its end byte.
+pub struct Note {
+    pub number: usize,
+    pub first: usize,
+    pub end: usize,
+}
+
+// The diagnostic of an index among the words of diagnostics.
+pub fn note_at(notes: &[u64], index: usize) -> Note {
+    let i = thrice(index);
+    Note {
+        number: word_at(notes, i) as usize,
+        first: word_at(notes, more(i)) as usize,
+        end: word_at(notes, more(more(i))) as usize,
+    }
+}

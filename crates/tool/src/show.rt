@@ -1,0 +1,612 @@
+// What a reading came to, in the form that is asked for.
+ghost use mathlib.Core.Path.{_≡_};
+ghost use Prim.Native.Nat.{_<_, _≤_};
+ghost use lib.ListN.{length};
+use crate::ask::Form;
+use crate::cut::cut;
+use crate::json;
+use crate::place;
+use crate::place::place_of;
+use crate::put::Shape;
+use crate::put::copy;
+use crate::put::least;
+use crate::put::numbered;
+use crate::put::part;
+use crate::put::part_words;
+use crate::say;
+use crate::say::Note;
+use crate::say::note_at;
+use crate::tree;
+use lines::line::byte;
+use lines::line::bytes;
+use typekey::reading::Counts;
+use typekey::reading::Reading;
+use typekey::reading::Refused;
+use typekey::reading::read;
+use visits::visits::walk;
+use words::cursor::word_at;
+use words::limits::Tree;
+use words::token;
+
+// How a type is read and printed: the form, brackets, the most nodes and bytes of key to lend, the number of the text's first line.
+pub struct Job {
+    pub form: usize,
+    pub parens: bool,
+    pub room: usize,
+    pub space: usize,
+    pub line: usize,
+}
+
+// The first byte that the end cursor has not used.
+fn end_byte(tokens: &[u64], c: Counts) -> usize {
+    std::num::wrapping_add_usize(token::start(word_at(tokens, c.at)), c.half)
+}
+
+// Whether nothing is left.
+fn is_whole(tokens: &[u64], at: usize) -> bool {
+    token::kind(word_at(tokens, at)) == 0
+}
+
+// ---- A type that was read
+
+// `ok` and the key.
+pub fn ok_key(out: &mut [u8], at: usize, key: &[u8], n: usize) -> usize
+    requires { ⌜ at < length (now out) ⌝ }
+    ensures { λ r. ⌜ r < length (now (out .exit)) ⌝ }
+{
+    let p = bytes(out, at, b"ok ");
+    copy(out, p, key, 0, n, Shape::HEX)
+}
+
+// How many diagnostics, if there are any.
+fn noted(out: &mut [u8], at: usize, n: usize) -> usize
+    requires { ⌜ at < length (now out) ⌝ }
+    ensures { λ r. ⌜ r < length (now (out .exit)) ⌝ }
+{
+    if n == 0 {
+        return at;
+    }
+    numbered(out, at, b" diagnostics ", n)
+}
+
+// Where reading stopped, if that is before the end.
+fn stopped(out: &mut [u8], at: usize, text: &[u8], tokens: &[u64], c: Counts, line: usize) -> usize
+    requires { ⌜ at < length (now out) ⌝ }
+    ensures { λ r. ⌜ r < length (now (out .exit)) ⌝ }
+{
+    if is_whole(tokens, c.at) {
+        return at;
+    }
+    let p = bytes(out, at, b" rest");
+    place::short(out, p, place_of(text, end_byte(tokens, c), line))
+}
+
+// The line of a key: diagnostics and a rest are said behind it.
+fn key_line(
+    out: &mut [u8],
+    at: usize,
+    text: &[u8],
+    tokens: &[u64],
+    key: &[u8],
+    c: Counts,
+    line: usize,
+) -> usize
+    requires { ⌜ at < length (now out) ⌝ }
+    ensures { λ r. ⌜ r < length (now (out .exit)) ⌝ }
+{
+    let p = ok_key(out, at, key, c.key);
+    let q = noted(out, p, c.notes);
+    let r = stopped(out, q, text, tokens, c, line);
+    byte(out, r, b'\n')
+}
+
+// A diagnostic with its source line.
+fn note(out: &mut [u8], at: usize, text: &[u8], n: Note, line: usize) -> usize
+    requires { ⌜ at < length (now out) ⌝ }
+    ensures { λ r. ⌜ r < length (now (out .exit)) ⌝ }
+{
+    let p = bytes(out, at, b"diagnostic: ");
+    let q = say::diagnostic(out, p, n.number);
+    let r = place::told(out, q, place_of(text, n.first, line));
+    let s = byte(out, r, b'\n');
+    place::source(out, s, text, n.first, n.end)
+}
+
+// The first n diagnostics.
+fn diagnostics(
+    out: &mut [u8],
+    at: usize,
+    notes: &[u64],
+    n: usize,
+    text: &[u8],
+    line: usize,
+) -> usize
+    requires { ⌜ at < length (now out) ⌝ }
+    ensures { λ r. ⌜ r < length (now (out .exit)) ⌝ }
+{
+    let mut p = at;
+    let mut i: usize = 0;
+    while i < n {
+        p = note(out, p, text, note_at(notes, i), line);
+        i += 1;
+    }
+    p
+}
+
+// A line on what was not read.
+fn rest(out: &mut [u8], at: usize, text: &[u8], tokens: &[u64], c: Counts, line: usize) -> usize
+    requires { ⌜ at < length (now out) ⌝ }
+    ensures { λ r. ⌜ r < length (now (out .exit)) ⌝ }
+{
+    if is_whole(tokens, c.at) {
+        return at;
+    }
+    let first = end_byte(tokens, c);
+    let p = bytes(out, at, b"rest");
+    let q = place::told(out, p, place_of(text, first, line));
+    let r = numbered(out, q, b" (token ", c.at);
+    let s = bytes(out, r, b"): the type ends before this\n");
+    place::source(out, s, text, first, token::end(word_at(tokens, c.at)))
+}
+
+// All of it: the key, the tree, diagnostics, and what was not read.
+fn all(
+    out: &mut [u8],
+    at: usize,
+    text: &[u8],
+    tokens: &[u64],
+    nodes: &[u64],
+    names: &[u64],
+    visits: &[u64],
+    size: usize,
+    notes: &[u64],
+    key: &[u8],
+    c: Counts,
+    line: usize,
+) -> usize
+    requires { ⌜ at < length (now out) ⌝ }
+    ensures { λ r. ⌜ r < length (now (out .exit)) ⌝ }
+{
+    let p = key_line(out, at, text, tokens, key, c, line);
+    let q = tree::tree(out, p, nodes, names, text, visits, size, false);
+    let r = diagnostics(out, q, notes, c.notes, text, line);
+    rest(out, r, text, tokens, c, line)
+}
+
+fn in_json(
+    out: &mut [u8],
+    at: usize,
+    text: &[u8],
+    tokens: &[u64],
+    nodes: &[u64],
+    names: &[u64],
+    visits: &[u64],
+    size: usize,
+    notes: &[u64],
+    key: &[u8],
+    c: Counts,
+    line: usize,
+) -> usize
+    requires { ⌜ at < length (now out) ⌝ }
+    ensures { λ r. ⌜ r < length (now (out .exit)) ⌝ }
+{
+    let p = json::key(out, at, key, c.key);
+    let q = json::end(
+        out,
+        p,
+        c.at,
+        c.half,
+        end_byte(tokens, c),
+        is_whole(tokens, c.at),
+        text,
+        line,
+    );
+    let r = json::diagnostics(out, q, notes, c.notes, text, line);
+    let s = json::tree(out, r, nodes, names, text, visits, size, false);
+    bytes(out, s, b"}\n")
+}
+
+// The root of so many nodes.
+pub fn root(count: usize) -> usize
+    ensures { λ r. ⌜ r < 4294967296 ⌝ }
+{
+    if count == 0 {
+        return 0;
+    }
+    (count - 1) % 4294967296
+}
+
+// How many words the visits of so many nodes and names have at most: seven visits a node, one a name.
+pub fn visit_words(nodes: usize, names: usize) -> usize {
+    21 * least(nodes, 1_000_000) + 3 * least(names, 1_000_000)
+}
+
+// A form that shows the tree, whose visits have so many words.
+fn formed(
+    out: &mut [u8],
+    at: usize,
+    text: &[u8],
+    tokens: &[u64],
+    nodes: &[u64],
+    names: &[u64],
+    visits: &[u64],
+    size: usize,
+    notes: &[u64],
+    key: &[u8],
+    c: Counts,
+    job: Job,
+) -> usize
+    requires { ⌜ at < length (now out) ⌝ }
+    ensures { λ r. ⌜ r < length (now (out .exit)) ⌝ }
+{
+    if job.form == Form::TREE {
+        return tree::tree(out, at, nodes, names, text, visits, size, false);
+    }
+    if job.form == Form::JSON {
+        return in_json(
+            out,
+            at,
+            text,
+            tokens,
+            nodes,
+            names,
+            visits,
+            size,
+            notes,
+            key,
+            c,
+            job.line,
+        );
+    }
+    all(
+        out,
+        at,
+        text,
+        tokens,
+        nodes,
+        names,
+        visits,
+        size,
+        notes,
+        key,
+        c,
+        job.line,
+    )
+}
+
+fn walked(
+    out: &mut [u8],
+    at: usize,
+    text: &[u8],
+    tokens: &[u64],
+    nodes: &[u64],
+    names: &[u64],
+    visits: &mut [u64],
+    notes: &[u64],
+    key: &[u8],
+    c: Counts,
+    job: Job,
+) -> usize
+    requires { ⌜ (at < length (now out)) × (length (now visits) ≤ 393216) ⌝ }
+    ensures { λ r. ⌜ r < length (now (out .exit)) ⌝ }
+{
+    let size = walk(nodes, names, root(c.nodes), Tree::TALLEST, visits);
+    formed(
+        out,
+        at,
+        text,
+        tokens,
+        nodes,
+        names,
+        visits,
+        size,
+        notes,
+        key,
+        c,
+        job,
+    )
+}
+
+fn granted(
+    out: &mut [u8],
+    at: usize,
+    text: &[u8],
+    tokens: &[u64],
+    nodes: &[u64],
+    names: &[u64],
+    visits: &mut [u64],
+    notes: &[u64],
+    key: &[u8],
+    c: Counts,
+    job: Job,
+) -> usize
+    requires { ⌜ (at < length (now out)) × (length (now visits) ≤ 393216) ⌝ }
+    ensures { λ r. ⌜ r < length (now (out .exit)) ⌝ }
+{
+    if job.form == Form::KEY {
+        return key_line(out, at, text, tokens, key, c, job.line);
+    }
+    let n = part_words(visit_words(c.nodes, c.names), visits);
+    walked(
+        out,
+        at,
+        text,
+        tokens,
+        nodes,
+        names,
+        &mut visits[..n],
+        notes,
+        key,
+        c,
+        job,
+    )
+}
+
+// ---- A refusal
+
+// The byte that a refusal is at: a bad token's first byte, which the call leaves out.
+fn refused_at(tokens: &[u64], x: Refused) -> usize {
+    if x.number == 2 {
+        return token::start(word_at(tokens, x.token));
+    }
+    x.byte
+}
+
+// Whether a refusal has a place.
+fn is_placed(number: usize) -> bool {
+    match number {
+        1 | 11 => false,
+        _ => true,
+    }
+}
+
+// ` at line 1, column 15 (token 4)`, if there is a place.
+fn placed(out: &mut [u8], at: usize, text: &[u8], first: usize, x: Refused, line: usize) -> usize
+    requires { ⌜ at < length (now out) ⌝ }
+    ensures { λ r. ⌜ r < length (now (out .exit)) ⌝ }
+{
+    if !is_placed(x.number) {
+        return at;
+    }
+    let p = place::told(out, at, place_of(text, first, line));
+    let q = numbered(out, p, b" (token ", x.token);
+    byte(out, q, b')')
+}
+
+fn pointed(
+    out: &mut [u8],
+    at: usize,
+    text: &[u8],
+    tokens: &[u64],
+    first: usize,
+    x: Refused,
+) -> usize
+    requires { ⌜ at < length (now out) ⌝ }
+    ensures { λ r. ⌜ r < length (now (out .exit)) ⌝ }
+{
+    if !is_placed(x.number) {
+        return at;
+    }
+    place::source(out, at, text, first, token::end(word_at(tokens, x.token)))
+}
+
+// The line of a refusal: its name, its place, what it means.
+fn refused_words(
+    out: &mut [u8],
+    at: usize,
+    text: &[u8],
+    first: usize,
+    x: Refused,
+    ends: bool,
+    line: usize,
+) -> usize
+    requires { ⌜ at < length (now out) ⌝ }
+    ensures { λ r. ⌜ r < length (now (out .exit)) ⌝ }
+{
+    let p = bytes(out, at, b"refused: ");
+    let q = say::refusal(out, p, x.number);
+    let r = placed(out, q, text, first, x, line);
+    let s = bytes(out, r, b": ");
+    let t = say::why(out, s, x.number, ends);
+    byte(out, t, b'\n')
+}
+
+fn refused_all(
+    out: &mut [u8],
+    at: usize,
+    text: &[u8],
+    tokens: &[u64],
+    x: Refused,
+    line: usize,
+) -> usize
+    requires { ⌜ at < length (now out) ⌝ }
+    ensures { λ r. ⌜ r < length (now (out .exit)) ⌝ }
+{
+    let first = refused_at(tokens, x);
+    let p = refused_words(out, at, text, first, x, is_whole(tokens, x.token), line);
+    pointed(out, p, text, tokens, first, x)
+}
+
+fn refused_line(
+    out: &mut [u8],
+    at: usize,
+    text: &[u8],
+    tokens: &[u64],
+    x: Refused,
+    line: usize,
+) -> usize
+    requires { ⌜ at < length (now out) ⌝ }
+    ensures { λ r. ⌜ r < length (now (out .exit)) ⌝ }
+{
+    let p = bytes(out, at, b"refused ");
+    let q = say::refusal(out, p, x.number);
+    let r = place::short(out, q, place_of(text, refused_at(tokens, x), line));
+    byte(out, r, b'\n')
+}
+
+// Where a refusal is, for JSON.
+fn refused_place(out: &mut [u8], at: usize, x: Refused, first: usize) -> usize
+    requires { ⌜ at < length (now out) ⌝ }
+    ensures { λ r. ⌜ r < length (now (out .exit)) ⌝ }
+{
+    let p = numbered(out, at, b",\"token\":", x.token);
+    let q = numbered(out, p, b",\"half\":", x.half);
+    let r = numbered(out, q, b",\"byte\":", first);
+    byte(out, r, b',')
+}
+
+fn refused_json(
+    out: &mut [u8],
+    at: usize,
+    text: &[u8],
+    tokens: &[u64],
+    x: Refused,
+    line: usize,
+) -> usize
+    requires { ⌜ at < length (now out) ⌝ }
+    ensures { λ r. ⌜ r < length (now (out .exit)) ⌝ }
+{
+    let first = refused_at(tokens, x);
+    let p = json::refusal(out, at, x.number, is_whole(tokens, x.token));
+    let q = refused_place(out, p, x, first);
+    let r = place::json(out, q, place_of(text, first, line));
+    bytes(out, r, b"}}\n")
+}
+
+fn refused(out: &mut [u8], at: usize, text: &[u8], tokens: &[u64], x: Refused, job: Job) -> usize
+    requires { ⌜ at < length (now out) ⌝ }
+    ensures { λ r. ⌜ r < length (now (out .exit)) ⌝ }
+{
+    if job.form == Form::KEY {
+        return refused_line(out, at, text, tokens, x, job.line);
+    }
+    if job.form == Form::JSON {
+        return refused_json(out, at, text, tokens, x, job.line);
+    }
+    refused_all(out, at, text, tokens, x, job.line)
+}
+
+// ---- The reading
+
+// Reads a type on just what is lent, and prints what it came to.
+fn reads(
+    out: &mut [u8],
+    at: usize,
+    text: &[u8],
+    tokens: &[u64],
+    nodes: &mut [u64],
+    names: &mut [u64],
+    visits: &mut [u64],
+    notes: &mut [u64],
+    key: &mut [u8],
+    job: Job,
+) -> usize
+    requires { ⌜ (at < length (now out)) × (length (now visits) ≤ 393216) ⌝ }
+    ensures { λ r. ⌜ r < length (now (out .exit)) ⌝ }
+{
+    let r = read(text, tokens, 0, job.parens, nodes, names, notes, key);
+    match r {
+        Reading::Read(c) => {
+            return granted(
+                out,
+                at,
+                text,
+                tokens,
+                nodes,
+                names,
+                visits,
+                notes,
+                key,
+                c,
+                job,
+            );
+        }
+        Reading::Refused(x) => {
+            return refused(out, at, text, tokens, x, job);
+        }
+    }
+}
+
+// The words for nodes that so many tokens can need, and no more than asked.
+fn node_words(tokens: usize, room: usize) -> usize {
+    4 * least(least(tokens, 1_000_000) + 4, least(room, 1_000_000))
+}
+
+// The bytes for a key that a text and its tokens can need, and no more than asked.
+fn key_bytes(text: usize, tokens: usize, space: usize) -> usize {
+    least(
+        least(text, 1_000_000) + 12 * least(tokens, 1_000_000) + 16,
+        space,
+    )
+}
+
+// Lends by need.
+fn lent(
+    out: &mut [u8],
+    at: usize,
+    text: &[u8],
+    tokens: &[u64],
+    nodes: &mut [u64],
+    names: &mut [u64],
+    visits: &mut [u64],
+    notes: &mut [u64],
+    key: &mut [u8],
+    job: Job,
+) -> usize
+    requires { ⌜ (at < length (now out)) × (length (now visits) ≤ 393216) ⌝ }
+    ensures { λ r. ⌜ r < length (now (out .exit)) ⌝ }
+{
+    let a = part_words(node_words(tokens.len(), job.room), nodes);
+    let b = part_words(tokens.len(), names);
+    let k = part(key_bytes(text.len(), tokens.len(), job.space), key);
+    reads(
+        out,
+        at,
+        text,
+        tokens,
+        &mut nodes[..a],
+        &mut names[..b],
+        visits,
+        notes,
+        &mut key[..k],
+        job,
+    )
+}
+
+// The words of 32 diagnostics.
+fn note_room() -> [u64; 96]
+    ensures { λ r. ⌜ 96 ≡ length r ⌝ }
+{
+    [0; 96]
+}
+
+// Cuts a text, reads it and prints what it came to.
+pub fn shown(
+    out: &mut [u8],
+    at: usize,
+    text: &[u8],
+    words: &mut [u64],
+    nodes: &mut [u64],
+    names: &mut [u64],
+    visits: &mut [u64],
+    key: &mut [u8],
+    job: Job,
+) -> usize
+    requires { ⌜ (at < length (now out)) × (length (now visits) ≤ 393216) ⌝ }
+    ensures { λ r. ⌜ r < length (now (out .exit)) ⌝ }
+{
+    let mut notes = note_room();
+    let n = cut(text, words);
+    lent(
+        out,
+        at,
+        text,
+        &words[..n],
+        nodes,
+        names,
+        visits,
+        &mut notes,
+        key,
+        job,
+    )
+}

@@ -1,0 +1,93 @@
+#!/usr/bin/env python3
+"""Keeps what docs/TOOL.md and the gate show of the tool as the tool prints it, run over target/bin/typekey (build_tool.sh).
+
+    tool_doc.py           run each command of docs/TOOL.md and write its output below it; write crates/tool/stdin and stdout
+    tool_doc.py --check   say whether all three are as this would write them, and write nothing
+
+A command is a line that begins `$ ` in a block of the page; what the tool prints for it stands below, up to the next one
+or the end of the block. The gate runs the tool on crates/tool/stdin with crates/tool/args: the twelve rows, then a text for
+each refusal that a line can meet, and one for each diagnostic.
+"""
+import os
+import subprocess
+import sys
+
+ROOT = os.path.dirname(os.path.dirname(os.path.abspath(__file__)))
+sys.path.insert(0, os.path.join(ROOT, "tools"))
+import model
+
+TOOL = os.path.join(ROOT, "target", "bin", "typekey")
+ENV = dict(os.environ, PATH=os.path.dirname(TOOL) + ":" + os.environ["PATH"])
+
+# ---- the gate's run
+LINES = model.ROWS + [
+    "A|" * 8200 + "A",                                              # 1
+    r"A | b\u0063d",                                                # 2
+    "A |", "A<=B>", "(A", "A B",                                    # 3, 3 in a half, 3 at the end, a rest
+    "{ a: B }", "(a = 1) => A", "<const T>() => A",                 # 4
+    "(" * 64 + "A",                                                 # 5
+    "A" + "!" * 256,                                                # 6
+    "A|" * 4095 + "A",                                              # 7
+    "[" + "A," * 4000 + "] | [" + "A," * 300 + "]",                 # 8, with the room that args lend
+    "A" + "<>|A" * 33,                                              # 9
+    '"' + "a" * 800 + '"',                                          # 11, with the space that args lend
+    "<>() => A", "A<>", "new (this) => A", "[A?, B]", "[a: ...B]", "[a: B?]", "[...a?: B]",
+    "(infer U extends A<> ? X : Y)",                                # a trial that is undone reports once
+    "A<string.b, -1n, `x${typeof import('m').y}z`>[0]!",
+    "abstract new <T extends U = V>(a?: B, ...c: D) => asserts x is E",
+    "{ -readonly [K in keyof T as `${K}s`]+?: T[K] }",
+    "(this, a) => this is A /* a comment */ // and one more",
+]
+
+
+def run(args, data):
+    return subprocess.run([TOOL] + args, input=data, stdout=subprocess.PIPE, stderr=subprocess.DEVNULL, check=True).stdout
+
+
+def gate():
+    at = os.path.join(ROOT, "crates", "tool")
+    words = open(os.path.join(at, "args")).read().split()
+    data = "".join(t.replace("\n", "\r") + "\n" for t in LINES).encode()
+    return {os.path.join(at, "stdin"): data, os.path.join(at, "stdout"): run(words, data)}
+
+
+# ---- the page
+def shell(command):
+    r = subprocess.run(["sh", "-c", command], env=ENV, cwd=ROOT, stdout=subprocess.PIPE, stderr=subprocess.STDOUT)
+    return r.stdout.decode()
+
+
+def page():
+    at = os.path.join(ROOT, "docs", "TOOL.md")
+    out, inside, skip = [], False, False
+    for line in open(at).read().split("\n"):
+        if line.startswith("```"):
+            inside, skip = not inside, False
+        if inside and line.startswith("$ "):
+            out.append(line)
+            out.extend(shell(line[2:]).rstrip("\n").split("\n"))
+            skip = True
+        elif not skip:
+            out.append(line)
+    return {at: "\n".join(out).encode()}
+
+
+def main():
+    if sys.argv[1:] not in ([], ["--check"]):
+        sys.exit(__doc__)
+    if not os.path.exists(TOOL):
+        sys.exit("no target/bin/typekey: run tools/build_tool.sh")
+    wrong = 0
+    for path, want in {**gate(), **page()}.items():
+        have = open(path, "rb").read() if os.path.exists(path) else None
+        name = os.path.relpath(path, ROOT)
+        if sys.argv[1:]:
+            wrong += have != want
+            print(name, "as it should be" if have == want else "DIFFERENT")
+        elif have != want:
+            open(path, "wb").write(want)
+            print("wrote", name)
+    sys.exit(wrong != 0)
+
+
+main()
