@@ -11,7 +11,7 @@ again: move it away to have its new skeleton.
 """
 import glob, os, re, sys
 
-RANKS = {12: 'ret_ty elem then other rename', 11: 'ty', 10: 'function cond', 9: 'sig union',
+RANKS = {12: 'child ret elem', 11: 'ty', 10: 'function', 9: 'union',
          8: 'params tparams inter', 7: 'plist tparam operator', 6: 'param infer postfix',
          5: 'primary suffix', 4: 'pred named mapped tuple parens template', 3: 'targs extends opt'}
 RANK = {name: r for r, names in RANKS.items() for name in names.split()}
@@ -48,7 +48,7 @@ def answer(need, readers, asks):
     """Numbers by omega, the table of classes and the sound list as they were given; `?` for what a law has to say."""
     m = re.match(r'(.*?)-requires(-\d+)?$', need)
     if m:
-        parts = ['@pre .1 .0' if 'classWords' in a else '@pre .1 .1' if a.startswith('Sound') else 'omega arith' for a in asks.get(m.group(1), [])]
+        parts = ['@pre .1 .classes-are' if 'classWords' in a else '@pre .1 .sound' if a.startswith('Sound') else 'ready (@pre .1) (omega arith) (omega arith)' if a.startswith('Ready') else 'omega arith' for a in asks.get(m.group(1), [])]
         if not parts: return 'search needs'
         whole = parts[0] if len(parts) == 1 else '(%s)' % ', '.join(parts)
         return '(omega arith, %s)' % whole if m.group(1) in readers else whole
@@ -90,13 +90,13 @@ def base(members, uses, source):
     for x in members:
         k = kebab(x)
         taken = [p.split(':')[0].strip() for p in re.search(r'fn ' + x + r'\(([^)]*)\)', source).group(1).split(',') if p.strip()]
-        mark = 'a' + ' .1' * taken.index('t' if x == 'sig' else 'm') + ' .0' + (' .m' if x == 'sig' else '')
-        out.append('abbrev pub μ-%s : Measures 5 %s-kinds.ps ℕ' % (k, k))
-        out.append('μ-%s κs a = (length (a .0 .now) * 2 - (%s .at * 2 + %s .half)) * 13 + %d\n' % (k, mark, mark, RANK[x]))
+        mark = 'a' + ' .1' * taken.index('m') + ' .0'
+        out.append('abbrev pub μ-%s : Measures 6 %s-kinds.ps ℕ' % (k, k))
+        out.append('μ-%s κs a = (length (a .1 .0 .now) * 2 - (%s .at * 2 + %s .half)) * 13 + %d\n' % (k, mark, mark, RANK[x]))
     for x in members:
         k = kebab(x)
-        out.append('abbrev pub %s-at : ℕ → In 5 %s-kinds.ps\n%s-at t = and 5 %s-kinds.ps (is 5 %s-kinds.ps μ-%s t) %s.Pre\n' % (k, k, k, k, k, k, k))
-        out.append('abbrev pub %s-below : ℕ → In 5 %s-kinds.ps\n%s-below t = and 5 %s-kinds.ps (falls 5 %s-kinds.ps _<_ μ-%s t) %s.Pre\n' % (k, k, k, k, k, k, k))
+        out.append('abbrev pub %s-at : ℕ → In 6 %s-kinds.ps\n%s-at t = and 6 %s-kinds.ps (is 6 %s-kinds.ps μ-%s t) %s.Pre\n' % (k, k, k, k, k, k, k))
+        out.append('abbrev pub %s-below : ℕ → In 6 %s-kinds.ps\n%s-below t = and 6 %s-kinds.ps (falls 6 %s-kinds.ps _<_ μ-%s t) %s.Pre\n' % (k, k, k, k, k, k, k))
     return '\n'.join(out)
 
 

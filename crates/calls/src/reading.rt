@@ -156,7 +156,7 @@ fn read_noting(
         named: 0,
         noted: 0,
     };
-    let a = ty(tokens, &classes, nodes, names, noting, given, true, m);
+    let a = ty(text, tokens, &classes, nodes, names, noting, given, true, m);
     let q = a.m;
     if a.why != 0 {
         let place = Cursor {

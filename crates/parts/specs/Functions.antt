@@ -21,7 +21,7 @@ use Rattle.rules.specs.Function.{ThisParameter, Parameters}
 use Rattle.parts.specs.Marks.{view, givenOf, nextMark, pastMark}
 use Rattle.parts.specs.Laid.{runIn, runOpt, runs, runsOpt, IsNode, IsOpt, AllNodes, AllOpt, Was, BuiltAt}
 use Rattle.parts.specs.Says.{Says, isThere}
-use Rattle.parts.specs.Nodes.{optList, LinksOpt}
+use Rattle.parts.specs.Nodes.{optList}
 use Rattle.parts.specs.Named.{oneName}
 use Rattle.parts.specs.Lists.{here}
 use Rattle.parts.specs.declared.state.Given.{Given}
@@ -117,10 +117,15 @@ abbrev pub freedMark : Bool → Mark → Mark → Mark
 freedMark true s q = record { at = q .at; half = q .half; used = s .used; named = s .named; noted = q .noted }
 freedMark false s q = q
 
--- The children after a `this`, which are as before it if it is a constructor's.
-abbrev pub ThisKids : (isNew : Bool) (k : Kids) (used : ℕ) (a : Answer) (N : List ℕ) (r : Kids) (N' : List ℕ) → Type 0
-ThisKids true k used a N r N' = (r ≡ k) × (N' ≡ N)
-ThisKids false k used a N r N' = LinksOpt k used (a .m .used) (a .high) N r N'
+-- The children before a `this` to which its type is linked: a constructor's is no child.
+abbrev pub beforeThis : (isNew : Bool) → Kids → Kids
+beforeThis true k = record { first = 0; count = 0; high = 0 }
+beforeThis false k = k
+
+-- The children after it: those before it, if it is a constructor's.
+abbrev pub behindThis : (isNew : Bool) → (before after : Kids) → Kids
+behindThis true before after = before
+behindThis false before after = after
 
 -- How many nodes are in use then.
 abbrev pub freedUsed : Bool → ℕ → ℕ → ℕ

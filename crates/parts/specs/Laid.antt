@@ -44,6 +44,11 @@ abbrev pub runOpt : ℕ → Opt Placed → Run
 runOpt c absent = done
 runOpt c (present t) = runIn c t
 
+-- The same as a choice.
+abbrev pub optBit : Opt Placed → ℕ
+optBit absent = 0
+optBit (present t) = 1
+
 -- Trees one after the other.
 abbrev pub runs : ℕ → List Placed → Run
 runs c [] = done

@@ -6,6 +6,7 @@ pub mod Reported
 pub mod Nodes
 pub mod Named
 pub mod Lists
+pub mod Union
 pub mod Infers
 pub mod Functions
 pub mod Mapping

@@ -17,10 +17,7 @@ use Rattle.rules.specs.Mapped.{modifier, mapped}
 use Rattle.parts.specs.Marks.{view, givenOf, nextMark, pastMark}
 use Rattle.parts.specs.Lists.{here}
 use Rattle.parts.specs.StepLaws.{view-past}
-use Rattle.parts.specs.Laid.{heights, runIn, runOpt, nameRun, IsNode, node as isNode, IsOpt, Shape}
-use Rattle.parts.specs.Nodes.{optBit}
-use Rattle.parts.specs.RunLaws.{node-high}
-use Rattle.parts.specs.ShapeLaws.{some-bit}
+use Rattle.parts.specs.Laid.{runIn, runOpt, nameRun, IsNode, node as isNode, IsOpt, Shape, optBit}
 use Rattle.parts.specs.Named.{oneName}
 use Rattle.parts.specs.Mapping.{mappedHead, mappedMiddle, mappedChoices, closeCurly}
 use Rattle.parts.specs.Onward.{behindConstraint}
@@ -148,11 +145,11 @@ mappedContent readonly key c n question t = join (number readonly) (join (spell 
 
 -- Its names, children and choices.
 pub mapped-shape : (readonly : ℕ) (key : Spelling) {c : Placed} (n : Opt Placed) (question : ℕ) (t : Opt Placed) → IsNode 0 c → IsOpt 0 n → IsOpt 0 t
-    → Shape 0 14 (mappedContent readonly key c n question t) (((nameRun key ⊕ runIn 0 c) ⊕ runOpt 0 n) ⊕ runOpt 0 t) (mappedChoices readonly (optBit (heights (runOpt 0 n))) question (optBit (heights (runOpt 0 t))))
+    → Shape 0 14 (mappedContent readonly key c n question t) (((nameRun key ⊕ runIn 0 c) ⊕ runOpt 0 n) ⊕ runOpt 0 t) (mappedChoices readonly (optBit n) question (optBit t))
 mapped-shape readonly key absent question absent (isNode a) h i = record { same = refl; choices-are = omega arith; allowed-is = tt }
 mapped-shape readonly key absent question (present t) (isNode a) h (isNode c) =
-    record { same = refl; choices-are = omega (arith, some-bit _ (node-high {c = 0} {t = t} (isNode c))); allowed-is = tt }
+    record { same = refl; choices-are = omega arith; allowed-is = tt }
 mapped-shape readonly key (present n) question absent (isNode a) (isNode b) i =
-    record { same = refl; choices-are = omega (arith, some-bit _ (node-high {c = 0} {t = n} (isNode b))); allowed-is = tt }
+    record { same = refl; choices-are = omega arith; allowed-is = tt }
 mapped-shape readonly key (present n) question (present t) (isNode a) (isNode b) (isNode c) =
-    record { same = refl; choices-are = omega (arith, some-bit _ (node-high {c = 0} {t = n} (isNode b)), some-bit _ (node-high {c = 0} {t = t} (isNode c))); allowed-is = tt }
+    record { same = refl; choices-are = omega arith; allowed-is = tt }

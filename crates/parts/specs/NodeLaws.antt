@@ -15,7 +15,7 @@ use Rattle.rules.specs.Refusal.{tooLong}
 use Rattle.rules.specs.State.{Given, State, read, refuse, make, end}
 use Rattle.keys.specs.StoreLaws.{join-done}
 use Rattle.parts.specs.Laid.{heights, Was, Laid, Built, Shape}
-use Rattle.parts.specs.Nodes.{Put, Makes, MakesList, Links, LinksOpt}
+use Rattle.parts.specs.Nodes.{Put, Makes, MakesList, Links}
 use Rattle.parts.specs.Reported.{refusedAt}
 use Rattle.keys.specs.Words.{firstNodes}
 use Rattle.words.specs.Cursor.{endByte}
@@ -119,25 +119,3 @@ module _ (k : Kids) (before used high : ℕ) (N : List ℕ) where
       → Links k before used high N (record { first = k .first; count = k .count + 1; high = most }) N'
   links-next {most} {N'} z r w a c B t u N₀ M₀ O₀ M O named noted named' noted' b s i h e =
       rw (w, a) (built-next b high (k .count + 1) i h e (let p : 0 < k .high = omega arith in p) (omega arith) s)
-
--- ---- An optional child
-
--- None was read: the children are as they were.
-pub links-none : {k : Kids} {before used high : ℕ} {N : List ℕ} → high ≡ 0 → used * 4 ≤ length N → LinksOpt k before used high N k N
-links-none {k} {before} {used} {high} {N} z r B t (present u) N₀ M₀ O₀ M O named noted named' noted' b s i h e = absurd (omega (arith, node-high i))
-links-none {k} {before} {used} {high} {N} z r B t absent N₀ M₀ O₀ M O named noted named' noted' b s i h e =
-    let room : 4 * before ≤ length N₀ = omega (arith, e .used-is) in
-    let back : Laid B t before named noted' N M O = laid-back noted' (e .noted-is) room (b .laid) e in
-    record {
-      laid =
-          subst (λ (x : Run). Laid B x used named' noted' N M O) (sym (join-done t))
-          (subst (λ (n : ℕ). Laid B t n named' noted' N M O) (let q : before ≡ used = omega (arith, e .used-is) in q)
-          (subst (λ (n : ℕ). Laid B t before n noted' N M O) (let q : named ≡ named' = omega (arith, e .named-is) in q) back));
-      first-is = b .first-is ∙ ap (λ (x : Run). firstKid x (B .used) 0) (sym (join-done t));
-      high-is = b .high-is ∙ ap heights (sym (join-done t));
-    }
-
--- One was read, and is linked.
-pub links-some : {k r : Kids} {before used high : ℕ} {N N' : List ℕ} → (high ≡ 0 → ⊥) → Links k before used high N r N' → LinksOpt k before used high N r N'
-links-some z f B t (present u) N₀ M₀ O₀ M O named noted named' noted' b s i h e = f 0 B t u N₀ M₀ O₀ M O named noted named' noted' b s i h e
-links-some z f B t absent N₀ M₀ O₀ M O named noted named' noted' b s i h e = absurd (z h)

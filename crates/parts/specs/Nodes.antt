@@ -2,15 +2,15 @@
 use mathlib.Core.Path.{_≡_}
 use mathlib.Core.Bool.{Bool, true, false}
 use mathlib.Core.List.{List, [], _∷_}
-use Prim.Native.Nat.{ℕ, zero, suc, _+_, _*_, _≤_, _<_}
+use Prim.Native.Nat.{ℕ, _+_, _*_, _≤_, _<_}
 use lib.ListN.{length}
 use Rattle.words.specs.Limits.{tallest}
-use Rattle.keys.specs.Placed.{Placed, tree, Opt}
+use Rattle.keys.specs.Placed.{Placed, tree}
 use Rattle.keys.specs.Store.{Run}
 use Rattle.keys.specs.StoreLaws.{_⊕_}
 use Rattle.rules.specs.State.{make, end}
 use Rattle.parts.specs.Marks.{view, givenOf}
-use Rattle.parts.specs.Laid.{heights, runIn, runOpt, IsNode, IsOpt, Was, wasAt, Laid, Built, BuiltAt, Shape}
+use Rattle.parts.specs.Laid.{heights, runIn, IsNode, Was, wasAt, Laid, Built, BuiltAt, Shape}
 use Rattle.parts.specs.Says.{Says}
 use Rattle.parts.specs.declared.state.Given.{Given}
 use Rattle.parts.specs.declared.state.Mark.{Mark}
@@ -54,20 +54,7 @@ Links k before used high N r N' =
     → IsNode c u → high ≡ heights (runIn c u) → Laid (wasAt before named noted N₀ M₀ O₀) (runIn c u) used named' noted' N M O
     → Built B (t ⊕ runIn c u) r used named' noted' N' M O
 
--- The same of a type that may be absent.
-abbrev pub LinksOpt : (k : Kids) (before used high : ℕ) (N : List ℕ) (r : Kids) (N' : List ℕ) → Type 0
-LinksOpt k before used high N r N' =
-    (B : Was) (t : Run) (u : Opt Placed) (N₀ M₀ O₀ M O : List ℕ) (named noted named' noted' : ℕ)
-    → Built B t k before named noted N₀ M₀ O₀ → length N₀ ≡ length N
-    → IsOpt 0 u → high ≡ heights (runOpt 0 u) → Laid (wasAt before named noted N₀ M₀ O₀) (runOpt 0 u) used named' noted' N M O
-    → Built B (t ⊕ runOpt 0 u) r used named' noted' N' M O
-
 -- ---- Choices
-
--- An optional child as a choice, by its height.
-abbrev pub optBit : ℕ → ℕ
-optBit zero = 0
-optBit (suc high) = 1
 
 -- An optional list as choices: its bit, and its count.
 abbrev pub optList : Bool → ℕ → ℕ

@@ -11,23 +11,22 @@ use Rattle.keys.specs.Table.{opt}
 use Rattle.keys.specs.Placed.{Placed, join, Spelling, Opt, absent, present, spell, bit, maybe}
 use Rattle.keys.specs.Store.{Run, done, name, plant}
 use Rattle.keys.specs.StoreLaws.{_⊕_, join-done}
-use Rattle.parts.specs.Laid.{heights, skeleton, runIn, runOpt, namesRun, IsOpt, Shape}
-use Rattle.parts.specs.Nodes.{optBit}
+use Rattle.parts.specs.Laid.{skeleton, runIn, runOpt, namesRun, IsOpt, Shape, optBit}
 use Rattle.parts.specs.Functions.{typeBits}
-use Rattle.parts.specs.RunLaws.{skeleton-join, node-high}
-use Rattle.parts.specs.ShapeLaws.{some-bit, skeleton-maybe, packed-maybe}
+use Rattle.parts.specs.RunLaws.{skeleton-join}
+use Rattle.parts.specs.ShapeLaws.{skeleton-maybe, packed-maybe}
 
 -- ---- The bits of a `this`
 
--- The bits of a `this` by its type's height.
-pub type-bits : (u : Opt Placed) → IsOpt 0 u → 1 + 2 * optBit (heights (runOpt 0 u)) ≡ typeBits u
+-- The bits of a `this` by its type.
+pub type-bits : (u : Opt Placed) → IsOpt 0 u → 1 + 2 * optBit u ≡ typeBits u
 type-bits absent h = refl
-type-bits (present u) h = ap (λ (n : ℕ). 1 + 2 * n) (some-bit (heights (runIn 0 u)) (node-high h))
+type-bits (present u) h = refl
 
 -- ---- The shapes
 
 pub shape-typeParameter : (s : Spelling) (x d : Opt Placed) → IsOpt 0 x → IsOpt 0 d
-    → Shape 4 0 (join (spell s) (join (maybe x) (maybe d))) ((namesRun (s ∷ []) ⊕ runOpt 0 x) ⊕ runOpt 0 d) (optBit (heights (runOpt 0 x)) + 2 * optBit (heights (runOpt 0 d)))
+    → Shape 4 0 (join (spell s) (join (maybe x) (maybe d))) ((namesRun (s ∷ []) ⊕ runOpt 0 x) ⊕ runOpt 0 d) (optBit x + 2 * optBit d)
 shape-typeParameter s x d h k =
     let last : Run = plant nodeTable (opt (child 0)) (maybe d) done in
     record {
@@ -37,19 +36,19 @@ shape-typeParameter s x d h k =
           ∙ ap (λ (r : Run). skeleton (runOpt 0 x) ⊕ r) (skeleton-maybe d done ∙ ap skeleton (join-done (runOpt 0 d)))
           ∙ sym (skeleton-join (runOpt 0 x) (runOpt 0 d)));
       choices-are =
-          (let e : optBit (heights (runOpt 0 x)) + 2 * optBit (heights (runOpt 0 d)) ≡ 0 + 1 * (optBit (heights (runOpt 0 x)) + 2 * (optBit (heights (runOpt 0 d)) + 2 * 0)) = omega arith in e)
-          ∙ ap (λ (n : ℕ). 0 + 1 * n) (sym (packed-maybe x last h ∙ ap (λ (n : ℕ). optBit (heights (runOpt 0 x)) + 2 * n) (packed-maybe d done k)));
+          (let e : optBit x + 2 * optBit d ≡ 0 + 1 * (optBit x + 2 * (optBit d + 2 * 0)) = omega arith in e)
+          ∙ ap (λ (n : ℕ). 0 + 1 * n) (sym (packed-maybe x last h ∙ ap (λ (n : ℕ). optBit x + 2 * n) (packed-maybe d done k)));
       allowed-is = tt;
     }
 
 pub shape-parameter : (isRest : Bool) (s : Spelling) (question : Bool) (t : Opt Placed) → IsOpt 0 t
     → Shape 5 0 (join (bit isRest) (join (spell s) (join (bit question) (maybe t)))) (namesRun (s ∷ []) ⊕ runOpt 0 t)
-    (unit isRest + 2 * unit question + 4 * optBit (heights (runOpt 0 t)))
+    (unit isRest + 2 * unit question + 4 * optBit t)
 shape-parameter isRest s question t h =
     record {
       same = ap (name (s .0) (s .1)) (skeleton-maybe t done ∙ ap skeleton (join-done (runOpt 0 t)));
       choices-are =
-          (let e : unit isRest + 2 * unit question + 4 * optBit (heights (runOpt 0 t)) ≡ 0 + 1 * (unit isRest + 2 * (unit question + 2 * (optBit (heights (runOpt 0 t)) + 2 * 0))) = omega arith in e)
+          (let e : unit isRest + 2 * unit question + 4 * optBit t ≡ 0 + 1 * (unit isRest + 2 * (unit question + 2 * (optBit t + 2 * 0))) = omega arith in e)
           ∙ ap (λ (n : ℕ). 0 + 1 * (unit isRest + 2 * (unit question + 2 * n))) (sym (packed-maybe t done h));
       allowed-is = tt;
     }

@@ -11,13 +11,11 @@ use Rattle.keys.specs.Table.{times, type, spelling, _⊗_}
 use Rattle.keys.specs.Placed.{Placed, join, pick, spell, maybe, subjectOf, listed, entries, pieces, Spelling, Opt, absent, present}
 use Rattle.keys.specs.Store.{Run, done, name, plant, packed}
 use Rattle.keys.specs.StoreLaws.{_⊕_, join-join}
-use Rattle.parts.specs.Laid.{heights, skeleton, runIn, runOpt, runs, nameRun, namesRun, IsNode, node, IsOpt, AllNodes, Shape}
+use Rattle.parts.specs.Laid.{skeleton, runIn, runOpt, runs, nameRun, namesRun, IsNode, node, IsOpt, AllNodes, Shape, optBit}
 use borrow.Author.Tests.{le-leb}
-use Rattle.parts.specs.RunLaws.{node-high}
 use Rattle.parts.specs.Says.{optNames}
-use Rattle.parts.specs.Nodes.{optBit}
 use Rattle.parts.specs.Primaries.{predicateChoices}
-use Rattle.parts.specs.ShapeLaws.{some-bit, shape-list}
+use Rattle.parts.specs.ShapeLaws.{shape-list}
 
 -- A type of a conditional, a union, an intersection.
 pub shape-conditional : {a b c d : Placed} → IsNode 0 a → IsNode 0 b → IsNode 0 c → IsNode 0 d
@@ -30,25 +28,21 @@ shape-union t l h = shape-list 5 0 1 (t ∷ l) refl tt (le-leb 1 (length (t ∷ 
 pub shape-intersection : (t : Placed) (l : List Placed) → AllNodes 0 (t ∷ l) → Shape 0 6 (listed (t ∷ l)) (runs 0 (t ∷ l)) (6 + 64 * length (t ∷ l))
 shape-intersection t l h = shape-list 6 0 1 (t ∷ l) refl tt (le-leb 1 (length (t ∷ l)) (omega arith)) h
 
--- The bit of an optional part, by its height.
-pub bit-of : {t : Placed} → IsNode 0 t → optBit (heights (runIn 0 t)) ≡ 1
-bit-of {t} h = some-bit (heights (runIn 0 t)) (node-high h)
-
 -- Whether the subject of a predicate is this.
 abbrev pub isThis : Opt Spelling → Bool
 isThis absent = true
 isThis (present s) = false
 
 pub shape-predicate : (asserts : Bool) (s : Opt Spelling) (t : Opt Placed) → IsOpt 0 t
-    → Shape 0 16 (pick (unit asserts) (join (subjectOf s) (maybe t))) (namesRun (optNames s) ⊕ runOpt 0 t) (predicateChoices asserts (isThis s) + 256 * optBit (heights (runOpt 0 t)))
+    → Shape 0 16 (pick (unit asserts) (join (subjectOf s) (maybe t))) (namesRun (optNames s) ⊕ runOpt 0 t) (predicateChoices asserts (isThis s) + 256 * optBit t)
 shape-predicate true absent absent i = record { same = refl; choices-are = refl; allowed-is = tt }
 shape-predicate false absent absent i = record { same = refl; choices-are = refl; allowed-is = tt }
 shape-predicate true (present s) absent i = record { same = refl; choices-are = refl; allowed-is = tt }
 shape-predicate false (present s) absent i = record { same = refl; choices-are = refl; allowed-is = tt }
-shape-predicate true absent (present t) (node {tag = k} {first = f} {end = e} {p = p} a) = record { same = refl; choices-are = ap (λ (n : ℕ). predicateChoices true true + 256 * n) (bit-of (node {tag = k} {first = f} {end = e} {p = p} a)); allowed-is = tt }
-shape-predicate false absent (present t) (node {tag = k} {first = f} {end = e} {p = p} a) = record { same = refl; choices-are = ap (λ (n : ℕ). predicateChoices false true + 256 * n) (bit-of (node {tag = k} {first = f} {end = e} {p = p} a)); allowed-is = tt }
-shape-predicate true (present s) (present t) (node {tag = k} {first = f} {end = e} {p = p} a) = record { same = refl; choices-are = ap (λ (n : ℕ). predicateChoices true false + 256 * n) (bit-of (node {tag = k} {first = f} {end = e} {p = p} a)); allowed-is = tt }
-shape-predicate false (present s) (present t) (node {tag = k} {first = f} {end = e} {p = p} a) = record { same = refl; choices-are = ap (λ (n : ℕ). predicateChoices false false + 256 * n) (bit-of (node {tag = k} {first = f} {end = e} {p = p} a)); allowed-is = tt }
+shape-predicate true absent (present t) (node {tag = k} {first = f} {end = e} {p = p} a) = record { same = refl; choices-are = refl; allowed-is = tt }
+shape-predicate false absent (present t) (node {tag = k} {first = f} {end = e} {p = p} a) = record { same = refl; choices-are = refl; allowed-is = tt }
+shape-predicate true (present s) (present t) (node {tag = k} {first = f} {end = e} {p = p} a) = record { same = refl; choices-are = refl; allowed-is = tt }
+shape-predicate false (present s) (present t) (node {tag = k} {first = f} {end = e} {p = p} a) = record { same = refl; choices-are = refl; allowed-is = tt }
 
 -- ---- Templates
 

@@ -3,6 +3,7 @@ use mathlib.Core.Path.{_≡_}
 use mathlib.Core.Bool.{Bool, true, false}
 use mathlib.Core.List.{List, [], _∷_}
 use Prim.Native.Nat.{ℕ}
+use Rattle.keys.specs.Bits.{unit}
 use Rattle.keys.specs.Placed.{Placed, Spelling, Opt, absent, present}
 use Rattle.keys.specs.Store.{Run}
 use Rattle.keys.specs.StoreLaws.{_⊕_}
@@ -10,7 +11,7 @@ use Rattle.rules.specs.State as rule
 use Rattle.rules.specs.State.{State, Result, read, refuse}
 use Rattle.rules.specs.List.{count}
 use Rattle.parts.specs.Marks.{view, givenOf, Spelt}
-use Rattle.parts.specs.Laid.{heights, runOpt, runsOpt, IsOpt, AllOpt, Was, was, Laid, BuiltAt, Stands, Spoken}
+use Rattle.parts.specs.Laid.{runIn, runOpt, optBit, runsOpt, IsNode, IsOpt, AllOpt, Was, was, BuiltAt, Stands, Spoken}
 use Rattle.parts.specs.declared.state.Given.{Given}
 use Rattle.parts.specs.declared.state.Mark.{Mark}
 use Rattle.parts.specs.declared.state.Kids.{Kids}
@@ -35,18 +36,30 @@ pub record Says (c : ℕ) (B : Was) (x : Result Placed) (a : Answer) (N M O : Li
 abbrev pub Starts : (c : ℕ) (rule : rule.Given → State → Result Placed) (W : List ℕ) (given : Given) (m : Mark) (N M O : List ℕ) (a : Answer) (N' M' O' : List ℕ) → Type 0
 Starts c rule W given m N M O a N' M' O' = (text : List ℕ) → Spelt text W → Says c (was m N M O) (rule (givenOf text W given) (view m O)) a N' M' O'
 
--- ---- An optional tree, absent where the height is 0
+-- ---- A type that is one child more
 
-pub record GotOpt (B : Was) (x : Result (Opt Placed)) (high : ℕ) (m : Mark) (N M O : List ℕ) : Type 0 where
+-- It was read, and stands behind the run t.
+pub record GotChild (B : Was) (t : Run) (x : Result Placed) (k : Kids) (m : Mark) (N M O : List ℕ) : Type 0 where
+  pub tree : Placed
+  pub is : x ≡ read tree (view m O)
+  pub is-node : IsNode 0 tree
+  pub built : BuiltAt B (t ⊕ runIn 0 tree) k m N M O
+
+pub record SaysChild (B : Was) (t : Run) (x : Result Placed) (l : Listed) (N M O : List ℕ) : Type 0 where
+  pub done : l .why ≡ 0 → GotChild B t x (l .kids) (l .m) N M O
+  pub refused : (l .why ≡ 0 → ⊥) → x ≡ refuse (l .why) (l .m .at) (l .m .half)
+
+-- The same of a type that may be absent.
+pub record GotOption (B : Was) (t : Run) (x : Result (Opt Placed)) (there : Bool) (k : Kids) (m : Mark) (N M O : List ℕ) : Type 0 where
   pub tree : Opt Placed
   pub is : x ≡ read tree (view m O)
   pub is-opt : IsOpt 0 tree
-  pub high-is : high ≡ heights (runOpt 0 tree)
-  pub laid : Laid B (runOpt 0 tree) (m .used) (m .named) (m .noted) N M O
+  pub there-is : unit there ≡ optBit tree
+  pub built : BuiltAt B (t ⊕ runOpt 0 tree) k m N M O
 
-pub record SaysOpt (B : Was) (x : Result (Opt Placed)) (a : Answer) (N M O : List ℕ) : Type 0 where
-  pub done : a .why ≡ 0 → GotOpt B x (a .high) (a .m) N M O
-  pub refused : (a .why ≡ 0 → ⊥) → x ≡ refuse (a .why) (a .m .at) (a .m .half)
+pub record SaysOption (B : Was) (t : Run) (x : Result (Opt Placed)) (l : Listed) (N M O : List ℕ) : Type 0 where
+  pub done : l .why ≡ 0 → GotOption B t x (l .there) (l .kids) (l .m) N M O
+  pub refused : (l .why ≡ 0 → ⊥) → x ≡ refuse (l .why) (l .m .at) (l .m .half)
 
 -- ---- Names
 

@@ -14,11 +14,11 @@ use Rattle.keys.specs.Placed.{Placed, Opt, absent, present, entries, listed, ma
 use Rattle.keys.specs.Store.{Run, done, chose, plant, packed}
 use Rattle.keys.specs.StoreLaws.{_⊕_, join-done, join-join, plant-join}
 use Rattle.rules.specs.List.{count}
-use Rattle.parts.specs.Laid.{heights, skeleton, runIn, runOpt, runs, runsOpt, IsNode, node, IsOpt, AllNodes, AllOpt, allowed, Shape}
+use Rattle.parts.specs.Laid.{skeleton, runIn, runOpt, runs, runsOpt, IsNode, node, IsOpt, AllNodes, AllOpt, allowed, Shape, optBit}
 use Rattle.parts.specs.Says.{isThere}
-use Rattle.parts.specs.Nodes.{optBit, optList}
+use Rattle.parts.specs.Nodes.{optList}
 use Rattle.parts.specs.Functions.{listScale}
-use Rattle.parts.specs.RunLaws.{plant-entries, node-high}
+use Rattle.parts.specs.RunLaws.{plant-entries}
 
 -- ---- Lists of nodes
 
@@ -63,19 +63,14 @@ packed-maybeList c (present l) r h = ap (λ (n : ℕ). 1 + 2 * n) (packed-list c
 
 -- ---- A type that may be absent
 
--- The bit of what has a height.
-pub some-bit : (n : ℕ) → 0 < n → optBit n ≡ 1
-some-bit zero h = absurd (omega arith)
-some-bit (suc n) h = refl
-
 -- What it puts before a run: itself, and its bit as a choice.
 pub skeleton-maybe : (u : Opt Placed) (r : Run) → skeleton (plant nodeTable (opt (child 0)) (maybe u) r) ≡ skeleton (runOpt 0 u ⊕ r)
 skeleton-maybe absent r = refl
 skeleton-maybe (present u) r = ap skeleton (plant-join nodeTable (child 0) u r)
 
-pub packed-maybe : (u : Opt Placed) (r : Run) → IsOpt 0 u → packed (plant nodeTable (opt (child 0)) (maybe u) r) ≡ optBit (heights (runOpt 0 u)) + 2 * packed r
+pub packed-maybe : (u : Opt Placed) (r : Run) → IsOpt 0 u → packed (plant nodeTable (opt (child 0)) (maybe u) r) ≡ optBit u + 2 * packed r
 packed-maybe absent r h = omega arith
-packed-maybe (present u) r h = ap (λ (n : ℕ). 1 + 2 * n) (packed-node r h) ∙ ap (λ (n : ℕ). n + 2 * packed r) (sym (some-bit (heights (runIn 0 u)) (node-high h)))
+packed-maybe (present u) r h = ap (λ (n : ℕ). 1 + 2 * n) (packed-node r h)
 
 -- ---- A node whose one list are its children
 

@@ -19,13 +19,12 @@ ghost use Rattle.rules.specs.Function as rule;
 ghost use Rattle.parts.specs.Marks.{notingWords, AnyGiven, view, givenOf, nextMark, Sound, Spelt, Inside, Fine, Moved, Along, Under, Reached, placeOf};
 ghost use Rattle.parts.specs.Says.{SaysNames, Any, one};
 ghost use Rattle.parts.specs.Lists.{here, Separates};
-ghost use Rattle.parts.specs.Nodes.{optBit, Links};
-ghost use Rattle.parts.specs.Functions.{whyIf, HeadIs, typeParameterHead, parameterHead, Opens, freedMark, ThisKids, freedUsed, listScale, thisScale, functionChoices, constructorChoices, MakesFunction};
+ghost use Rattle.parts.specs.Nodes.{Links};
+ghost use Rattle.parts.specs.Functions.{whyIf, HeadIs, typeParameterHead, parameterHead, Opens, freedMark, beforeThis, behindThis, freedUsed, listScale, thisScale, functionChoices, constructorChoices, MakesFunction};
 use crate::names::name;
 use crate::node::Count;
 use crate::node::Tag;
 use crate::node::link;
-use crate::node::link_opt;
 use crate::node::opt_bit;
 use crate::node::opt_list;
 use crate::node::put;
@@ -37,6 +36,7 @@ use crate::state::Begin;
 use crate::state::Given;
 use crate::state::Head;
 use crate::state::Kids;
+use crate::state::Listed;
 use crate::state::Mark;
 use crate::state::end_byte;
 use crate::state::first_byte;
@@ -313,12 +313,12 @@ pub fn params_head(words: &[u64], m: Mark) -> Head
 }
 
 // The `this` behind the bracket at m, and its type's answer.
-pub fn this_of(words: &[u64], m: Mark, a: Answer) -> This
+pub fn this_of(words: &[u64], m: Mark, a: Listed) -> This
     requires { ⌜ Sound (now words) × (m .at < 2 ^ 63) × (a .m .half ≤ 1) ⌝ }
-    ensures { λ r. ⌜ (r .bits ≡ 1 + 2 * optBit (a .high)) × (r .first ≡ firstByte (now (words .entry)) (m .at + 1) 0) × (r .end ≡ endByte (now (words .entry)) (a .m .at) (a .m .half)) ⌝ }
+    ensures { λ r. ⌜ (r .bits ≡ 1 + 2 * unit (a .there)) × (r .first ≡ firstByte (now (words .entry)) (m .at + 1) 0) × (r .end ≡ endByte (now (words .entry)) (a .m .at) (a .m .half)) ⌝ }
 {
     This {
-        bits: 1 + 2 * opt_bit(a.high),
+        bits: 1 + 2 * opt_bit(a.there),
         first: first_byte(words, next(m)),
         end: end_byte(words, a.m),
     }
@@ -341,17 +341,25 @@ pub fn freed(is_new: bool, s: Mark, q: Mark) -> Mark
     q
 }
 
-// The children after a `this`, before which `used` nodes stood: its type is one of them, but for a constructor's.
-pub fn this_kids(nodes: &mut [u64], is_new: bool, k: Kids, used: usize, a: Answer) -> Kids
-    requires { ⌜ (used ≤ a .m .used) × (a .high ≤ tallest * (a .m .used - used)) × (a .m .used * 4 ≤ length (now nodes)) × Under used k × (a .high ≤ tallest) ⌝ }
-    ensures { λ r. ⌜ ThisKids «is_new» k used a (now (nodes .entry)) r (now (nodes .exit)) ⌝ }
-    ensures { λ r. ⌜ Under (freedUsed «is_new» used (a .m .used)) r ⌝ }
+// The children to which a `this` is linked: a constructor's is no child.
+pub fn before_this(is_new: bool, k: Kids) -> Kids
+    ensures { λ r. ⌜ r ≡ beforeThis «is_new» k ⌝ }
+    ensures { λ r. ⌜ (r .first ≤ k .first) × (r .count ≤ k .count) × (r .high ≤ k .high) ⌝ }
 {
     if is_new {
-        return k;
+        return Kids::none();
     }
-    let q = a.m;
-    link_opt(nodes, k, used, q.used, a.high)
+    k
+}
+
+// The children after a `this`: those before it, where it is a constructor's.
+pub fn this_kids(is_new: bool, before: Kids, after: Kids) -> Kids
+    ensures { λ r. ⌜ r ≡ behindThis «is_new» before after ⌝ }
+{
+    if is_new {
+        return before;
+    }
+    after
 }
 
 // Whether the return type begins as a predicate: some name, and `is` on its line.

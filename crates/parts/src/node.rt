@@ -2,9 +2,10 @@
 ghost use mathlib.Core.Path.{_≡_};
 ghost use Prim.Native.Nat.{max, _+_, _-_, _*_, _≤_, _<_, _^_};
 ghost use lib.ListN.{length};
+ghost use Rattle.keys.specs.Bits.{unit};
 ghost use Rattle.words.specs.Limits.{mostTokens, tallest, longest};
 ghost use Rattle.parts.specs.Marks.{Sound, Fine, Under};
-ghost use Rattle.parts.specs.Nodes.{Put, Makes, MakesList, Links, LinksOpt, optBit, optList};
+ghost use Rattle.parts.specs.Nodes.{Put, Makes, MakesList, Links, optList};
 use crate::refusal::Refusal;
 use crate::state::Answer;
 use crate::state::Begin;
@@ -202,25 +203,13 @@ pub fn link(nodes: &mut [u64], k: Kids, before: usize, used: usize, high: usize)
     }
 }
 
-// The same with an optional child, which is absent where its height is 0.
-pub fn link_opt(nodes: &mut [u64], k: Kids, before: usize, used: usize, high: usize) -> Kids
-    requires { ⌜ (before ≤ used) × (high ≤ tallest * (used - before)) × (used * 4 ≤ length (now nodes)) × Under before k × (high ≤ tallest) ⌝ }
-    ensures { λ r. ⌜ LinksOpt k before used high (now (nodes .entry)) r (now (nodes .exit)) ⌝ }
-    ensures { λ r. ⌜ Under used r ⌝ }
-{
-    if high == 0 {
-        return k;
-    }
-    link(nodes, k, before, used, high)
-}
-
 // An optional child as a choice of its node.
-pub fn opt_bit(high: usize) -> usize
-    ensures { λ r. ⌜ r ≡ optBit high ⌝ }
+pub fn opt_bit(there: bool) -> usize
+    ensures { λ r. ⌜ r ≡ unit there ⌝ }
     ensures { λ r. ⌜ r ≤ 1 ⌝ }
 {
-    if high == 0 {
-        return 0;
+    if there {
+        return 1;
     }
-    1
+    0
 }

@@ -1,17 +1,50 @@
 // Unions and intersections, without their parts.
 ghost use mathlib.Core.Path.{_≡_};
-ghost use mathlib.Core.Bool.{not};
-ghost use Rattle.words.specs.Test.{_or_};
-ghost use Rattle.parts.specs.Lists.{here};
+ghost use Prim.Native.Nat.{_*_, _≤_, _<_};
+ghost use lib.ListN.{length};
+ghost use Rattle.words.specs.Limits.{mostTokens, tallest};
+ghost use Rattle.parts.specs.Marks.{Sound, Fine, Under};
+ghost use Rattle.parts.specs.Union.{isAlone, Joins, JoinedAt};
+use crate::node::link;
+use crate::node::put_list;
+use crate::state::Answer;
+use crate::state::Begin;
+use crate::state::Given;
+use crate::state::Kids;
 use crate::state::Mark;
 use crate::state::kind_at;
 
-// Whether one part that was read from m to q is alone: no mark stood before it, and none follows.
-pub fn lone(words: &[u64], mark: usize, m: Mark, q: Mark) -> bool
-    ensures { λ r. ⌜ r ≡ not (here (now (words .entry)) mark m or here (now (words .entry)) mark q) ⌝ }
+// Whether a part is alone behind those before it: there are none, and no mark stood before it.
+fn alone(words: &[u64], mark: usize, k: Kids, m: Mark) -> bool
+    ensures { λ r. ⌜ r ≡ isAlone (now (words .entry)) mark k m ⌝ }
 {
-    if kind_at(words, m) == mark {
-        return false;
+    if k.count == 0 {
+        return kind_at(words, m) != mark;
     }
-    kind_at(words, q) != mark
+    false
+}
+
+// The last part was read: alone it is just that, unless a mark stood before it, else it ends the list of a node.
+pub fn joined(
+    words: &[u64],
+    nodes: &mut [u64],
+    given: Given,
+    mark: usize,
+    tag: usize,
+    k: Kids,
+    before: usize,
+    m: Mark,
+    a: Answer,
+) -> Answer
+    requires { ⌜ Sound (now words) × (given .room * 4 ≤ length (now nodes)) × Fine (length (now words)) given (a .m) × Under before k × (before < a .m .used) ⌝ }
+    requires { ⌜ (a .high ≤ tallest) × (m .half ≤ 1) × (m .named ≤ mostTokens) × (tag < 64) ⌝ }
+    ensures { λ r. ⌜ Joins (now (words .entry)) given mark tag k before m (now (nodes .entry)) a r (now (nodes .exit)) ⌝ }
+    ensures { λ r. ⌜ JoinedAt given a r ⌝ }
+{
+    if alone(words, mark, k, m) {
+        return a;
+    }
+    let q = a.m;
+    let l = link(nodes, k, before, q.used, a.high);
+    put_list(words, nodes, given, Begin::at(words, m), tag, l, q)
 }

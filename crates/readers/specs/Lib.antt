@@ -1,5 +1,7 @@
 -- What the readers are proved with: what their loops keep, the numbers of equal structs, and the laws of each rule as its reader takes it.
 pub mod Kept
+pub mod Ring
+pub mod ReadyLaws
 pub mod Fields
 pub mod MovedLaws
 pub mod ChildLaws

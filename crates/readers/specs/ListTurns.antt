@@ -14,7 +14,7 @@ use Rattle.rules.specs.State.{State, Result, read, refuse, stands, end, reportI
 use Rattle.rules.specs.List.{noEntry}
 use Rattle.parts.specs.Marks.{view, givenOf, Moved}
 use Rattle.parts.specs.Laid.{runIn, runs, Was, was, BuiltAt}
-use Rattle.parts.specs.Says.{Got, SaysList}
+use Rattle.parts.specs.Says.{Got, GotChild, SaysList}
 use Rattle.parts.specs.Nodes.{Links}
 use Rattle.parts.specs.Lists.{Follows, Ends}
 use Rattle.parts.specs.Answers.{then-read, then-refused}
@@ -45,6 +45,10 @@ pub listed-refused : {c : ℕ} {B : Was} {t : Run} {x : Result (Opt (List Placed
     → r ≡ record { why = why; there = false; kids = noKids; m = m } → (why ≡ 0 → ⊥) → x ≡ refuse why (m .at) (m .half) → SaysList c B t x r N M O
 listed-refused {c} {B} {t} {x} {N} {M} {O} e h i =
     subst (λ (y : Listed). SaysList c B t x y N M O) (sym e) (record { done = λ z. absurd (h z); refused = λ _. i })
+
+-- It is refused by what was read last.
+pub listed-stops : {c : ℕ} {B : Was} {t : Run} {x : Result (Opt (List Placed))} {N M O : List ℕ} {l : Listed} → (l .why ≡ 0 → ⊥) → x ≡ refuse (l .why) (l .m .at) (l .m .half) → SaysList c B t x l N M O
+listed-stops n i = record { done = λ z. absurd (n z); refused = λ _. i }
 
 -- The list begins, with nothing read since m.
 pub turn-starts : {A : Type 0} {c len : ℕ} {L : ℕ → List Placed → State → Result A} {x : Result A} {k : Kids} (m p : Mark) {N M O : List ℕ}
@@ -86,6 +90,17 @@ module _ {A : Type 0} (g : rule.Given) (close : ℕ) (entry : List Placed → St
       subst (λ (y : ℕ). ListTurn c (length (g .words)) B done (looped g close entry K) x y k' (a .m) N'' M' O') (sym n)
       (turn-list g close entry K c done w k' q a N'' M' O' (got .tree) z (got .is) f h i j (got .stands .is-node)
       (built-moved v b))
+
+-- An entry more, which was read as a child.
+pub turn-child : {A : Type 0} (g : rule.Given) (close : ℕ) (entry : List Placed → State → Result Placed) (K : List Placed → State → Result A)
+    {B : Was} {x : Result A} {k : Kids} (p : Mark) {N M O : List ℕ} (w : ListTurn 0 (length (g .words)) B done (looped g close entry K) x (k .count) k p N M O)
+    → stands g close (view p O) ≡ false → {q : Mark} {a : Answer} {k' : Kids} {N' M' O' : List ℕ}
+    → GotChild B (runs 0 (w .list)) (entry (w .list) (view p O)) k' q N' M' O' → k' .count ≡ k .count + 1
+    → Follows (g .words) close q a → a .why ≡ 0 → Moved (length (g .words)) q (a .m) → p .at < length (g .words) → p .at ≤ q .at
+    → ListTurn 0 (length (g .words)) B done (looped g close entry K) x (k' .count) k' (a .m) N' M' O'
+turn-child g close entry K {B} {x} {k} p w z {q} {a} {k'} {N'} {M'} {O'} got n f h v i j =
+    subst (λ (y : ℕ). ListTurn 0 (length (g .words)) B done (looped g close entry K) x y k' (a .m) N' M' O') (sym n)
+    (turn-list g close entry K 0 done w k' q a N' M' O' (got .tree) z (got .is) f h i j (got .is-node) (built-moved v (got .built)))
 
 -- The closing mark stands there, and the list ends.
 pub turn-ends : (text W : List ℕ) (given : Given) (close : ℕ) (entry : List Placed → State → Result Placed) (number b : ℕ) {first c : ℕ}

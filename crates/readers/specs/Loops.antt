@@ -1,16 +1,18 @@
 -- Where each loop of the ring stands at its head: the rule's loop still gives what the rule was to give.
 use mathlib.Core.Path.{_≡_}
-use mathlib.Core.Bool.{Bool, true}
-use mathlib.Core.List.{List, [], _∷_}
+use mathlib.Core.Bool.{Bool, true, not}
+use mathlib.Core.List.{List, [], _∷_, _++_}
 use Prim.Native.Nat.{ℕ}
 use lib.ListN.{length}
+use Rattle.words.specs.Test.{_and_, _or_, test}
 use Rattle.words.specs.Kind.{RAngle, RBrack}
 use Rattle.keys.specs.Placed as node
 use Rattle.keys.specs.Placed.{Placed, Spelling, Opt}
 use Rattle.keys.specs.Store.{Run, done}
-use Rattle.rules.specs.State.{Given, State, Result, Reader, then, first, end, spelling, turns, make}
+use Rattle.rules.specs.State.{Given, State, Result, Reader, read, then, stands, first, end, spelling, turns, make}
 use Rattle.rules.specs.TypeParameters as types
 use Rattle.rules.specs.Function.{ThisParameter, parametersFrom}
+use Rattle.rules.specs.List.{noEntry}
 use Rattle.rules.specs.Union.{partsFrom}
 use Rattle.rules.specs.Postfix.{postfixFrom}
 use Rattle.rules.specs.Arguments as arguments
@@ -35,7 +37,7 @@ module _ (g : Given) (T : Reader) where
   abbrev pub ParametersTurn : Opt ThisParameter → State → Was → Run → ℕ → Kids → Mark → (N M O : List ℕ) → Type 0
   ParametersTurn th s B t count k p N M O = ListTurn 5 (length (g .words)) B t (parametersFrom g T th) (parametersFrom g T th (turns g) [] s) count k p N M O
 
-  -- The parts of a union or an intersection that began at s, of which the first was read up to q.
+  -- The parts of a union or an intersection that began at s.
   module _ (mark : ℕ) (node : ℕ → ℕ → List Placed → Placed) (part : State → Result Placed) (s : State) where
     abbrev pub endParts : List Placed → State → Result Placed
     endParts l q = make g (length l ∷ []) (node (first g s) (end g q) l) q
@@ -44,9 +46,17 @@ module _ (g : Given) (T : Reader) where
     abbrev pub partsOf : ℕ → List Placed → State → Result Placed
     partsOf n l q = then (partsFrom g mark part n l q) endParts
 
-    -- The loop over the others.
-    abbrev pub PartsTurn : Placed → State → Was → Kids → Mark → (N M O : List ℕ) → Type 0
-    PartsTurn t q B k p N M O = ListTurn 0 (length (g .words)) B done partsOf (partsOf (turns g) (t ∷ []) q) (k .count) k p N M O
+    -- What is due behind a part, where l stand before it: it alone, if no mark stood before it or follows.
+    abbrev pub behindOne : ℕ → List Placed → Placed → State → Result Placed
+    behindOne n l t q = test (noEntry l and not (stands g mark s or stands g mark q)) (λ _. read t q) (λ _. partsOf n (l ++ (t ∷ [])) q)
+
+    -- One part more, from q on.
+    abbrev pub partDue : ℕ → List Placed → State → Result Placed
+    partDue n l q = then (part q) (behindOne n l)
+
+    -- The loop over the parts.
+    abbrev pub PartsTurn : Result Placed → Was → Kids → Mark → (N M O : List ℕ) → Type 0
+    PartsTurn x B k p N M O = ListTurn 0 (length (g .words)) B done partDue x (k .count) k p N M O
 
   -- The marks behind a tree t that begins at byte b and was read up to q.
   abbrev pub SuffixTurn : ℕ → Placed → State → Was → ℕ → Mark → (N M O : List ℕ) → Type 0

@@ -9,8 +9,7 @@ use Rattle.keys.specs.Placed.{Placed, Spelling, Opt}
 use Rattle.keys.specs.StoreLaws.{_⊕_}
 use Rattle.rules.specs.State.{Given, State, Result, Reader, read, then, next, kind, first, end, optional, make}
 use Rattle.rules.specs.Mapped.{mapped}
-use Rattle.parts.specs.Laid.{heights, runIn, runOpt, nameRun, IsNode, IsOpt, Shape}
-use Rattle.parts.specs.Nodes.{optBit}
+use Rattle.parts.specs.Laid.{runIn, runOpt, nameRun, IsNode, IsOpt, Shape, optBit}
 use Rattle.parts.specs.Mapping.{mappedHead, mappedMiddle, mappedChoices, closeCurly}
 use Rattle.parts.specs.Onward.{behindConstraint}
 use Rattle.parts.specs.MappingLaws.{mapped-step, behind-step, mappedContent, mapped-shape}
@@ -52,14 +51,12 @@ module _ (g : Given) (T : Reader) where
         → mappedMiddle g q ≡ read question p → optional g Colon (T true) p ≡ read t r → behindConstraint g T b readonly key c s ≡ behindType n question t r
     mapped-typed {n} {question = question} i k l = mapped-asked i k ∙ then-read (behindType n question) l
 
--- Its names, children and choices, by the heights of its optional types.
-pub mapped-shaped : (readonly : ℕ) (key : Spelling) {c : Placed} (n : Opt Placed) (question : ℕ) (t : Opt Placed) {choices named typed high low : ℕ}
-    → IsNode 0 c → IsOpt 0 n → IsOpt 0 t → choices ≡ mappedChoices readonly named question typed → named ≡ optBit high → typed ≡ optBit low
-    → high ≡ heights (runOpt 0 n) → low ≡ heights (runOpt 0 t)
+-- Its names, children and choices.
+pub mapped-shaped : (readonly : ℕ) (key : Spelling) {c : Placed} (n : Opt Placed) (question : ℕ) (t : Opt Placed) {choices named typed : ℕ}
+    → IsNode 0 c → IsOpt 0 n → IsOpt 0 t → choices ≡ mappedChoices readonly named question typed → named ≡ optBit n → typed ≡ optBit t
     → Shape 0 14 (mappedContent readonly key c n question t) (((nameRun key ⊕ runIn 0 c) ⊕ runOpt 0 n) ⊕ runOpt 0 t) choices
-mapped-shaped readonly key {c} n question t {choices} {named} {typed} {high} {low} h i j e a b u v =
-    let is : choices ≡ mappedChoices readonly (optBit (heights (runOpt 0 n))) question (optBit (heights (runOpt 0 t))) =
-    e ∙ ap (λ (x : ℕ). mappedChoices readonly x question typed) (a ∙ ap optBit u)
-    ∙ ap (λ (x : ℕ). mappedChoices readonly (optBit (heights (runOpt 0 n))) question x) (b ∙ ap optBit v) in
+mapped-shaped readonly key {c} n question t {choices} {named} {typed} h i j e a b =
+    let is : choices ≡ mappedChoices readonly (optBit n) question (optBit t) =
+    e ∙ ap (λ (x : ℕ). mappedChoices readonly x question typed) a ∙ ap (λ (x : ℕ). mappedChoices readonly (optBit n) question x) b in
     subst (λ (x : ℕ). Shape 0 14 (mappedContent readonly key c n question t) (((nameRun key ⊕ runIn 0 c) ⊕ runOpt 0 n) ⊕ runOpt 0 t) x) (sym is)
     (mapped-shape readonly key n question t h i j)

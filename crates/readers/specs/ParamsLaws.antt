@@ -2,34 +2,37 @@
 use mathlib.Core.Path.{_≡_, refl, sym, ap, _∙_, subst}
 use mathlib.Core.Bool.{Bool, true, false}
 use mathlib.Core.List.{List, []}
-use Prim.Native.Nat.{ℕ, zero, suc, _+_, _*_, _≤_}
+use Prim.Native.Nat.{ℕ, _+_, _*_, _≤_}
 use native.Mathlib.Omega.{arith}
 use lib.ListN.{length}
 use Rattle.words.specs.Kind.{Colon}
 use Rattle.words.specs.Cursor.{firstByte, endByte}
+use Rattle.keys.specs.Bits.{unit}
 use Rattle.keys.specs.Placed.{Placed, Opt, absent, present}
 use Rattle.keys.specs.Store.{Run, done}
 use Rattle.keys.specs.StoreLaws.{_⊕_, join-done}
 use Rattle.rules.specs.State as rule
 use Rattle.rules.specs.State.{Result, Reader, refuse, optional, turns}
 use Rattle.rules.specs.Function.{ThisParameter, Parameters, parametersOf, parametersFrom, thisFirst, parameters}
-use Rattle.parts.specs.Marks.{view, nextMark, Moved}
-use Rattle.parts.specs.Laid.{heights, runOpt, IsOpt, Was, was, Laid, Built, BuiltAt}
-use Rattle.parts.specs.Says.{SaysOpt}
-use Rattle.parts.specs.Nodes.{optBit}
+use Rattle.parts.specs.Marks.{view, nextMark, Moved, Under}
+use Rattle.parts.specs.Laid.{runOpt, optBit, Was, was, Built, BuiltAt}
+use Rattle.parts.specs.Says.{SaysOption}
 use Rattle.parts.specs.Lists.{Separates}
-use Rattle.parts.specs.Functions.{typeBits, thisRun, IsThis, ThisIs, SaysParams, Opens, freedMark, ThisKids, freedUsed}
+use Rattle.parts.specs.Functions.{typeBits, thisRun, IsThis, ThisIs, SaysParams, Opens, freedMark, beforeThis, behindThis, freedUsed}
 use Rattle.parts.specs.Ring.{SaysRest}
 use Rattle.parts.specs.LaidLaws.{laid-back}
-use Rattle.parts.specs.RingShapes.{bit-of}
+use Rattle.parts.specs.BuiltLaws.{built-none}
+use Rattle.parts.specs.StepLaws.{built-at}
 use Rattle.parts.specs.ParameterListLaws.{opens-this, this-refused, this-goes, this-stops}
 use Rattle.parts.specs.declared.state.Mark.{Mark}
 use Rattle.parts.specs.declared.state.Kids.{Kids}
 use Rattle.parts.specs.declared.state.Head.{Head}
 use Rattle.parts.specs.declared.state.Answer.{Answer}
+use Rattle.parts.specs.declared.state.Listed.{Listed}
 use Rattle.parts.specs.declared.function.This.{This as ThisCode}
 use Rattle.parts.specs.declared.function.Params.{Params}
 use Rattle.readers.specs.MovedLaws.{built-moved}
+use Rattle.readers.specs.ChildLaws.{built-as}
 use Rattle.readers.specs.ParameterTurns.{refusedParams}
 
 -- ---- Numbers
@@ -44,10 +47,15 @@ pub freed-high : (n : Bool) (a b c : ℕ) → c ≤ a → c ≤ b → c ≤ free
 freed-high true a b c h i = h
 freed-high false a b c h i = i
 
--- The choice of an optional child is a bit.
-pub bit-low : (n : ℕ) → optBit n ≤ 1
-bit-low zero = omega arith
-bit-low (suc n) = omega arith
+-- A bit is no more than one.
+pub bit-low : (b : Bool) → unit b ≤ 1
+bit-low true = omega arith
+bit-low false = omega arith
+
+-- The children after a `this` keep below the nodes in use.
+pub under-this : (n : Bool) (used used' : ℕ) (k k' : Kids) → Under used k → Under used' k' → Under (freedUsed n used used') (behindThis n k k')
+under-this true used used' k k' a b = a
+under-this false used used' k k' a b = b
 
 -- ---- Answers
 
@@ -99,26 +107,42 @@ params-plain {B} {t} isNew {x} {y} {p} {N} {M} {O} e w =
 
 -- ---- A `this` behind the bracket
 
--- Its bits, by the height of its type.
-this-bits : (u : Opt Placed) (high : ℕ) → IsOpt 0 u → high ≡ heights (runOpt 0 u) → 1 + 2 * optBit high ≡ typeBits u
-this-bits absent high i e = ap (λ (n : ℕ). 1 + 2 * optBit n) e
-this-bits (present u) high i e = ap (λ (n : ℕ). 1 + 2 * optBit n) e ∙ ap (λ (n : ℕ). 1 + 2 * n) (bit-of i)
+-- Its bits, by its type.
+this-bits : (u : Opt Placed) → 1 + 2 * optBit u ≡ typeBits u
+this-bits absent = refl
+this-bits (present u) = refl
+
+-- Since when its type is a child: for a constructor's, since the bracket, and of nothing that stood before.
+abbrev since : (isNew : Bool) → (before here : Was) → Was
+since true before here = here
+since false before here = before
+
+abbrev sinceRun : (isNew : Bool) → Run → Run
+sinceRun true t = done
+sinceRun false t = t
+
+-- The children to which it is linked stand so.
+built-since : (isNew : Bool) {B : Was} {t : Run} {k k' : Kids} (m q : Mark) {N M O : List ℕ} → k' ≡ beforeThis isNew k
+    → q .used ≡ m .used → q .named ≡ m .named → q .noted ≡ m .noted → BuiltAt B t k m N M O
+    → BuiltAt (since isNew B (was m N M O)) (sinceRun isNew t) k' q N M O
+built-since true m q {N} {M} {O} e u n o b = built-as e (built-at m q u n o (built-none (m .used) (m .named) (m .noted) N M O))
+built-since false m q e u n o b = built-as e (built-at m q u n o b)
 
 -- Its type is the next child, or all that it took is free again.
-built-this : (isNew : Bool) {B : Was} {t : Run} {k k' : Kids} (m : Mark) (a : Answer) (th : ThisParameter) {N M O N₁ M₁ O₁ N₂ : List ℕ}
-    → ThisKids isNew k (m .used) a N₁ k' N₂ → BuiltAt B t k m N M O → length N ≡ length N₁ → 4 * m .used ≤ length N
-    → IsOpt 0 (th .type) → a .high ≡ heights (runOpt 0 (th .type)) → Laid (was m N M O) (runOpt 0 (th .type)) (a .m .used) (a .m .named) (a .m .noted) N₁ M₁ O₁
-    → BuiltAt B (t ⊕ thisRun isNew (present th)) k' (freedMark isNew m (a .m)) N₂ M₁ O₁
-built-this true {B} {t} {k} {k'} m a th {N} {M} {O} {N₁} {M₁} {O₁} {N₂} l b n f i h d =
+built-this : (isNew : Bool) {B : Was} {t : Run} {k k' : Kids} (m : Mark) (a : Listed) (th : ThisParameter) {N M O N₁ M₁ O₁ : List ℕ}
+    → k' ≡ behindThis isNew k (a .kids) → BuiltAt B t k m N M O → 4 * m .used ≤ length N
+    → BuiltAt (since isNew B (was m N M O)) (sinceRun isNew t ⊕ runOpt 0 (th .type)) (a .kids) (a .m) N₁ M₁ O₁
+    → BuiltAt B (t ⊕ thisRun isNew (present th)) k' (freedMark isNew m (a .m)) N₁ M₁ O₁
+built-this true {B} {t} {k} {k'} m a th {N} {M} {O} {N₁} {M₁} {O₁} e b f d =
     let same : Built B t k (m .used) (m .named) (a .m .noted) N₁ M₁ O₁ =
-    record { laid = laid-back (a .m .noted) (d .noted-is) f (b .laid) d; first-is = b .first-is; high-is = b .high-is } in
-    rw (l .0, l .1, join-done t) same
-built-this false {B} {t} {k} {k'} m a th {N} {M} {O} {N₁} {M₁} {O₁} {N₂} l b n f i h d =
-    l B t (th .type) N M O M₁ O₁ (m .named) (m .noted) (a .m .named) (a .m .noted) b n i h d
+    record { laid = laid-back (a .m .noted) (d .laid .noted-is) f (b .laid) (d .laid); first-is = b .first-is; high-is = b .high-is } in
+    rw (e, join-done t) same
+built-this false m a th e b f d = built-as e d
 
 module _ (g : rule.Given) (T : Reader) (isNew : Bool) {m : Mark} {h : Head} (N M O : List ℕ)
-    (opens : Opens (g .words) m h) (z : h .why ≡ 0) (some : h .choices ≡ 0 → ⊥) {a : Answer} {N₁ M₁ O₁ : List ℕ}
-    (w : SaysOpt (was (h .m) N M O) (optional g Colon (T true) (view (h .m) O)) a N₁ M₁ O₁) where
+    (opens : Opens (g .words) m h) (z : h .why ≡ 0) (some : h .choices ≡ 0 → ⊥) {B : Was} {t : Run} {k₀ k : Kids} {a : Listed} {N₁ M₁ O₁ : List ℕ}
+    (b : BuiltAt B t k m N M O) (k-is : k₀ ≡ beforeThis isNew k)
+    (w : (B : Was) (t : Run) → BuiltAt B t k₀ (h .m) N M O → SaysOption B t (optional g Colon (T true) (view (h .m) O)) a N₁ M₁ O₁) where
   -- The rule goes on with the `this`.
   this-there : parameters g T isNew (view m O) ≡ thisFirst g T isNew (view (nextMark m) O)
   this-there = opens-this g T isNew m O opens z some .0
@@ -127,9 +151,12 @@ module _ (g : rule.Given) (T : Reader) (isNew : Bool) {m : Mark} {h : Head} (N M
   behind : h .m ≡ nextMark (nextMark m)
   behind = opens-this g T isNew m O opens z some .1
 
-  -- What its type says, since the bracket.
-  type-says : SaysOpt (was m N M O) (optional g Colon (T true) (view (nextMark (nextMark m)) O)) a N₁ M₁ O₁
-  type-says = subst (λ (q : Mark). SaysOpt (was q N M O) (optional g Colon (T true) (view q O)) a N₁ M₁ O₁) behind w
+  -- What its type says.
+  type-says : SaysOption (since isNew B (was m N M O)) (sinceRun isNew t) (optional g Colon (T true) (view (nextMark (nextMark m)) O)) a N₁ M₁ O₁
+  type-says =
+      subst (λ (q : Mark). SaysOption (since isNew B (was m N M O)) (sinceRun isNew t) (optional g Colon (T true) (view q O)) a N₁ M₁ O₁) behind
+      (w (since isNew B (was m N M O)) (sinceRun isNew t)
+      (built-since isNew m (h .m) k-is (ap (λ (q : Mark). q .used) behind) (ap (λ (q : Mark). q .named) behind) (ap (λ (q : Mark). q .noted) behind) b))
 
   -- Its type is refused.
   pub params-this-refused : (a .why ≡ 0 → ⊥) → parameters g T isNew (view m O) ≡ refuse (a .why) (a .m .at) (a .m .half)
@@ -145,18 +172,17 @@ module _ (g : rule.Given) (T : Reader) (isNew : Bool) {m : Mark} {h : Head} (N M
     params-this-stops n = this-there ∙ this-stops g T isNew m O (a .m) O₁ (type-says .done read-it .is) separates n
 
     -- The others are read behind it.
-    pub params-this : {len : ℕ} {B : Was} {t : Run} {k k' : Kids} {N₂ : List ℕ} {this : ThisCode} {p : Params} {N₃ M₃ O₃ : List ℕ} → c .why ≡ 0 → Moved len f (c .m)
-        → ThisKids isNew k (m .used) a N₁ k' N₂ → BuiltAt B t k m N M O → length N ≡ length N₁ → 4 * m .used ≤ length N
-        → (this .bits ≡ 1 + 2 * optBit (a .high)) × (this .first ≡ firstByte (g .words) (m .at + 1) 0) × (this .end ≡ endByte (g .words) (a .m .at) (a .m .half))
-        → ((r : Run) (th : Opt ThisParameter) → BuiltAt B r k' (c .m) N₂ M₁ O₁ → ThisIs this th
+    pub params-this : {len : ℕ} {k' : Kids} {this : ThisCode} {p : Params} {N₃ M₃ O₃ : List ℕ} → c .why ≡ 0 → Moved len f (c .m)
+        → k' ≡ behindThis isNew k (a .kids) → 4 * m .used ≤ length N
+        → (this .bits ≡ 1 + 2 * unit (a .there)) × (this .first ≡ firstByte (g .words) (m .at + 1) 0) × (this .end ≡ endByte (g .words) (a .m .at) (a .m .half))
+        → ((r : Run) (th : Opt ThisParameter) → BuiltAt B r k' (c .m) N₁ M₁ O₁ → ThisIs this th
         → SaysRest B r th (parametersFrom g T th (turns g) [] (view (c .m) O₁)) p N₃ M₃ O₃)
         → SaysParams B t (thisRun isNew) (parameters g T isNew (view m O)) p N₃ M₃ O₃
-    params-this {B = B} {t = t} {k = k} {k' = k'} {N₂ = N₂} go moved kids b same fits this-is rest =
+    params-this {k' = k'} go moved kids fits this-is rest =
         let got = type-says .done read-it in
         let th : ThisParameter = record { first = rule.first g (view (nextMark m) O₁); end = rule.end g (view (a .m) O₁); type = got .tree } in
-        let built : BuiltAt B (t ⊕ thisRun isNew (present th)) k' f N₂ M₁ O₁ =
-        subst (λ (q : Mark). BuiltAt B (t ⊕ thisRun isNew (present th)) k' q N₂ M₁ O₁) (sym freed-is)
-        (built-this isNew m a th kids b same fits (got .is-opt) (got .high-is) (got .laid)) in
+        let built : BuiltAt B (t ⊕ thisRun isNew (present th)) k' f N₁ M₁ O₁ =
+        subst (λ (q : Mark). BuiltAt B (t ⊕ thisRun isNew (present th)) k' q N₁ M₁ O₁) (sym freed-is) (built-this isNew m a th kids b fits (got .built)) in
         params-rest (thisRun isNew) (present th) (this-there ∙ this-goes g T isNew m O (a .m) O₁ (got .is) separates go) (got .is-opt)
         (rest (t ⊕ thisRun isNew (present th)) (present th) (built-moved moved built)
-        (record { bits = this-is .0 ∙ this-bits (got .tree) (a .high) (got .is-opt) (got .high-is); first = this-is .1; end = this-is .2 }))
+        (record { bits = this-is .0 ∙ ap (λ (n : ℕ). 1 + 2 * n) (got .there-is) ∙ this-bits (got .tree); first = this-is .1; end = this-is .2 }))

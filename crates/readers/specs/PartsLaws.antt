@@ -1,40 +1,66 @@
--- The parts of a union or an intersection, as its reader takes them: the first part, and the loop over the others.
+-- The parts of a union or an intersection, turn by turn: begun, a part more, refused, ended.
 use mathlib.Core.Path.{_≡_, refl, sym, ap, _∙_, subst}
 use mathlib.Core.Bool.{Bool, true, false, not}
 use mathlib.Core.List.{List, [], _∷_, _++_}
 use Prim.Native.Nat.{ℕ, suc, _+_, _-_, _*_, _≤_, _<_}
 use native.Mathlib.Omega.{arith}
+use lib.Dec.{T, eqb, eqb·suc-zero}
 use lib.ListN.{length, length-append}
-use Rattle.words.specs.Test.{_or_, test}
+use Rattle.words.specs.Test.{_and_, _or_, test}
 use Rattle.keys.specs.Placed.{Placed, tree, listed}
 use Rattle.keys.specs.Store.{Run, done}
-use Rattle.keys.specs.StoreLaws.{join-done}
 use Rattle.rules.specs.State as rule
-use Rattle.rules.specs.State.{State, Result, Reader, read, then, first, end, turns, past, make}
+use Rattle.rules.specs.State.{State, Result, Reader, read, refuse, then, next, stands, first, end, past, make}
+use Rattle.rules.specs.List.{noEntry}
 use Rattle.rules.specs.Union.{partsFrom}
 use Rattle.parts.specs.Marks.{view, givenOf, nextMark, pastMark, Moved}
-use Rattle.parts.specs.Laid.{runIn, runs, IsNode, AllNodes, Was, was, BuiltAt, Shape}
-use Rattle.parts.specs.Says.{Says}
-use Rattle.parts.specs.Nodes.{MakesList, Links}
+use Rattle.parts.specs.Laid.{runs, AllNodes, Was, was, BuiltAt, Stands, Shape}
+use Rattle.parts.specs.Says.{Got, Says}
+use Rattle.parts.specs.Nodes.{Links}
 use Rattle.parts.specs.Lists.{here}
-use Rattle.parts.specs.Answers.{then-read, then-then, says-same, says-passed, says-stops}
-use Rattle.parts.specs.LeafLaws.{oneKid}
+use Rattle.parts.specs.Union.{isAlone, Joins, alone, joins}
+use Rattle.parts.specs.Answers.{then-read, then-then, says-same, says-as, says-stops}
+use Rattle.parts.specs.LaidLaws.{laid-on}
+use Rattle.parts.specs.LeafLaws.{noKids}
 use Rattle.parts.specs.ShapeLaws.{all-more}
 use Rattle.parts.specs.StepLaws.{view-past}
 use Rattle.parts.specs.RingLaws.{behindPart, parts-more, parts-end}
 use Rattle.parts.specs.Turns.{ListTurn, built-more}
 use Rattle.parts.specs.declared.state.Given.{Given}
 use Rattle.parts.specs.declared.state.Mark.{Mark}
-use Rattle.parts.specs.declared.state.Begin.{Begin}
 use Rattle.parts.specs.declared.state.Kids.{Kids}
 use Rattle.parts.specs.declared.state.Answer.{Answer}
-use Rattle.readers.specs.MovedLaws.{says-moved}
-use Rattle.readers.specs.ChildLaws.{built-child}
-use Rattle.readers.specs.Loops.{endParts, partsOf}
+use Rattle.readers.specs.Loops.{endParts, partsOf, partDue, behindOne}
+use Rattle.readers.specs.ListTurns.{turn-starts}
 
--- A test is as its answer in the code.
-tested : {A : Type 0} {r b c : Bool} (f g : Unit {0} → A) → r ≡ b → r ≡ c → test b f g ≡ test c f g
-tested f g e h = ap (λ (x : Bool). test x f g) (sym e ∙ h)
+-- The same is read where what follows is the same.
+then-same : {A B : Type 0} (x : Result A) {f g : A → State → Result B} → ((a : A) (s : State) → f a s ≡ g a s) → then x f ≡ then x g
+then-same (read a s) h = h a s
+then-same (refuse n i h) e = refl
+
+-- ---- Tests
+
+-- Behind a part that a mark follows, it is not alone.
+not-last : (n a : Bool) {b : Bool} → b ≡ true → (n and not (a or b)) ≡ false
+not-last true true e = refl
+not-last true false e = ap not e
+not-last false a e = refl
+
+-- Behind the last part, it is alone where the code finds it so.
+at-last : (l : List Placed) (a : Bool) {b r : Bool} {n : ℕ} → b ≡ false → n ≡ length l → (eqb n 0 and not a) ≡ r → (noEntry l and not (a or b)) ≡ r
+at-last [] true e c h = sym (ap (λ (m : ℕ). eqb m 0 and false) c) ∙ h
+at-last [] false e c h = ap not e ∙ sym (ap (λ (m : ℕ). eqb m 0 and true) c) ∙ h
+at-last (t ∷ l) a e c h = sym (ap (λ (m : ℕ). eqb m 0 and not a) c ∙ ap (λ (b : Bool). b and not a) (eqb·suc-zero (length l))) ∙ h
+
+-- With one part more there is an entry.
+some-entry : (l : List Placed) (t : Placed) → noEntry (l ++ (t ∷ [])) ≡ false
+some-entry [] t = refl
+some-entry (u ∷ l) t = refl
+
+-- Alone there are none before it.
+none-before : (l : List Placed) (a : Bool) {n : ℕ} → n ≡ length l → (eqb n 0 and not a) ≡ true → l ≡ []
+none-before [] a c h = refl
+none-before (t ∷ l) a c h = absurd (subst T (sym (sym (ap (λ (m : ℕ). eqb m 0 and not a) c ∙ ap (λ (b : Bool). b and not a) (eqb·suc-zero (length l))) ∙ h)) tt)
 
 -- Nodes of a tag over a list, with a mark between their parts.
 module _ (text W : List ℕ) (given : Given) (T : Reader) (mark tag : ℕ) (part : State → Result Placed) where
@@ -46,126 +72,128 @@ module _ (text W : List ℕ) (given : Given) (T : Reader) (mark tag : ℕ) (part
   abbrev made : ℕ → ℕ → List Placed → Placed
   made f e l = tree tag f e (listed l)
 
-  -- From the parts so far on, in a node that began at a state.
-  abbrev onward : State → ℕ → List Placed → State → Result Placed
-  onward = partsOf g T mark made part
-
-  -- Where the loop stands at its head.
+  -- Where the loop stands at its head, in a node that began at a state.
   abbrev Turn : State → Was → Result Placed → Kids → Mark → (N M O : List ℕ) → Type 0
-  Turn s B x k p N M O = ListTurn 0 (length W) B done (onward s) x (k .count) k p N M O
+  Turn s B x k p N M O = ListTurn 0 (length W) B done (partDue g T mark made part s) x (k .count) k p N M O
 
-  -- ---- The first part, which begins at q, past a mark that may stand at m
+  -- It begins, past a mark that may stand at m.
+  pub parts-start : {x : Result Placed} {k : Kids} (m q : Mark) (N M O : List ℕ) → x ≡ then (part (past g mark (view m O))) (behindPart g T mark made part (view m O))
+      → q ≡ pastMark W mark m → Moved (length W) m q → k ≡ noKids → Turn (view m O) (was m N M O) x k q N M O
+  parts-start m q N M O is q-is moved k-is =
+      turn-starts m q k-is (moved .used-is) (moved .named-is) (moved .noted-is)
+      (is ∙ ap (λ (s : State). then (part s) (behindPart g T mark made part (view m O)))
+      (sym (ap (λ (p : Mark). view p O) q-is ∙ view-past text W given mark m O)))
 
-  module _ {x : Result Placed} (m q : Mark) (N M O : List ℕ) {N' M' O' : List ℕ} {a : Answer}
-      (is : x ≡ then (part (past g mark (view m O))) (behindPart g T mark made part (view m O)))
-      (q-is : q ≡ pastMark W mark m) (moved : Moved (length W) m q) (says : Says 0 (was q N M O) (part (view q O)) a N' M' O') where
-    -- The answer of it, since m.
-    first-part : Says 0 (was m N M O) (part (past g mark (view m O))) a N' M' O'
-    first-part = says-same (ap part (sym (ap (λ (p : Mark). view p O) q-is ∙ view-past text W given mark m O))) (says-moved N M O moved says)
+  module _ (m : Mark) (O₀ : List ℕ) {B : Was} {x : Result Placed} {k : Kids} {p : Mark} {N M O : List ℕ} (w : Turn (view m O₀) B x k p N M O)
+      {a : Answer} {N' M' O' : List ℕ} (says : Says 0 (was p N M O) (part (view p O)) a N' M' O') where
+    -- The node began there.
+    abbrev began : State
+    began = view m O₀
 
-    -- It is refused.
-    pub first-refused : (a .why ≡ 0 → ⊥) → Says 0 (was m N M O) x a N' M' O'
-    first-refused h = says-stops (behindPart g T mark made part (view m O)) first-part h is
+    -- What is due behind a part.
+    abbrev behind : ℕ → List Placed → Placed → State → Result Placed
+    behind = behindOne g T mark made part began
 
-    module _ (z : a .why ≡ 0) {r : Bool} (r-is : r ≡ not (here W mark m or here W mark (a .m))) where
-      -- It is read.
-      behind : x ≡ behindPart g T mark made part (view m O) (first-part .done z .tree) (view (a .m) O')
-      behind = is ∙ then-read (behindPart g T mark made part (view m O)) (first-part .done z .is)
-
-      -- It is alone.
-      pub first-alone : r ≡ true → Says 0 (was m N M O) x a N' M' O'
-      first-alone h =
-          let u = first-part .done z .tree in
-          says-passed first-part z (behind ∙ tested (λ _. read u (view (a .m) O')) (λ _. onward (view m O) (turns g) (u ∷ []) (view (a .m) O')) r-is h)
-
-      -- It is not: the loop that any first part begins is at its head with it.
-      pub first-turn : {k₀ k : Kids} {p : Mark} {N₂ M₂ O₂ : List ℕ} → r ≡ false → k₀ ≡ oneKid (a .m .used) (a .high)
-          → ((B : Was) (u : Placed) → IsNode 0 u → BuiltAt B (runIn 0 u) k₀ (a .m) N' M' O'
-          → Turn (view m O') B (onward (view m O') (turns g) (u ∷ []) (view (a .m) O')) k p N₂ M₂ O₂)
-          → Turn (view m O) (was m N M O) x k p N₂ M₂ O₂
-      first-turn h k-is f =
-          let got = first-part .done z in
-          let w = f (was m N M O) (got .tree) (got .stands .is-node) (built-child k-is (got .stands)) in
-          record {
-            list = w .list;
-            fuel = w .fuel;
-            enough = w .enough;
-            is = behind ∙ tested (λ _. read (got .tree) (view (a .m) O')) (λ _. onward (view m O) (turns g) (got .tree ∷ []) (view (a .m) O')) r-is h ∙ w .is;
-            each = w .each;
-            many-is = w .many-is;
-            built = w .built;
-          }
-
-  -- ---- The loop
-
-  -- Its head behind a first part.
-  pub parts-begin : {B : Was} {u : Placed} {k : Kids} {p : Mark} {N M O : List ℕ} (s : State) → k .count ≡ 1 → IsNode 0 u → BuiltAt B (runIn 0 u) k p N M O
-      → Turn s B (onward s (turns g) (u ∷ []) (view p O)) k p N M O
-  parts-begin {B} {u} {k} {p} {N} {M} {O} s one n b =
-      record {
-        list = u ∷ [];
-        fuel = length W;
-        enough = omega arith;
-        is = refl;
-        each = (n, tt);
-        many-is = one;
-        built = subst (λ (r : Run). BuiltAt B r k p N M O) (sym (join-done (runIn 0 u))) b;
-      }
-
-  module _ (s : State) {B : Was} {x : Result Placed} {k : Kids} {p : Mark} {N M O : List ℕ} (w : Turn s B x k p N M O) where
     -- The end of the loop.
     abbrev finish : List Placed → State → Result Placed
-    finish = endParts g T mark made part s
+    finish = endParts g T mark made part began
 
-    -- A mark stands there: one part more is read.
-    turned : here W mark p ≡ true → x ≡ then (part (view (nextMark p) O)) (λ t q. onward s (w .fuel) (w .list ++ (t ∷ [])) q)
-    turned h =
-        w .is ∙ ap (λ (y : Result (List Placed)). then y finish) (parts-more g mark part (w .fuel) (w .list) (view p O) h)
-        ∙ then-then (part (view (nextMark p) O)) (λ t q. partsFrom g mark part (w .fuel) (w .list ++ (t ∷ [])) q) finish
+    -- A part is refused.
+    pub part-refused : (a .why ≡ 0 → ⊥) → Says 0 B x a N' M' O'
+    part-refused z = says-stops (behind (suc (w .fuel)) (w .list)) says z (w .is)
 
-    module _ (h : here W mark p ≡ true) {D : Was} {a : Answer} {N' M' O' : List ℕ} (says : Says 0 D (part (view (nextMark p) O)) a N' M' O') where
-      -- It is refused.
-      pub part-refused : (a .why ≡ 0 → ⊥) → Says 0 B x a N' M' O'
-      part-refused z = says-stops (λ t q. onward s (w .fuel) (w .list ++ (t ∷ [])) q) says z (turned h)
+    module _ (z : a .why ≡ 0) where
+      -- It was read.
+      abbrev one : Got 0 (was p N M O) (part (view p O)) (a .high) (a .m) N' M' O'
+      one = says .done z
 
-    -- It is read and linked, and the loop is at its head again.
-    pub parts-again : here W mark p ≡ true → {a : Answer} {k' : Kids} {N' M' O' N'' : List ℕ}
-        → Says 0 (was (nextMark p) N M O) (part (view (nextMark p) O)) a N' M' O' → a .why ≡ 0
-        → Links k (p .used) (a .m .used) (a .high) N' k' N'' → k' .count ≡ k .count + 1 → length N ≡ length N' → p .at < length W → p .at < a .m .at
-        → Turn s B x k' (a .m) N'' M' O'
-    parts-again h {a} {k'} {N'} {M'} {O'} {N''} says z links more same i j =
-        let got = says .done z in
-        let u = got .tree in
-        let less : w .fuel ≡ suc (w .fuel - 1) = omega (arith, w .enough) in
-        record {
-          list = w .list ++ (u ∷ []);
-          fuel = w .fuel - 1;
-          enough = omega (arith, w .enough);
-          is = turned h ∙ then-read (λ t q. onward s (w .fuel) (w .list ++ (t ∷ [])) q) (got .is)
-              ∙ ap (λ (n : ℕ). onward s n (w .list ++ (u ∷ [])) (view (a .m) O')) less;
-          each = all-more (w .list) (w .each) (got .stands .is-node);
-          many-is = omega (arith, more, w .many-is, length-append (w .list) (u ∷ []));
-          built = built-more 0 done (w .list) u (a .m)
-              (links 0 B (runs 0 (w .list)) u N M O M' O' (p .named) (p .noted) (a .m .named) (a .m .noted) (w .built) same
-              (got .stands .is-node) (got .stands .high-is) (got .stands .laid));
-        }
+      -- The parts with it.
+      abbrev more : List Placed
+      more = w .list ++ (one .tree ∷ [])
 
-    -- None stands there: the node over the parts is put.
-    pub parts-put : here W mark p ≡ false → 1 ≤ k .count → {b : Begin} {a : Answer} {N' : List ℕ}
-        → MakesList W given b tag k p N a N' → b .first ≡ first g s → b .name ≡ B .named
-        → ((t : Placed) (l : List Placed) → AllNodes 0 (t ∷ l) → Shape 0 tag (listed (t ∷ l)) (runs 0 (t ∷ l)) (tag + 64 * length (t ∷ l)))
-        → Says 0 B x a N' M O
-    parts-put h some {b} {a} {N'} makes first-is name-is shape =
-        says-same (w .is ∙ then-read finish (parts-end g mark part (w .fuel) (w .list) (view p O) h))
-        (over (w .list) (w .each) (w .many-is) (w .built))
-      where
-        -- There is at least one.
-        over : (l : List Placed) → AllNodes 0 l → k .count ≡ length l → BuiltAt B (runs 0 l) k p N M O
-            → Says 0 B (make g (length l ∷ []) (made (first g s) (end g (view p O)) l) (view p O)) a N' M O
-        over [] n c d = absurd (omega arith)
-        over (t ∷ l) n c d =
-            says-same
-            (ap (λ (y : ℕ). make g (y ∷ []) (made (first g s) (end g (view p O)) (t ∷ l)) (view p O)) (sym c)
-            ∙ ap (λ (y : ℕ). make g (k .count ∷ []) (made y (end g (view p O)) (t ∷ l)) (view p O)) (sym first-is))
-            (makes text B (runs 0 (t ∷ l)) (listed (t ∷ l)) M O d name-is
-            (subst (λ (y : ℕ). Shape 0 tag (listed (t ∷ l)) (runs 0 (t ∷ l)) (tag + 64 * y)) (sym c) (shape t l n)))
+      -- What is due behind it.
+      read-one : x ≡ behind (suc (w .fuel)) (w .list) (one .tree) (view (a .m) O')
+      read-one = w .is ∙ then-read (behind (suc (w .fuel)) (w .list)) (one .is)
+
+      -- It is linked.
+      linked : {k' : Kids} {N'' : List ℕ} → Links k (p .used) (a .m .used) (a .high) N' k' N'' → length N ≡ length N' → BuiltAt B (runs 0 more) k' (a .m) N'' M' O'
+      linked links same =
+          built-more 0 done (w .list) (one .tree) (a .m)
+          (links 0 B (runs 0 (w .list)) (one .tree) N M O M' O' (p .named) (p .noted) (a .m .named) (a .m .noted) (w .built) same
+          (one .stands .is-node) (one .stands .high-is) (one .stands .laid))
+
+      -- A mark follows it, and one part more is due.
+      goes-on : here W mark (a .m) ≡ true → x ≡ partDue g T mark made part began (w .fuel) more (view (nextMark (a .m)) O')
+      goes-on h =
+          read-one
+          ∙ ap (λ (b : Bool). test b (λ _. read (one .tree) (view (a .m) O')) (λ _. partsOf g T mark made part began (suc (w .fuel)) more (view (a .m) O')))
+          (not-last (noEntry (w .list)) (stands g mark began) h)
+          ∙ ap (λ (y : Result (List Placed)). then y finish) (parts-more g mark part (w .fuel) more (view (a .m) O') h)
+          ∙ then-then (part (view (nextMark (a .m)) O')) (λ t q. partsFrom g mark part (w .fuel) (more ++ (t ∷ [])) q) finish
+          ∙ then-same (part (view (nextMark (a .m)) O'))
+          (λ t q. ap (λ (n : Bool). test (n and not (stands g mark began or stands g mark q)) (λ _. read t q)
+          (λ _. partsOf g T mark made part began (w .fuel) (more ++ (t ∷ [])) q))
+          (sym (some-entry (w .list) (one .tree))))
+
+      -- The loop is at its head again.
+      pub parts-again : here W mark (a .m) ≡ true → {k' : Kids} {q : Mark} {N'' : List ℕ} → q ≡ nextMark (a .m)
+          → Links k (p .used) (a .m .used) (a .high) N' k' N'' → k' .count ≡ k .count + 1 → length N ≡ length N' → p .at < length W → p .at ≤ a .m .at
+          → Turn began B x k' q N'' M' O'
+      parts-again h {k'} {q} {N''} q-is links count-is same i j =
+          let less : w .fuel ≡ suc (w .fuel - 1) = omega (arith, w .enough) in
+          let at-is : q .at ≡ a .m .at + 1 = ap (λ (y : Mark). y .at) q-is in
+          subst (λ (y : Mark). Turn began B x k' y N'' M' O') (sym q-is)
+          (record {
+            list = more;
+            fuel = w .fuel - 1;
+            enough = omega (arith, w .enough);
+            is = goes-on h ∙ ap (λ (n : ℕ). partDue g T mark made part began n more (view (nextMark (a .m)) O')) less;
+            each = all-more (w .list) (w .each) (one .stands .is-node);
+            many-is = omega (arith, count-is, w .many-is, length-append (w .list) (one .tree ∷ []));
+            built = linked links same;
+          })
+
+      -- None follows: it is alone, or the node over all of them is put.
+      pub parts-joined : here W mark (a .m) ≡ false → {r : Answer} {N'' : List ℕ} → Joins W given mark tag k (p .used) m N' a r N'' → length N ≡ length N' → B .named ≡ m .named
+          → ((t : Placed) (l : List Placed) → AllNodes 0 (t ∷ l) → Shape 0 tag (listed (t ∷ l)) (runs 0 (t ∷ l)) (tag + 64 * length (t ∷ l)))
+          → Says 0 B x r N'' M' O'
+      parts-joined h {r} {N''} j same name-is shape = by j
+        where
+          -- What the test behind it comes to.
+          tested : {b : Bool} → isAlone W mark k m ≡ b
+              → x ≡ test b (λ _. read (one .tree) (view (a .m) O')) (λ _. partsOf g T mark made part began (suc (w .fuel)) more (view (a .m) O'))
+          tested e =
+              read-one
+              ∙ ap (λ (b : Bool). test b (λ _. read (one .tree) (view (a .m) O')) (λ _. partsOf g T mark made part began (suc (w .fuel)) more (view (a .m) O')))
+              (at-last (w .list) (here W mark m) h (w .many-is) e)
+
+          -- Nothing stood before it.
+          first-one : isAlone W mark k m ≡ true → Stands 0 B (one .tree) (a .high) (a .m) N' M' O'
+          first-one e =
+              record {
+                is-node = one .stands .is-node;
+                high-is = one .stands .high-is;
+                laid =
+                    laid-on []
+                    (subst (λ (l : List Placed). BuiltAt B (runs 0 l) k p N M O) (none-before (w .list) (here W mark m) (w .many-is) e) (w .built) .laid)
+                    (one .stands .laid);
+              }
+
+          -- There is at least one.
+          over : (l : List Placed) (t : Placed) → AllNodes 0 (l ++ (t ∷ [])) → Shape 0 tag (listed (l ++ (t ∷ []))) (runs 0 (l ++ (t ∷ []))) (tag + 64 * length (l ++ (t ∷ [])))
+          over [] t n = shape t [] n
+          over (u ∷ l) t n = shape u (l ++ (t ∷ [])) n
+
+          by : Joins W given mark tag k (p .used) m N' a r N'' → Says 0 B x r N'' M' O'
+          by (alone e r-is n-is) =
+              subst (λ (y : List ℕ). Says 0 B x r y M' O') (sym n-is)
+              (says-as r-is (record { done = λ _. record { tree = one .tree; is = tested e; stands = first-one e }; refused = λ n. absurd (n z) }))
+          by (joins e b first-is b-name l N₁ links count-is makes) =
+              let many : l .count ≡ length more = omega (arith, count-is, w .many-is, length-append (w .list) (one .tree ∷ [])) in
+              says-same
+              (tested e ∙ then-read finish (parts-end g mark part (w .fuel) more (view (a .m) O') h)
+              ∙ ap (λ (y : ℕ). make g (y ∷ []) (made (first g began) (end g (view (a .m) O')) more) (view (a .m) O')) (sym many)
+              ∙ ap (λ (y : ℕ). make g (l .count ∷ []) (made y (end g (view (a .m) O')) more) (view (a .m) O')) (sym first-is))
+              (makes text B (runs 0 more) (listed more) M' O' (linked links same) (b-name ∙ sym name-is)
+              (subst (λ (y : ℕ). Shape 0 tag (listed more) (runs 0 more) (tag + 64 * y)) (sym many)
+              (over (w .list) (one .tree) (all-more (w .list) (w .each) (one .stands .is-node)))))

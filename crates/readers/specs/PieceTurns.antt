@@ -18,8 +18,8 @@ use Rattle.rules.specs.State.{State, Result, Reader, refuse, then, next, first,
 use Rattle.rules.specs.Template as template
 use Rattle.parts.specs.Marks.{view, givenOf, namedMark}
 use Rattle.parts.specs.Laid.{nameRun, namesRun, Was, was, Laid, BuiltAt, Spoken}
-use Rattle.parts.specs.Says.{Got, Says}
-use Rattle.parts.specs.Nodes.{Links, MakesList}
+use Rattle.parts.specs.Says.{GotChild, Says}
+use Rattle.parts.specs.Nodes.{MakesList}
 use Rattle.parts.specs.Answers.{says-same, then-read, then-refused}
 use Rattle.parts.specs.BuiltLaws.{built-names, laid-spoken}
 use Rattle.parts.specs.LeafLaws.{noKids}
@@ -74,7 +74,7 @@ module _ (text W : List ℕ) (given : Given) (T : Reader) where
     pieces-refused e =
         w .is ∙ then-refused (endTemplate gave T s) (pieces-is gave T (w .fuel) (w .list) (view p O) ∙ then-refused (behindPiece gave T (w .fuel) (w .list)) e)
 
-    module _ {high : ℕ} (q : Mark) {N' M' O' : List ℕ} (got : Got 0 (was p N M O) (T true (view p O)) high q N' M' O') where
+    module _ (q : Mark) {k' : Kids} {N' M' O' : List ℕ} (got : GotChild B (nameRun (spelling gave s) ⊕ pieceRuns (w .list)) (T true (view p O)) k' q N' M' O') where
       -- What is due behind a type.
       abbrev behind : ℕ → Result Placed
       behind n = then (behindPiece gave T n (w .list) (got .tree) (view q O')) (endTemplate gave T s)
@@ -100,17 +100,15 @@ module _ (text W : List ℕ) (given : Given) (T : Reader) where
       tail : (n : ℕ) → kindAt W (q .at) (q .half) ≡ TemplateTail → behind n ≡ endTemplate gave T s more (next (view q O'))
       tail n e = rw e
 
-      module _ {k' : Kids} {r : Mark} {N'' M'' : List ℕ} (l : Links k (p .used) (q .used) high N' k' N'') (same : length N ≡ length N') (many : k' .count ≡ k .count + 1)
+      module _ {r : Mark} {M'' : List ℕ} (many : k' .count ≡ k .count + 1)
           (r-is : r ≡ namedMark q) (spoken : Spoken (spelling gave (view q O') ∷ []) q (namedMark q) M' M'') where
         -- One type and one name more are built.
-        more-built : BuiltAt B (nameRun (spelling gave s) ⊕ pieceRuns more) k' r N'' M'' O'
+        more-built : BuiltAt B (nameRun (spelling gave s) ⊕ pieceRuns more) k' r N' M'' O'
         more-built =
-            subst (λ (y : Mark). BuiltAt B (nameRun (spelling gave s) ⊕ pieceRuns more) k' y N'' M'' O') (sym r-is)
-            (subst (λ (y : Run). BuiltAt B y k' (namedMark q) N'' M'' O')
+            subst (λ (y : Mark). BuiltAt B (nameRun (spelling gave s) ⊕ pieceRuns more) k' y N' M'' O') (sym r-is)
+            (subst (λ (y : Run). BuiltAt B y k' (namedMark q) N' M'' O')
             (ap (name (spelling gave s .0) (spelling gave s .1)) (sym (pieces-join (w .list) (got .tree) (spelling gave (view q O')))))
-            (built-named (spelling gave (view q O') ∷ []) spoken
-            (l 0 B (nameRun (spelling gave s) ⊕ pieceRuns (w .list)) (got .tree) N M O M' O' (p .named) (p .noted) (q .named) (q .noted) (w .built) same
-            (got .stands .is-node) (got .stands .high-is) (got .stands .laid))))
+            (built-named (spelling gave (view q O') ∷ []) spoken (got .built)))
 
         -- They are as many as were counted.
         more-many : k' .count ≡ length more
@@ -118,7 +116,7 @@ module _ (text W : List ℕ) (given : Given) (T : Reader) where
 
         -- The template goes on.
         pub pieces-again : kindAt W (q .at) (q .half) ≡ TemplateMiddle → p .at < length W → p .at ≤ q .at
-            → PieceTurn (length W) B (spelling gave s) (piecesOf gave T s) x (k' .count) k' r N'' M'' O'
+            → PieceTurn (length W) B (spelling gave s) (piecesOf gave T s) x (k' .count) k' r N' M'' O'
         pieces-again e i j =
             let fuel-is : w .fuel ≡ suc (w .fuel - 1) = omega (arith, w .enough) in
             let at-is : r .at ≡ q .at + 1 = ap (λ (y : Mark). y .at) r-is in
@@ -129,14 +127,14 @@ module _ (text W : List ℕ) (given : Given) (T : Reader) where
               is =
                   follows ∙ middle (w .fuel) e ∙ ap (λ (n : ℕ). piecesOf gave T s n more (next (view q O'))) fuel-is
                   ∙ ap (λ (y : Mark). piecesOf gave T s (suc (w .fuel - 1)) more (view y O')) (sym r-is);
-              each = all-pieces (w .list) (spelling gave (view q O')) (w .each) (got .stands .is-node);
+              each = all-pieces (w .list) (spelling gave (view q O')) (w .each) (got .is-node);
               many-is = more-many;
               built = more-built;
             }
 
         -- The template ends.
         pub pieces-end : {b : Begin} {a : Answer} {N₃ : List ℕ} → kindAt W (q .at) (q .half) ≡ TemplateTail → b .first ≡ first gave s → b .name ≡ B .named
-            → MakesList W given b 15 k' r N'' a N₃ → Says 0 B x a N₃ M'' O'
+            → MakesList W given b 15 k' r N' a N₃ → Says 0 B x a N₃ M'' O'
         pieces-end {b} {a} {N₃} e f n makes =
             let put : ℕ → ℕ → Mark → Result Placed = λ c i y. make gave (c ∷ []) (node.template i (end gave (view y O')) (spelling gave s) more) (view y O') in
             says-same
@@ -144,4 +142,4 @@ module _ (text W : List ℕ) (given : Given) (T : Reader) where
             ∙ ap (λ (i : ℕ). put (length more) i r) (sym f) ∙ ap (λ (c : ℕ). put c (b .first) r) (sym more-many))
             (makes text B (nameRun (spelling gave s) ⊕ pieceRuns more) _ M'' O' more-built n
             (shape-as (ap (λ (c : ℕ). 15 + 64 * c) more-many)
-            (shape-template (spelling gave s) more (all-pieces (w .list) (spelling gave (view q O')) (w .each) (got .stands .is-node)))))
+            (shape-template (spelling gave s) more (all-pieces (w .list) (spelling gave (view q O')) (w .each) (got .is-node)))))

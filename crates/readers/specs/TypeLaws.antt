@@ -4,23 +4,17 @@ use mathlib.Core.Bool.{Bool, true, false}
 use mathlib.Core.List.{List}
 use Prim.Native.Nat.{ℕ}
 use Rattle.words.specs.Kind.{Question, Colon, Extends}
-use Rattle.keys.specs.Placed.{Placed, absent, present}
+use Rattle.keys.specs.Placed.{Placed}
 use Rattle.rules.specs.Refusal.{unexpected}
-use Rattle.rules.specs.State.{Given, State, Result, Reader, read, refused, next, stands, onLine, first, optional}
+use Rattle.rules.specs.State.{Given, State, Result, Reader, read, refused, next, stands, onLine, first}
 use Rattle.rules.specs.TypeRule as type
 use Rattle.rules.specs.Union as union
 use Rattle.rules.specs.Primary as primary
-use Rattle.parts.specs.Marks.{view}
-use Rattle.parts.specs.Laid.{was}
-use Rattle.parts.specs.Says.{Says, SaysOpt}
 use Rattle.parts.specs.Onward.{behindColon, behindQuestion}
 use Rattle.parts.specs.Primaries.{closeParens}
 use Rattle.parts.specs.Answers.{then-read, then-refused}
-use Rattle.parts.specs.RingLaws.{expect-yes, expect-no, optional-none, optional-some, orConditional, union-or, conditional-is, question-is}
+use Rattle.parts.specs.RingLaws.{expect-yes, expect-no, orConditional, union-or, conditional-is, question-is}
 use Rattle.parts.specs.PrimaryLaws.{brackets-is}
-use Rattle.parts.specs.LaidLaws.{laid-none}
-use Rattle.parts.specs.declared.state.Mark.{Mark}
-use Rattle.parts.specs.declared.state.Answer.{Answer}
 
 -- ---- Behind a union
 
@@ -65,35 +59,6 @@ module _ (g : Given) (T : Reader) (b : ℕ) (t : Placed) where
   pub colon-some : (x : Placed) (s : State) {y : Placed} {q : State} → T true s ≡ read y q → stands g Colon q ≡ true
       → behindQuestion g T b t x s ≡ behindColon g T b t x y (next q)
   colon-some x s {y} {q} is e = question-is g T b t x s ∙ then-read _ is ∙ expect-yes g Colon q (behindColon g T b t x y) e
-
--- ---- Optional types
-
-module _ (g : Given) (mark : ℕ) (part : State → Result Placed) (m : Mark) (N M O : List ℕ) where
-  -- The mark does not stand here: nothing was read.
-  pub opt-absent : {a : Answer} → a ≡ record { why = 0; high = 0; m = m } → stands g mark (view m O) ≡ false → SaysOpt (was m N M O) (optional g mark part (view m O)) a N M O
-  opt-absent {a} e h =
-      subst (λ (x : Answer). SaysOpt (was m N M O) (optional g mark part (view m O)) x N M O) (sym e)
-      (record {
-        done = λ _. record { tree = absent; is = optional-none g mark part (view m O) h; is-opt = tt; high-is = refl; laid = laid-none (m .used) (m .named) (m .noted) N M O };
-        refused = λ n. absurd (n refl);
-      })
-
-  -- It stands here: the type behind it.
-  pub opt-present : {a : Answer} {N' M' O' : List ℕ} → stands g mark (view m O) ≡ true → Says 0 (was m N M O) (part (next (view m O))) a N' M' O'
-      → SaysOpt (was m N M O) (optional g mark part (view m O)) a N' M' O'
-  opt-present h w =
-      record {
-        done = λ z.
-            let got = w .done z in
-            record {
-              tree = present (got .tree);
-              is = optional-some g mark part (view m O) h ∙ then-read _ (got .is);
-              is-opt = got .stands .is-node;
-              high-is = got .stands .high-is;
-              laid = got .stands .laid;
-            };
-        refused = λ n. optional-some g mark part (view m O) h ∙ then-refused _ (w .refused n);
-      }
 
 -- ---- Brackets
 

@@ -1,23 +1,16 @@
 // The ring: readers that call one another, each under the name of its rule.
 ghost use mathlib.Core.Path.{_≡_};
-ghost use mathlib.Core.List.{List, []};
-ghost use Prim.Native.Nat.{ℕ, _+_, _-_, _*_, _^_, _≤_, _<_};
+ghost use Prim.Native.Nat.{_+_, _*_, _≤_, _<_};
 ghost use lib.ListN.{length};
-ghost use Rattle.words.specs.Limits.{mostTokens, tallest};
+ghost use Rattle.words.specs.Limits.{tallest};
 ghost use Rattle.words.specs.Kind.{LCurly, LBrack, TemplateHead};
-ghost use Rattle.words.specs.Class.{classWords};
 ghost use Rattle.words.specs.Cursor.{kindAt};
 ghost use Rattle.keys.specs.Bits.{unit};
-ghost use Rattle.keys.specs.Placed.{Placed, Spelling, Opt};
-ghost use Rattle.keys.specs.Store.{Run, done};
-ghost use Rattle.keys.specs.StoreLaws.{_⊕_};
-ghost use Rattle.rules.specs.State.{optional, turns};
-ghost use Rattle.rules.specs.List.{count};
+ghost use Rattle.rules.specs.State.{optional};
 ghost use Rattle.rules.specs.Reading.{readType};
 ghost use Rattle.rules.specs.TypeRule as type;
 ghost use Rattle.rules.specs.TypeParameters as types;
 ghost use Rattle.rules.specs.Function as function;
-ghost use Rattle.rules.specs.Function.{ThisParameter};
 ghost use Rattle.rules.specs.Union as union;
 ghost use Rattle.rules.specs.Operator as operator;
 ghost use Rattle.rules.specs.Infer as infer;
@@ -27,20 +20,18 @@ ghost use Rattle.rules.specs.Arguments as arguments;
 ghost use Rattle.rules.specs.Mapped as mapped;
 ghost use Rattle.rules.specs.Tuple as tuple;
 ghost use Rattle.rules.specs.Template as template;
-ghost use Rattle.parts.specs.Marks.{view, givenOf, Sound, Spelt, Room, Fine, Under, placeOf};
-ghost use Rattle.parts.specs.Laid.{runIn, runsOpt, nameRun, IsNode, AllOpt, Was, was, BuiltAt, Stands};
-ghost use Rattle.parts.specs.Says.{Says, Starts, SaysOpt, SaysList, isThere};
-ghost use Rattle.parts.specs.Functions.{ThisIs, thisRun, SaysParams};
+ghost use Rattle.parts.specs.Marks.{Under, placeOf};
 ghost use Rattle.parts.specs.Onward as onward;
-ghost use Rattle.parts.specs.Ring.{below, SaysRest};
+ghost use Rattle.parts.specs.Ring.{below};
 ghost use Rattle.readers.specs.Kept.{Past};
+ghost use Rattle.readers.specs.Ring.{Ready, Begun, Reads, ReadsList, Child, OnwardChild, Option, Behind, Parameters, Others, Within, WithinList, WithinParams, Onward};
 use parts::arguments::named_head;
 use parts::arguments::named_node;
 use parts::arguments::opened;
 use parts::arguments::opens;
-use parts::function::FunctionHead;
 use parts::function::Params;
 use parts::function::This;
+use parts::function::before_this;
 use parts::function::begins;
 use parts::function::freed;
 use parts::function::function_head;
@@ -65,13 +56,11 @@ use parts::mapped::mapped_node;
 use parts::names::spell;
 use parts::node::Tag;
 use parts::node::link;
-use parts::node::link_opt;
 use parts::node::opt_bit;
 use parts::node::put;
 use parts::node::put_about;
 use parts::node::put_list;
 use parts::notes::Note;
-use parts::notes::report_if;
 use parts::operator::past_operators;
 use parts::operator::put_operators;
 use parts::postfix::array;
@@ -98,12 +87,14 @@ use parts::tuple::checked;
 use parts::tuple::element_head;
 use parts::tuple::element_node;
 use parts::tuple::tuple_node;
-use parts::union::lone;
+use parts::union::joined;
 use words::ahead::starter;
 use words::kind::Kind;
 
-// Type: a function type where one starts, else a union and what `extends` brings; 5 where no rule may open any more.
+// Type: a function type where one starts, else a union, which `extends` on its line makes a conditional where that is allowed;
+// 5 where no rule may open any more.
 pub fn ty(
+    text: &[u8],
     words: &[u64],
     classes: &[u16; 256],
     nodes: &mut [u64],
@@ -113,10 +104,10 @@ pub fn ty(
     on: bool,
     m: Mark,
 ) -> Answer
-    requires { ⌜ (now classes ≡ classWords) × Sound (now words) × Room (length (now nodes)) (length (now notes)) given × Fine (length (now words)) given m ⌝ }
-    ensures { λ r. ⌜ Starts 0 (λ g. readType g (given .left) on) (now (words .entry)) given m (now (nodes .entry)) (now (names .entry)) (now (notes .entry)) r (now (nodes .exit)) (now (names .exit)) (now (notes .exit)) ⌝ }
-    ensures { λ r. ⌜ Fine (length (now (words .entry))) given (r .m) × (r .high ≤ tallest) ⌝ }
-    ensures { λ r. ⌜ (r .why ≡ 0 → Past (placeOf m + 1) (m .used + 1) (r .m)) ⌝ }
+    requires { ⌜ Ready (now text) (now words) (now classes) (now nodes) (now notes) given m ⌝ }
+    ensures { λ r. ⌜ Reads 0 (λ g. readType g (given .left) on) text words given m nodes names notes r ⌝ }
+    ensures { λ r. ⌜ Within words given r ⌝ }
+    ensures { λ r. ⌜ Onward m r ⌝ }
 {
     if given.left == 0 {
         return Answer::refused(Refusal::TOO_DEEP, m);
@@ -128,28 +119,9 @@ pub fn ty(
         left: given.left - 1,
     };
     if begins(words, classes, m) {
-        return function(words, classes, nodes, names, notes, below, on, m);
+        return function(text, words, classes, nodes, names, notes, below, on, m);
     }
-    cond(words, classes, nodes, names, notes, below, on, m)
-}
-
-// Type: a union, which `extends` on its line makes a conditional where that is allowed.
-fn cond(
-    words: &[u64],
-    classes: &[u16; 256],
-    nodes: &mut [u64],
-    names: &mut [u64],
-    notes: &mut [u64],
-    given: Given,
-    on: bool,
-    m: Mark,
-) -> Answer
-    requires { ⌜ (now classes ≡ classWords) × Sound (now words) × Room (length (now nodes)) (length (now notes)) given × Fine (length (now words)) given m ⌝ }
-    ensures { λ r. ⌜ Starts 0 (λ g. type.unionOrConditional g (below given g) on) (now (words .entry)) given m (now (nodes .entry)) (now (names .entry)) (now (notes .entry)) r (now (nodes .exit)) (now (names .exit)) (now (notes .exit)) ⌝ }
-    ensures { λ r. ⌜ Fine (length (now (words .entry))) given (r .m) × (r .high ≤ tallest) ⌝ }
-    ensures { λ r. ⌜ (r .why ≡ 0 → Past (placeOf m + 1) (m .used + 1) (r .m)) ⌝ }
-{
-    let a = union(words, classes, nodes, names, notes, given, on, m);
+    let a = union(text, words, classes, nodes, names, notes, below, on, m);
     if a.why != 0 {
         return a;
     }
@@ -164,11 +136,23 @@ fn cond(
         return a;
     }
     let b = Begin::at(words, m);
-    extends(words, classes, nodes, names, notes, given, b, a.high, q)
+    extends(
+        text,
+        words,
+        classes,
+        nodes,
+        names,
+        notes,
+        below,
+        b,
+        a.high,
+        q,
+    )
 }
 
-// Type: at the `extends` of a conditional; what is extended is read with conditionals off.
+// Type: at the `extends` of a conditional; what is extended is read with conditionals off, both arms with them on.
 fn extends(
+    text: &[u8],
     words: &[u64],
     classes: &[u16; 256],
     nodes: &mut [u64],
@@ -179,10 +163,10 @@ fn extends(
     high: usize,
     m: Mark,
 ) -> Answer
-    requires { ⌜ (now classes ≡ classWords) × Sound (now words) × Room (length (now nodes)) (length (now notes)) given × Fine (length (now words)) given m × (m .at < length (now words)) × (1 ≤ m .used) × (high ≤ tallest) × (b .first < 2 ^ 32) × (b .name ≤ mostTokens) ⌝ }
-    ensures { λ r. ⌜ ((text : List ℕ) (B : Was) (u : Placed) → Spelt text (now (words .entry)) → Stands 0 B u high m (now (nodes .entry)) (now (names .entry)) (now (notes .entry)) → b .name ≡ B .named → Says 0 B (type.conditional (givenOf text (now (words .entry)) given) (below given (givenOf text (now (words .entry)) given)) (b .first) u (view m (now (notes .entry)))) r (now (nodes .exit)) (now (names .exit)) (now (notes .exit))) ⌝ }
-    ensures { λ r. ⌜ Fine (length (now (words .entry))) given (r .m) × (r .high ≤ tallest) ⌝ }
-    ensures { λ r. ⌜ (r .why ≡ 0 → Past (placeOf m + 1) (m .used + 1) (r .m)) ⌝ }
+    requires { ⌜ Ready (now text) (now words) (now classes) (now nodes) (now notes) given m × (m .at < length (now words)) × (1 ≤ m .used) × (high ≤ tallest) × Begun b ⌝ }
+    ensures { λ r. ⌜ Behind (λ u g. type.conditional g (below given g) (b .first) u) text words given b high m nodes names notes r ⌝ }
+    ensures { λ r. ⌜ Within words given r ⌝ }
+    ensures { λ r. ⌜ Onward m r ⌝ }
 {
     let s = Mark {
         at: m.at + 1,
@@ -191,15 +175,25 @@ fn extends(
         named: m.named,
         noted: m.noted,
     };
-    let a = ty(words, classes, nodes, names, notes, given, false, s);
-    if a.why != 0 {
-        return a;
+    let x = child(
+        text,
+        words,
+        classes,
+        nodes,
+        names,
+        notes,
+        given,
+        false,
+        Kids::one(m.used, high),
+        s,
+    );
+    if x.why != 0 {
+        return Answer::refused(x.why, x.m);
     }
-    let q = a.m;
+    let q = x.m;
     if kind_at(words, q) != Kind::QUESTION {
         return Answer::refused(Refusal::UNEXPECTED, q);
     }
-    let k = link(nodes, Kids::one(m.used, high), m.used, q.used, a.high);
     let p = Mark {
         at: q.at + 1,
         half: 0,
@@ -207,73 +201,85 @@ fn extends(
         named: q.named,
         noted: q.noted,
     };
-    then(words, classes, nodes, names, notes, given, b, k, p)
-}
-
-// Type: behind the `?` of a conditional.
-fn then(
-    words: &[u64],
-    classes: &[u16; 256],
-    nodes: &mut [u64],
-    names: &mut [u64],
-    notes: &mut [u64],
-    given: Given,
-    b: Begin,
-    kids: Kids,
-    m: Mark,
-) -> Answer
-    requires { ⌜ (now classes ≡ classWords) × Sound (now words) × Room (length (now nodes)) (length (now notes)) given × Fine (length (now words)) given m × Under (m .used) kids × (b .first < 2 ^ 32) × (b .name ≤ mostTokens) ⌝ }
-    ensures { λ r. ⌜ ((text : List ℕ) (B : Was) (u x : Placed) → Spelt text (now (words .entry)) → IsNode 0 u → IsNode 0 x → BuiltAt B (runIn 0 u ⊕ runIn 0 x) kids m (now (nodes .entry)) (now (names .entry)) (now (notes .entry)) → b .name ≡ B .named → Says 0 B (onward.behindQuestion (givenOf text (now (words .entry)) given) (below given (givenOf text (now (words .entry)) given)) (b .first) u x (view m (now (notes .entry)))) r (now (nodes .exit)) (now (names .exit)) (now (notes .exit))) ⌝ }
-    ensures { λ r. ⌜ Fine (length (now (words .entry))) given (r .m) × (r .high ≤ tallest) ⌝ }
-    ensures { λ r. ⌜ (r .why ≡ 0 → Past (placeOf m + 1) (m .used + 1) (r .m)) ⌝ }
-{
-    let a = ty(words, classes, nodes, names, notes, given, true, m);
-    if a.why != 0 {
-        return a;
+    let y = child(
+        text,
+        words,
+        classes,
+        nodes,
+        names,
+        notes,
+        given,
+        true,
+        x.kids,
+        p,
+    );
+    if y.why != 0 {
+        return Answer::refused(y.why, y.m);
     }
-    let q = a.m;
-    if kind_at(words, q) != Kind::COLON {
-        return Answer::refused(Refusal::UNEXPECTED, q);
+    let r = y.m;
+    if kind_at(words, r) != Kind::COLON {
+        return Answer::refused(Refusal::UNEXPECTED, r);
     }
-    let k = link(nodes, kids, m.used, q.used, a.high);
-    let p = Mark {
-        at: q.at + 1,
+    let t = Mark {
+        at: r.at + 1,
         half: 0,
-        used: q.used,
-        named: q.named,
-        noted: q.noted,
+        used: r.used,
+        named: r.named,
+        noted: r.noted,
     };
-    other(words, classes, nodes, names, notes, given, b, k, p)
+    let z = child(
+        text,
+        words,
+        classes,
+        nodes,
+        names,
+        notes,
+        given,
+        true,
+        y.kids,
+        t,
+    );
+    if z.why != 0 {
+        return Answer::refused(z.why, z.m);
+    }
+    put(words, nodes, given, b, Tag::CONDITIONAL, z.kids, z.m)
 }
 
-// Type: behind the `:` of a conditional.
-fn other(
+// A type that is one child more.
+fn child(
+    text: &[u8],
     words: &[u64],
     classes: &[u16; 256],
     nodes: &mut [u64],
     names: &mut [u64],
     notes: &mut [u64],
     given: Given,
-    b: Begin,
+    on: bool,
     kids: Kids,
     m: Mark,
-) -> Answer
-    requires { ⌜ (now classes ≡ classWords) × Sound (now words) × Room (length (now nodes)) (length (now notes)) given × Fine (length (now words)) given m × Under (m .used) kids × (b .first < 2 ^ 32) × (b .name ≤ mostTokens) ⌝ }
-    ensures { λ r. ⌜ ((text : List ℕ) (B : Was) (u x y : Placed) → Spelt text (now (words .entry)) → IsNode 0 u → IsNode 0 x → IsNode 0 y → BuiltAt B ((runIn 0 u ⊕ runIn 0 x) ⊕ runIn 0 y) kids m (now (nodes .entry)) (now (names .entry)) (now (notes .entry)) → b .name ≡ B .named → Says 0 B (onward.behindColon (givenOf text (now (words .entry)) given) (below given (givenOf text (now (words .entry)) given)) (b .first) u x y (view m (now (notes .entry)))) r (now (nodes .exit)) (now (names .exit)) (now (notes .exit))) ⌝ }
-    ensures { λ r. ⌜ Fine (length (now (words .entry))) given (r .m) × (r .high ≤ tallest) ⌝ }
-    ensures { λ r. ⌜ (r .why ≡ 0 → Past (placeOf m + 1) (m .used + 1) (r .m)) ⌝ }
+) -> Listed
+    requires { ⌜ Ready (now text) (now words) (now classes) (now nodes) (now notes) given m × Under (m .used) kids ⌝ }
+    ensures { λ r. ⌜ Child (λ g. below given g on) text words given kids m nodes names notes r ⌝ }
+    ensures { λ r. ⌜ WithinList words given r ⌝ }
+    ensures { λ r. ⌜ OnwardChild kids m r ⌝ }
 {
-    let a = ty(words, classes, nodes, names, notes, given, true, m);
+    let a = ty(text, words, classes, nodes, names, notes, given, on, m);
     if a.why != 0 {
-        return a;
+        return Listed::refused(a.why, a.m);
     }
     let q = a.m;
     let k = link(nodes, kids, m.used, q.used, a.high);
-    put(words, nodes, given, b, Tag::CONDITIONAL, k, q)
+    Listed {
+        why: 0,
+        there: true,
+        kids: k,
+        m: q,
+    }
 }
 
-// An optional type after a mark. It is absent where the answer's height is 0.
+// An optional type after a mark, which is one child more where it stands.
 fn opt(
+    text: &[u8],
     words: &[u64],
     classes: &[u16; 256],
     nodes: &mut [u64],
@@ -282,15 +288,21 @@ fn opt(
     given: Given,
     mark: usize,
     on: bool,
+    kids: Kids,
     m: Mark,
-) -> Answer
-    requires { ⌜ (now classes ≡ classWords) × Sound (now words) × Room (length (now nodes)) (length (now notes)) given × Fine (length (now words)) given m × (0 < mark) ⌝ }
-    ensures { λ r. ⌜ ((text : List ℕ) → Spelt text (now (words .entry)) → SaysOpt (was m (now (nodes .entry)) (now (names .entry)) (now (notes .entry))) (optional (givenOf text (now (words .entry)) given) mark ((below given (givenOf text (now (words .entry)) given)) on) (view m (now (notes .entry)))) r (now (nodes .exit)) (now (names .exit)) (now (notes .exit))) ⌝ }
-    ensures { λ r. ⌜ Fine (length (now (words .entry))) given (r .m) × (r .high ≤ tallest) ⌝ }
-    ensures { λ r. ⌜ (r .why ≡ 0 → Past (placeOf m) (m .used) (r .m) × (r .high ≤ tallest * (r .m .used - m .used))) ⌝ }
+) -> Listed
+    requires { ⌜ Ready (now text) (now words) (now classes) (now nodes) (now notes) given m × (0 < mark) × Under (m .used) kids ⌝ }
+    ensures { λ r. ⌜ Option (λ g. optional g mark (below given g on)) text words given kids m nodes names notes r ⌝ }
+    ensures { λ r. ⌜ WithinList words given r ⌝ }
+    ensures { λ r. ⌜ (r .why ≡ 0 → Past (placeOf m) (m .used) (r .m)) ⌝ }
 {
     if kind_at(words, m) != mark {
-        return Answer::taken(m);
+        return Listed {
+            why: 0,
+            there: false,
+            kids,
+            m,
+        };
     }
     let s = Mark {
         at: m.at + 1,
@@ -299,11 +311,23 @@ fn opt(
         named: m.named,
         noted: m.noted,
     };
-    ty(words, classes, nodes, names, notes, given, on, s)
+    child(
+        text,
+        words,
+        classes,
+        nodes,
+        names,
+        notes,
+        given,
+        on,
+        kids,
+        s,
+    )
 }
 
 // Function: type parameters are handed the flag, the others are read with conditionals on.
 fn function(
+    text: &[u8],
     words: &[u64],
     classes: &[u16; 256],
     nodes: &mut [u64],
@@ -313,37 +337,29 @@ fn function(
     on: bool,
     m: Mark,
 ) -> Answer
-    requires { ⌜ (now classes ≡ classWords) × Sound (now words) × Room (length (now nodes)) (length (now notes)) given × Fine (length (now words)) given m ⌝ }
-    ensures { λ r. ⌜ Starts 0 (λ g. function.function g (below given g) on) (now (words .entry)) given m (now (nodes .entry)) (now (names .entry)) (now (notes .entry)) r (now (nodes .exit)) (now (names .exit)) (now (notes .exit)) ⌝ }
-    ensures { λ r. ⌜ Fine (length (now (words .entry))) given (r .m) × (r .high ≤ tallest) ⌝ }
-    ensures { λ r. ⌜ (r .why ≡ 0 → Past (placeOf m + 1) (m .used + 1) (r .m)) ⌝ }
+    requires { ⌜ Ready (now text) (now words) (now classes) (now nodes) (now notes) given m ⌝ }
+    ensures { λ r. ⌜ Reads 0 (λ g. function.function g (below given g) on) text words given m nodes names notes r ⌝ }
+    ensures { λ r. ⌜ Within words given r ⌝ }
+    ensures { λ r. ⌜ Onward m r ⌝ }
 {
     let h = function_head(words, m);
-    let t = tparams(words, classes, nodes, names, notes, given, on, h.m);
+    let t = tparams(text, words, classes, nodes, names, notes, given, on, h.m);
     if t.why != 0 {
         return Answer::refused(t.why, t.m);
     }
-    sig(words, classes, nodes, names, notes, given, h, t)
-}
-
-// Function: behind the type parameters t.
-fn sig(
-    words: &[u64],
-    classes: &[u16; 256],
-    nodes: &mut [u64],
-    names: &mut [u64],
-    notes: &mut [u64],
-    given: Given,
-    h: FunctionHead,
-    t: Listed,
-) -> Answer
-    requires { ⌜ (now classes ≡ classWords) × Sound (now words) × Room (length (now nodes)) (length (now notes)) given × Fine (length (now words)) given (t .m) × Under (t .m .used) (t .kids) × (h .b .first < 2 ^ 32) × (h .b .name ≤ mostTokens) ⌝ }
-    ensures { λ r. ⌜ ((text : List ℕ) (B : Was) (ts : Opt (List Placed)) → Spelt text (now (words .entry)) → AllOpt 4 ts → BuiltAt B (runsOpt 4 ts) (t .kids) (t .m) (now (nodes .entry)) (now (names .entry)) (now (notes .entry)) → t .there ≡ isThere ts → t .kids .count ≡ count ts → h .b .name ≡ B .named → Says 0 B (onward.signature (givenOf text (now (words .entry)) given) (below given (givenOf text (now (words .entry)) given)) (h .b .first) (h .«is_new») (h .«is_abstract») ts (view (t .m) (now (notes .entry)))) r (now (nodes .exit)) (now (names .exit)) (now (notes .exit))) ⌝ }
-    ensures { λ r. ⌜ Fine (length (now (words .entry))) given (r .m) × (r .high ≤ tallest) ⌝ }
-    ensures { λ r. ⌜ (r .why ≡ 0 → Past (placeOf (t .m) + 1) (t .m .used + 1) (r .m)) ⌝ }
-{
     let k = t.kids;
-    let p = params(words, classes, nodes, names, notes, given, h.is_new, k, t.m);
+    let p = params(
+        text,
+        words,
+        classes,
+        nodes,
+        names,
+        notes,
+        given,
+        h.is_new,
+        k,
+        t.m,
+    );
     if p.why != 0 {
         return Answer::refused(p.why, p.m);
     }
@@ -358,7 +374,7 @@ fn sig(
         named: s.named,
         noted: s.noted,
     };
-    let r = ret_ty(words, classes, nodes, names, notes, given, q);
+    let r = ret(text, words, classes, nodes, names, notes, given, q);
     if r.why != 0 {
         return r;
     }
@@ -368,6 +384,7 @@ fn sig(
 
 // Type parameters, or none where no `<` stands; diagnostic 1 if nothing is between.
 fn tparams(
+    text: &[u8],
     words: &[u64],
     classes: &[u16; 256],
     nodes: &mut [u64],
@@ -377,9 +394,9 @@ fn tparams(
     on: bool,
     m: Mark,
 ) -> Listed
-    requires { ⌜ (now classes ≡ classWords) × Sound (now words) × Room (length (now nodes)) (length (now notes)) given × Fine (length (now words)) given m ⌝ }
-    ensures { λ r. ⌜ ((text : List ℕ) → Spelt text (now (words .entry)) → SaysList 4 (was m (now (nodes .entry)) (now (names .entry)) (now (notes .entry))) done (types.typeParameters (givenOf text (now (words .entry)) given) (below given (givenOf text (now (words .entry)) given)) on (view m (now (notes .entry)))) r (now (nodes .exit)) (now (names .exit)) (now (notes .exit))) ⌝ }
-    ensures { λ r. ⌜ Fine (length (now (words .entry))) given (r .m) × Under (r .m .used) (r .kids) ⌝ }
+    requires { ⌜ Ready (now text) (now words) (now classes) (now nodes) (now notes) given m ⌝ }
+    ensures { λ r. ⌜ ReadsList 4 (λ g. types.typeParameters g (below given g) on) text words given m nodes names notes r ⌝ }
+    ensures { λ r. ⌜ WithinList words given r ⌝ }
     ensures { λ r. ⌜ (r .why ≡ 0 → Past (placeOf m) (m .used) (r .m)) ⌝ }
 {
     if kind_at(words, m) != Kind::L_ANGLE {
@@ -394,7 +411,7 @@ fn tparams(
     };
     let mut k = Kids::none();
     while kind_at(words, p) != Kind::R_ANGLE {
-        let a = tparam(words, classes, nodes, names, notes, given, on, p);
+        let a = tparam(text, words, classes, nodes, names, notes, given, on, p);
         if a.why != 0 {
             return Listed::refused(a.why, a.m);
         }
@@ -413,6 +430,7 @@ fn tparams(
 
 // Type parameters: a name, its constraint and its default, if they stand there.
 fn tparam(
+    text: &[u8],
     words: &[u64],
     classes: &[u16; 256],
     nodes: &mut [u64],
@@ -422,35 +440,63 @@ fn tparam(
     on: bool,
     m: Mark,
 ) -> Answer
-    requires { ⌜ (now classes ≡ classWords) × Sound (now words) × Room (length (now nodes)) (length (now notes)) given × Fine (length (now words)) given m ⌝ }
-    ensures { λ r. ⌜ Starts 4 (λ g. types.typeParameter g (below given g) on) (now (words .entry)) given m (now (nodes .entry)) (now (names .entry)) (now (notes .entry)) r (now (nodes .exit)) (now (names .exit)) (now (notes .exit)) ⌝ }
-    ensures { λ r. ⌜ Fine (length (now (words .entry))) given (r .m) × (r .high ≤ tallest) ⌝ }
-    ensures { λ r. ⌜ (r .why ≡ 0 → Past (placeOf m + 1) (m .used + 1) (r .m)) ⌝ }
+    requires { ⌜ Ready (now text) (now words) (now classes) (now nodes) (now notes) given m ⌝ }
+    ensures { λ r. ⌜ Reads 4 (λ g. types.typeParameter g (below given g) on) text words given m nodes names notes r ⌝ }
+    ensures { λ r. ⌜ Within words given r ⌝ }
+    ensures { λ r. ⌜ Onward m r ⌝ }
 {
     let h = type_param_head(words, classes, names, m);
     if h.why != 0 {
         return Answer::refused(h.why, h.m);
     }
-    let p = h.m;
-    let mark = Kind::EXTENDS;
-    let x = opt(words, classes, nodes, names, notes, given, mark, on, p);
+    let k = Kids::none();
+    let x = opt(
+        text,
+        words,
+        classes,
+        nodes,
+        names,
+        notes,
+        given,
+        Kind::EXTENDS,
+        on,
+        k,
+        h.m,
+    );
     if x.why != 0 {
-        return x;
+        return Answer::refused(x.why, x.m);
     }
-    let q = x.m;
-    let k = link_opt(nodes, Kids::none(), p.used, q.used, x.high);
-    let d = opt(words, classes, nodes, names, notes, given, Kind::EQ, on, q);
+    let d = opt(
+        text,
+        words,
+        classes,
+        nodes,
+        names,
+        notes,
+        given,
+        Kind::EQ,
+        on,
+        x.kids,
+        x.m,
+    );
     if d.why != 0 {
-        return d;
+        return Answer::refused(d.why, d.m);
     }
-    let r = d.m;
-    let l = link_opt(nodes, k, q.used, r.used, d.high);
-    let choices = opt_bit(x.high) + 2 * opt_bit(d.high);
-    put(words, nodes, given, Begin::at(words, m), choices, l, r)
+    let choices = opt_bit(x.there) + 2 * opt_bit(d.there);
+    put(
+        words,
+        nodes,
+        given,
+        Begin::at(words, m),
+        choices,
+        d.kids,
+        d.m,
+    )
 }
 
 // Function: the whole list of parameters in its brackets; the nodes and names of a constructor's `this` are given back.
 fn params(
+    text: &[u8],
     words: &[u64],
     classes: &[u16; 256],
     nodes: &mut [u64],
@@ -461,9 +507,9 @@ fn params(
     kids: Kids,
     m: Mark,
 ) -> Params
-    requires { ⌜ (now classes ≡ classWords) × Sound (now words) × Room (length (now nodes)) (length (now notes)) given × Fine (length (now words)) given m × Under (m .used) kids ⌝ }
-    ensures { λ r. ⌜ ((text : List ℕ) (B : Was) (t : Run) → Spelt text (now (words .entry)) → BuiltAt B t kids m (now (nodes .entry)) (now (names .entry)) (now (notes .entry)) → SaysParams B t (thisRun «is_new») (function.parameters (givenOf text (now (words .entry)) given) (below given (givenOf text (now (words .entry)) given)) «is_new» (view m (now (notes .entry)))) r (now (nodes .exit)) (now (names .exit)) (now (notes .exit))) ⌝ }
-    ensures { λ r. ⌜ Fine (length (now (words .entry))) given (r .m) × Under (r .m .used) (r .kids) × (r .this .bits ≤ 3) ⌝ }
+    requires { ⌜ Ready (now text) (now words) (now classes) (now nodes) (now notes) given m × Under (m .used) kids ⌝ }
+    ensures { λ r. ⌜ Parameters text words given «is_new» kids m nodes names notes r ⌝ }
+    ensures { λ r. ⌜ WithinParams words given r ⌝ }
     ensures { λ r. ⌜ (r .why ≡ 0 → Past (placeOf m + 1) (m .used) (r .m)) ⌝ }
 {
     let h = params_head(words, m);
@@ -472,24 +518,47 @@ fn params(
     }
     if h.choices == 0 {
         let none = This::none();
-        return plist(words, classes, nodes, names, notes, given, none, kids, h.m);
+        return plist(
+            text,
+            words,
+            classes,
+            nodes,
+            names,
+            notes,
+            given,
+            none,
+            kids,
+            h.m,
+        );
     }
-    let colon = Kind::COLON;
-    let a = opt(words, classes, nodes, names, notes, given, colon, true, h.m);
+    let a = opt(
+        text,
+        words,
+        classes,
+        nodes,
+        names,
+        notes,
+        given,
+        Kind::COLON,
+        true,
+        before_this(is_new, kids),
+        h.m,
+    );
     if a.why != 0 {
         return Params::refused(a.why, a.m);
     }
-    let k = this_kids(nodes, is_new, kids, m.used, a);
     let c = separated(words, false, freed(is_new, m, a.m));
     if c.why != 0 {
         return Params::refused(c.why, c.m);
     }
     let t = this_of(words, m, a);
-    plist(words, classes, nodes, names, notes, given, t, k, c.m)
+    let k = this_kids(is_new, kids, a.kids);
+    plist(text, words, classes, nodes, names, notes, given, t, k, c.m)
 }
 
 // Function: the parameters from here to the `)`; no modifier words, and no `this` any more.
 fn plist(
+    text: &[u8],
     words: &[u64],
     classes: &[u16; 256],
     nodes: &mut [u64],
@@ -500,9 +569,9 @@ fn plist(
     kids: Kids,
     m: Mark,
 ) -> Params
-    requires { ⌜ (now classes ≡ classWords) × Sound (now words) × Room (length (now nodes)) (length (now notes)) given × Fine (length (now words)) given m × Under (m .used) kids × (this .bits ≤ 3) ⌝ }
-    ensures { λ r. ⌜ ((text : List ℕ) (B : Was) (t : Run) (th : Opt ThisParameter) → Spelt text (now (words .entry)) → BuiltAt B t kids m (now (nodes .entry)) (now (names .entry)) (now (notes .entry)) → ThisIs this th → SaysRest B t th (function.parametersFrom (givenOf text (now (words .entry)) given) (below given (givenOf text (now (words .entry)) given)) th (turns (givenOf text (now (words .entry)) given)) [] (view m (now (notes .entry)))) r (now (nodes .exit)) (now (names .exit)) (now (notes .exit))) ⌝ }
-    ensures { λ r. ⌜ Fine (length (now (words .entry))) given (r .m) × Under (r .m .used) (r .kids) × (r .this .bits ≤ 3) ⌝ }
+    requires { ⌜ Ready (now text) (now words) (now classes) (now nodes) (now notes) given m × Under (m .used) kids × (this .bits ≤ 3) ⌝ }
+    ensures { λ r. ⌜ Others text words given this kids m nodes names notes r ⌝ }
+    ensures { λ r. ⌜ WithinParams words given r ⌝ }
     ensures { λ r. ⌜ (r .why ≡ 0 → Past (placeOf m + 1) (m .used) (r .m)) ⌝ }
 {
     let mut p = m;
@@ -513,7 +582,7 @@ fn plist(
         if why != 0 {
             return Params::refused(why, p);
         }
-        let a = param(words, classes, nodes, names, notes, given, p);
+        let a = param(text, words, classes, nodes, names, notes, given, p);
         if a.why != 0 {
             return Params::refused(a.why, a.m);
         }
@@ -531,6 +600,7 @@ fn plist(
 
 // Function: one parameter, of which only its name must be there.
 fn param(
+    text: &[u8],
     words: &[u64],
     classes: &[u16; 256],
     nodes: &mut [u64],
@@ -539,29 +609,47 @@ fn param(
     given: Given,
     m: Mark,
 ) -> Answer
-    requires { ⌜ (now classes ≡ classWords) × Sound (now words) × Room (length (now nodes)) (length (now notes)) given × Fine (length (now words)) given m ⌝ }
-    ensures { λ r. ⌜ Starts 5 (λ g. function.parameter g (below given g)) (now (words .entry)) given m (now (nodes .entry)) (now (names .entry)) (now (notes .entry)) r (now (nodes .exit)) (now (names .exit)) (now (notes .exit)) ⌝ }
-    ensures { λ r. ⌜ Fine (length (now (words .entry))) given (r .m) × (r .high ≤ tallest) ⌝ }
-    ensures { λ r. ⌜ (r .why ≡ 0 → Past (placeOf m + 1) (m .used + 1) (r .m)) ⌝ }
+    requires { ⌜ Ready (now text) (now words) (now classes) (now nodes) (now notes) given m ⌝ }
+    ensures { λ r. ⌜ Reads 5 (λ g. function.parameter g (below given g)) text words given m nodes names notes r ⌝ }
+    ensures { λ r. ⌜ Within words given r ⌝ }
+    ensures { λ r. ⌜ Onward m r ⌝ }
 {
     let h = param_head(words, classes, names, m);
     if h.why != 0 {
         return Answer::refused(h.why, h.m);
     }
-    let p = h.m;
     let colon = Kind::COLON;
-    let a = opt(words, classes, nodes, names, notes, given, colon, true, p);
+    let a = opt(
+        text,
+        words,
+        classes,
+        nodes,
+        names,
+        notes,
+        given,
+        colon,
+        true,
+        Kids::none(),
+        h.m,
+    );
     if a.why != 0 {
-        return a;
+        return Answer::refused(a.why, a.m);
     }
-    let q = a.m;
-    let k = link_opt(nodes, Kids::none(), p.used, q.used, a.high);
-    let choices = h.choices + 4 * opt_bit(a.high);
-    put(words, nodes, given, Begin::at(words, m), choices, k, q)
+    let choices = h.choices + 4 * opt_bit(a.there);
+    put(
+        words,
+        nodes,
+        given,
+        Begin::at(words, m),
+        choices,
+        a.kids,
+        a.m,
+    )
 }
 
 // Function: the return type, which may be a predicate; conditionals are on.
-fn ret_ty(
+fn ret(
+    text: &[u8],
     words: &[u64],
     classes: &[u16; 256],
     nodes: &mut [u64],
@@ -570,20 +658,21 @@ fn ret_ty(
     given: Given,
     m: Mark,
 ) -> Answer
-    requires { ⌜ (now classes ≡ classWords) × Sound (now words) × Room (length (now nodes)) (length (now notes)) given × Fine (length (now words)) given m ⌝ }
-    ensures { λ r. ⌜ Starts 0 (λ g. function.returnType g (below given g)) (now (words .entry)) given m (now (nodes .entry)) (now (names .entry)) (now (notes .entry)) r (now (nodes .exit)) (now (names .exit)) (now (notes .exit)) ⌝ }
-    ensures { λ r. ⌜ Fine (length (now (words .entry))) given (r .m) × (r .high ≤ tallest) ⌝ }
-    ensures { λ r. ⌜ (r .why ≡ 0 → Past (placeOf m + 1) (m .used + 1) (r .m)) ⌝ }
+    requires { ⌜ Ready (now text) (now words) (now classes) (now nodes) (now notes) given m ⌝ }
+    ensures { λ r. ⌜ Reads 0 (λ g. function.returnType g (below given g)) text words given m nodes names notes r ⌝ }
+    ensures { λ r. ⌜ Within words given r ⌝ }
+    ensures { λ r. ⌜ Onward m r ⌝ }
 {
     if predicates(words, classes, m) {
-        return pred(words, classes, nodes, names, notes, given, false, m);
+        return pred(text, words, classes, nodes, names, notes, given, false, m);
     }
     let on = true;
-    ty(words, classes, nodes, names, notes, given, on, m)
+    ty(text, words, classes, nodes, names, notes, given, on, m)
 }
 
 // A predicate about a name or this, with or without asserts before it; its type follows `is`.
 fn pred(
+    text: &[u8],
     words: &[u64],
     classes: &[u16; 256],
     nodes: &mut [u64],
@@ -593,14 +682,14 @@ fn pred(
     asserts: bool,
     m: Mark,
 ) -> Answer
-    requires { ⌜ (now classes ≡ classWords) × Sound (now words) × Room (length (now nodes)) (length (now notes)) given × Fine (length (now words)) given m × (m .at + unit asserts < length (now words)) ⌝ }
-    ensures { λ r. ⌜ Starts 0 (λ g. onward.predicate g (below given g) asserts) (now (words .entry)) given m (now (nodes .entry)) (now (names .entry)) (now (notes .entry)) r (now (nodes .exit)) (now (names .exit)) (now (notes .exit)) ⌝ }
-    ensures { λ r. ⌜ Fine (length (now (words .entry))) given (r .m) × (r .high ≤ tallest) ⌝ }
-    ensures { λ r. ⌜ (r .why ≡ 0 → Past (placeOf m + 1) (m .used + 1) (r .m)) ⌝ }
+    requires { ⌜ Ready (now text) (now words) (now classes) (now nodes) (now notes) given m × (m .at + unit asserts < length (now words)) ⌝ }
+    ensures { λ r. ⌜ Reads 0 (λ g. onward.predicate g (below given g) asserts) text words given m nodes names notes r ⌝ }
+    ensures { λ r. ⌜ Within words given r ⌝ }
+    ensures { λ r. ⌜ Onward m r ⌝ }
 {
     let h = subject(words, names, asserts, m);
-    let p = h.m;
     let a = opt(
+        text,
         words,
         classes,
         nodes,
@@ -609,19 +698,27 @@ fn pred(
         given,
         Kind::IS,
         true,
-        p,
+        Kids::none(),
+        h.m,
     );
     if a.why != 0 {
-        return a;
+        return Answer::refused(a.why, a.m);
     }
-    let q = a.m;
-    let k = link_opt(nodes, Kids::none(), p.used, q.used, a.high);
-    let choices = h.choices + 4 * Tag::ALL * opt_bit(a.high);
-    put(words, nodes, given, Begin::at(words, m), choices, k, q)
+    let choices = h.choices + 4 * Tag::ALL * opt_bit(a.there);
+    put(
+        words,
+        nodes,
+        given,
+        Begin::at(words, m),
+        choices,
+        a.kids,
+        a.m,
+    )
 }
 
-// Union: intersections with `|` between; one alone is just that, unless a mark stood before it.
+// Union: intersections with `|` between.
 fn union(
+    text: &[u8],
     words: &[u64],
     classes: &[u16; 256],
     nodes: &mut [u64],
@@ -631,43 +728,36 @@ fn union(
     on: bool,
     m: Mark,
 ) -> Answer
-    requires { ⌜ (now classes ≡ classWords) × Sound (now words) × Room (length (now nodes)) (length (now notes)) given × Fine (length (now words)) given m ⌝ }
-    ensures { λ r. ⌜ Starts 0 (λ g. union.union g (below given g) on) (now (words .entry)) given m (now (nodes .entry)) (now (names .entry)) (now (notes .entry)) r (now (nodes .exit)) (now (names .exit)) (now (notes .exit)) ⌝ }
-    ensures { λ r. ⌜ Fine (length (now (words .entry))) given (r .m) × (r .high ≤ tallest) ⌝ }
-    ensures { λ r. ⌜ (r .why ≡ 0 → Past (placeOf m + 1) (m .used + 1) (r .m)) ⌝ }
+    requires { ⌜ Ready (now text) (now words) (now classes) (now nodes) (now notes) given m ⌝ }
+    ensures { λ r. ⌜ Reads 0 (λ g. union.union g (below given g) on) text words given m nodes names notes r ⌝ }
+    ensures { λ r. ⌜ Within words given r ⌝ }
+    ensures { λ r. ⌜ Onward m r ⌝ }
 {
-    let first = past(words, Kind::PIPE, m);
-    let a = inter(words, classes, nodes, names, notes, given, on, first);
-    if a.why != 0 {
-        return a;
-    }
-    let mut p = a.m;
-    if lone(words, Kind::PIPE, m, p) {
-        return a;
-    }
-    let mut k = Kids::one(p.used, a.high);
-    while kind_at(words, p) == Kind::PIPE {
-        let s = Mark {
-            at: p.at + 1,
-            half: 0,
-            used: p.used,
-            named: p.named,
-            noted: p.noted,
-        };
-        let c = inter(words, classes, nodes, names, notes, given, on, s);
-        if c.why != 0 {
-            return c;
+    let mut p = past(words, Kind::PIPE, m);
+    let mut k = Kids::none();
+    loop {
+        let a = inter(text, words, classes, nodes, names, notes, given, on, p);
+        if a.why != 0 {
+            return a;
         }
-        let q = c.m;
-        k = link(nodes, k, s.used, q.used, c.high);
-        p = q;
+        let q = a.m;
+        if kind_at(words, q) != Kind::PIPE {
+            return joined(words, nodes, given, Kind::PIPE, Tag::UNION, k, p.used, m, a);
+        }
+        k = link(nodes, k, p.used, q.used, a.high);
+        p = Mark {
+            at: q.at + 1,
+            half: 0,
+            used: q.used,
+            named: q.named,
+            noted: q.noted,
+        };
     }
-    let b = Begin::at(words, m);
-    put_list(words, nodes, given, b, Tag::UNION, k, p)
 }
 
-// Intersection: operators with `&` between; one alone is just that, unless a mark stood before it.
+// Intersection: operators with `&` between.
 fn inter(
+    text: &[u8],
     words: &[u64],
     classes: &[u16; 256],
     nodes: &mut [u64],
@@ -677,43 +767,46 @@ fn inter(
     on: bool,
     m: Mark,
 ) -> Answer
-    requires { ⌜ (now classes ≡ classWords) × Sound (now words) × Room (length (now nodes)) (length (now notes)) given × Fine (length (now words)) given m ⌝ }
-    ensures { λ r. ⌜ Starts 0 (λ g. union.intersection g (below given g) on) (now (words .entry)) given m (now (nodes .entry)) (now (names .entry)) (now (notes .entry)) r (now (nodes .exit)) (now (names .exit)) (now (notes .exit)) ⌝ }
-    ensures { λ r. ⌜ Fine (length (now (words .entry))) given (r .m) × (r .high ≤ tallest) ⌝ }
-    ensures { λ r. ⌜ (r .why ≡ 0 → Past (placeOf m + 1) (m .used + 1) (r .m)) ⌝ }
+    requires { ⌜ Ready (now text) (now words) (now classes) (now nodes) (now notes) given m ⌝ }
+    ensures { λ r. ⌜ Reads 0 (λ g. union.intersection g (below given g) on) text words given m nodes names notes r ⌝ }
+    ensures { λ r. ⌜ Within words given r ⌝ }
+    ensures { λ r. ⌜ Onward m r ⌝ }
 {
-    let first = past(words, Kind::AMP, m);
-    let a = operator(words, classes, nodes, names, notes, given, on, first);
-    if a.why != 0 {
-        return a;
-    }
-    let mut p = a.m;
-    if lone(words, Kind::AMP, m, p) {
-        return a;
-    }
-    let mut k = Kids::one(p.used, a.high);
-    while kind_at(words, p) == Kind::AMP {
-        let s = Mark {
-            at: p.at + 1,
-            half: 0,
-            used: p.used,
-            named: p.named,
-            noted: p.noted,
-        };
-        let c = operator(words, classes, nodes, names, notes, given, on, s);
-        if c.why != 0 {
-            return c;
+    let mut p = past(words, Kind::AMP, m);
+    let mut k = Kids::none();
+    loop {
+        let a = operator(text, words, classes, nodes, names, notes, given, on, p);
+        if a.why != 0 {
+            return a;
         }
-        let q = c.m;
-        k = link(nodes, k, s.used, q.used, c.high);
-        p = q;
+        let q = a.m;
+        if kind_at(words, q) != Kind::AMP {
+            return joined(
+                words,
+                nodes,
+                given,
+                Kind::AMP,
+                Tag::INTERSECTION,
+                k,
+                p.used,
+                m,
+                a,
+            );
+        }
+        k = link(nodes, k, p.used, q.used, a.high);
+        p = Mark {
+            at: q.at + 1,
+            half: 0,
+            used: q.used,
+            named: q.named,
+            noted: q.noted,
+        };
     }
-    let b = Begin::at(words, m);
-    put_list(words, nodes, given, b, Tag::INTERSECTION, k, p)
 }
 
 // Operator: prefixes, and behind the last an infer or a postfix type, which is read with conditionals on.
 fn operator(
+    text: &[u8],
     words: &[u64],
     classes: &[u16; 256],
     nodes: &mut [u64],
@@ -723,20 +816,20 @@ fn operator(
     on: bool,
     m: Mark,
 ) -> Answer
-    requires { ⌜ (now classes ≡ classWords) × Sound (now words) × Room (length (now nodes)) (length (now notes)) given × Fine (length (now words)) given m ⌝ }
-    ensures { λ r. ⌜ Starts 0 (λ g. operator.operator g (below given g) on) (now (words .entry)) given m (now (nodes .entry)) (now (names .entry)) (now (notes .entry)) r (now (nodes .exit)) (now (names .exit)) (now (notes .exit)) ⌝ }
-    ensures { λ r. ⌜ Fine (length (now (words .entry))) given (r .m) × (r .high ≤ tallest) ⌝ }
-    ensures { λ r. ⌜ (r .why ≡ 0 → Past (placeOf m + 1) (m .used + 1) (r .m)) ⌝ }
+    requires { ⌜ Ready (now text) (now words) (now classes) (now nodes) (now notes) given m ⌝ }
+    ensures { λ r. ⌜ Reads 0 (λ g. operator.operator g (below given g) on) text words given m nodes names notes r ⌝ }
+    ensures { λ r. ⌜ Within words given r ⌝ }
+    ensures { λ r. ⌜ Onward m r ⌝ }
 {
     let p = past_operators(words, m);
     if kind_at(words, p) == Kind::INFER {
-        let a = infer(words, classes, nodes, names, notes, given, on, p);
+        let a = infer(text, words, classes, nodes, names, notes, given, on, p);
         if a.why != 0 {
             return a;
         }
         return put_operators(words, nodes, given, m.named, m.at, p.at, a);
     }
-    let a = postfix(words, classes, nodes, names, notes, given, p);
+    let a = postfix(text, words, classes, nodes, names, notes, given, p);
     if a.why != 0 {
         return a;
     }
@@ -745,6 +838,7 @@ fn operator(
 
 // Infer: the name that is bound, and its constraint, which is tried with conditionals off.
 fn infer(
+    text: &[u8],
     words: &[u64],
     classes: &[u16; 256],
     nodes: &mut [u64],
@@ -754,10 +848,10 @@ fn infer(
     on: bool,
     m: Mark,
 ) -> Answer
-    requires { ⌜ (now classes ≡ classWords) × Sound (now words) × Room (length (now nodes)) (length (now notes)) given × Fine (length (now words)) given m × (m .at < length (now words)) ⌝ }
-    ensures { λ r. ⌜ Starts 0 (λ g. infer.infer g (below given g) on) (now (words .entry)) given m (now (nodes .entry)) (now (names .entry)) (now (notes .entry)) r (now (nodes .exit)) (now (names .exit)) (now (notes .exit)) ⌝ }
-    ensures { λ r. ⌜ Fine (length (now (words .entry))) given (r .m) × (r .high ≤ tallest) ⌝ }
-    ensures { λ r. ⌜ (r .why ≡ 0 → Past (placeOf m + 1) (m .used + 1) (r .m)) ⌝ }
+    requires { ⌜ Ready (now text) (now words) (now classes) (now nodes) (now notes) given m × (m .at < length (now words)) ⌝ }
+    ensures { λ r. ⌜ Reads 0 (λ g. infer.infer g (below given g) on) text words given m nodes names notes r ⌝ }
+    ensures { λ r. ⌜ Within words given r ⌝ }
+    ensures { λ r. ⌜ Onward m r ⌝ }
 {
     let h = infer_head(words, classes, names, m);
     if h.why != 0 {
@@ -775,7 +869,7 @@ fn infer(
         named: p.named,
         noted: p.noted,
     };
-    let a = ty(words, classes, nodes, names, notes, given, false, s);
+    let a = ty(text, words, classes, nodes, names, notes, given, false, s);
     if a.why != 0 {
         return a;
     }
@@ -786,6 +880,7 @@ fn infer(
 
 // Postfix: a primary type and as many marks as follow on the line.
 fn postfix(
+    text: &[u8],
     words: &[u64],
     classes: &[u16; 256],
     nodes: &mut [u64],
@@ -794,12 +889,12 @@ fn postfix(
     given: Given,
     m: Mark,
 ) -> Answer
-    requires { ⌜ (now classes ≡ classWords) × Sound (now words) × Room (length (now nodes)) (length (now notes)) given × Fine (length (now words)) given m ⌝ }
-    ensures { λ r. ⌜ Starts 0 (λ g. postfix.postfix g (below given g)) (now (words .entry)) given m (now (nodes .entry)) (now (names .entry)) (now (notes .entry)) r (now (nodes .exit)) (now (names .exit)) (now (notes .exit)) ⌝ }
-    ensures { λ r. ⌜ Fine (length (now (words .entry))) given (r .m) × (r .high ≤ tallest) ⌝ }
-    ensures { λ r. ⌜ (r .why ≡ 0 → Past (placeOf m + 1) (m .used + 1) (r .m)) ⌝ }
+    requires { ⌜ Ready (now text) (now words) (now classes) (now nodes) (now notes) given m ⌝ }
+    ensures { λ r. ⌜ Reads 0 (λ g. postfix.postfix g (below given g)) text words given m nodes names notes r ⌝ }
+    ensures { λ r. ⌜ Within words given r ⌝ }
+    ensures { λ r. ⌜ Onward m r ⌝ }
 {
-    let a = primary(words, classes, nodes, names, notes, given, m);
+    let a = primary(text, words, classes, nodes, names, notes, given, m);
     if a.why != 0 {
         return a;
     }
@@ -807,7 +902,7 @@ fn postfix(
     let mut high = a.high;
     let b = Begin::at(words, m);
     while suffixed(words, classes, p) {
-        let c = suffix(words, classes, nodes, names, notes, given, b, high, p);
+        let c = suffix(text, words, classes, nodes, names, notes, given, b, high, p);
         if c.why != 0 {
             return c;
         }
@@ -819,6 +914,7 @@ fn postfix(
 
 // Postfix: the mark here makes a node of what was read; behind a `[`, an index where a type can start, else an array.
 fn suffix(
+    text: &[u8],
     words: &[u64],
     classes: &[u16; 256],
     nodes: &mut [u64],
@@ -829,9 +925,9 @@ fn suffix(
     high: usize,
     m: Mark,
 ) -> Answer
-    requires { ⌜ (now classes ≡ classWords) × Sound (now words) × Room (length (now nodes)) (length (now notes)) given × Fine (length (now words)) given m × (m .at < length (now words)) × (1 ≤ m .used) × (high ≤ tallest) × (b .first < 2 ^ 32) × (b .name ≤ mostTokens) ⌝ }
-    ensures { λ r. ⌜ ((text : List ℕ) (B : Was) (u : Placed) → Spelt text (now (words .entry)) → Stands 0 B u high m (now (nodes .entry)) (now (names .entry)) (now (notes .entry)) → b .name ≡ B .named → Says 0 B (postfix.suffix (givenOf text (now (words .entry)) given) (below given (givenOf text (now (words .entry)) given)) (b .first) u (view m (now (notes .entry)))) r (now (nodes .exit)) (now (names .exit)) (now (notes .exit))) ⌝ }
-    ensures { λ r. ⌜ Fine (length (now (words .entry))) given (r .m) × (r .high ≤ tallest) ⌝ }
+    requires { ⌜ Ready (now text) (now words) (now classes) (now nodes) (now notes) given m × (m .at < length (now words)) × (1 ≤ m .used) × (high ≤ tallest) × Begun b ⌝ }
+    ensures { λ r. ⌜ Behind (λ u g. postfix.suffix g (below given g) (b .first) u) text words given b high m nodes names notes r ⌝ }
+    ensures { λ r. ⌜ Within words given r ⌝ }
     ensures { λ r. ⌜ (r .why ≡ 0 → Past (m .at * 2 + 2) (m .used + 1) (r .m)) ⌝ }
 {
     let kind = kind_at(words, m);
@@ -851,17 +947,27 @@ fn suffix(
     if !starter(words, classes, s.at) {
         return array(words, nodes, given, b, high, s);
     }
-    let a = ty(words, classes, nodes, names, notes, given, true, s);
+    let a = child(
+        text,
+        words,
+        classes,
+        nodes,
+        names,
+        notes,
+        given,
+        true,
+        Kids::one(m.used, high),
+        s,
+    );
     if a.why != 0 {
-        return a;
+        return Answer::refused(a.why, a.m);
     }
-    let q = a.m;
-    let k = link(nodes, Kids::one(m.used, high), m.used, q.used, a.high);
-    bracketed(words, nodes, given, b, Tag::INDEXED, k, q)
+    bracketed(words, nodes, given, b, Tag::INDEXED, a.kids, a.m)
 }
 
 // Primary: by what begins here.
 fn primary(
+    text: &[u8],
     words: &[u64],
     classes: &[u16; 256],
     nodes: &mut [u64],
@@ -870,28 +976,29 @@ fn primary(
     given: Given,
     m: Mark,
 ) -> Answer
-    requires { ⌜ (now classes ≡ classWords) × Sound (now words) × Room (length (now nodes)) (length (now notes)) given × Fine (length (now words)) given m ⌝ }
-    ensures { λ r. ⌜ Starts 0 (λ g. primary.primary g (below given g)) (now (words .entry)) given m (now (nodes .entry)) (now (names .entry)) (now (notes .entry)) r (now (nodes .exit)) (now (names .exit)) (now (notes .exit)) ⌝ }
-    ensures { λ r. ⌜ Fine (length (now (words .entry))) given (r .m) × (r .high ≤ tallest) ⌝ }
-    ensures { λ r. ⌜ (r .why ≡ 0 → Past (placeOf m + 1) (m .used + 1) (r .m)) ⌝ }
+    requires { ⌜ Ready (now text) (now words) (now classes) (now nodes) (now notes) given m ⌝ }
+    ensures { λ r. ⌜ Reads 0 (λ g. primary.primary g (below given g)) text words given m nodes names notes r ⌝ }
+    ensures { λ r. ⌜ Within words given r ⌝ }
+    ensures { λ r. ⌜ Onward m r ⌝ }
 {
     let o = primary_start(words, classes, m);
     match o {
         Start::Keyword => return keyword(words, nodes, given, m),
         Start::Literal => return literal(words, nodes, names, given, m),
-        Start::This => return pred(words, classes, nodes, names, notes, given, false, m),
-        Start::Asserts => return pred(words, classes, nodes, names, notes, given, true, m),
-        Start::Name => return named(words, classes, nodes, names, notes, given, m),
-        Start::Mapped => return mapped(words, classes, nodes, names, notes, given, m),
-        Start::Tuple => return tuple(words, classes, nodes, names, notes, given, m),
-        Start::Parens => return parens(words, classes, nodes, names, notes, given, m),
-        Start::Template => return template(words, classes, nodes, names, notes, given, m),
+        Start::This => return pred(text, words, classes, nodes, names, notes, given, false, m),
+        Start::Asserts => return pred(text, words, classes, nodes, names, notes, given, true, m),
+        Start::Name => return named(text, words, classes, nodes, names, notes, given, m),
+        Start::Mapped => return mapped(text, words, classes, nodes, names, notes, given, m),
+        Start::Tuple => return tuple(text, words, classes, nodes, names, notes, given, m),
+        Start::Parens => return parens(text, words, classes, nodes, names, notes, given, m),
+        Start::Template => return template(text, words, classes, nodes, names, notes, given, m),
         Start::Nothing(why) => return Answer::refused(why, m),
     }
 }
 
 // Primary: a reference, typeof or import, and the arguments of it.
 fn named(
+    text: &[u8],
     words: &[u64],
     classes: &[u16; 256],
     nodes: &mut [u64],
@@ -900,16 +1007,16 @@ fn named(
     given: Given,
     m: Mark,
 ) -> Answer
-    requires { ⌜ (now classes ≡ classWords) × Sound (now words) × Room (length (now nodes)) (length (now notes)) given × Fine (length (now words)) given m ⌝ }
-    ensures { λ r. ⌜ Starts 0 (λ g. onward.nameAt g (below given g)) (now (words .entry)) given m (now (nodes .entry)) (now (names .entry)) (now (notes .entry)) r (now (nodes .exit)) (now (names .exit)) (now (notes .exit)) ⌝ }
-    ensures { λ r. ⌜ Fine (length (now (words .entry))) given (r .m) × (r .high ≤ tallest) ⌝ }
-    ensures { λ r. ⌜ (r .why ≡ 0 → Past (placeOf m + 1) (m .used + 1) (r .m)) ⌝ }
+    requires { ⌜ Ready (now text) (now words) (now classes) (now nodes) (now notes) given m ⌝ }
+    ensures { λ r. ⌜ Reads 0 (λ g. onward.nameAt g (below given g)) text words given m nodes names notes r ⌝ }
+    ensures { λ r. ⌜ Within words given r ⌝ }
+    ensures { λ r. ⌜ Onward m r ⌝ }
 {
     let n = named_head(words, classes, names, m);
     if n.why != 0 {
         return Answer::refused(n.why, n.m);
     }
-    let l = targs(words, classes, nodes, names, notes, given, n.m);
+    let l = targs(text, words, classes, nodes, names, notes, given, n.m);
     if l.why != 0 {
         return Answer::refused(l.why, l.m);
     }
@@ -918,6 +1025,7 @@ fn named(
 
 // Arguments, or none where no list opens; diagnostic 2 if nothing is in it.
 fn targs(
+    text: &[u8],
     words: &[u64],
     classes: &[u16; 256],
     nodes: &mut [u64],
@@ -926,9 +1034,9 @@ fn targs(
     given: Given,
     m: Mark,
 ) -> Listed
-    requires { ⌜ (now classes ≡ classWords) × Sound (now words) × Room (length (now nodes)) (length (now notes)) given × Fine (length (now words)) given m ⌝ }
-    ensures { λ r. ⌜ ((text : List ℕ) → Spelt text (now (words .entry)) → SaysList 0 (was m (now (nodes .entry)) (now (names .entry)) (now (notes .entry))) done (arguments.arguments (givenOf text (now (words .entry)) given) (below given (givenOf text (now (words .entry)) given)) (view m (now (notes .entry)))) r (now (nodes .exit)) (now (names .exit)) (now (notes .exit))) ⌝ }
-    ensures { λ r. ⌜ Fine (length (now (words .entry))) given (r .m) × Under (r .m .used) (r .kids) ⌝ }
+    requires { ⌜ Ready (now text) (now words) (now classes) (now nodes) (now notes) given m ⌝ }
+    ensures { λ r. ⌜ ReadsList 0 (λ g. arguments.arguments g (below given g)) text words given m nodes names notes r ⌝ }
+    ensures { λ r. ⌜ WithinList words given r ⌝ }
     ensures { λ r. ⌜ (r .why ≡ 0 → Past (placeOf m) (m .used) (r .m)) ⌝ }
 {
     if !opens(words, m) {
@@ -937,13 +1045,12 @@ fn targs(
     let mut p = opened(words, m);
     let mut k = Kids::none();
     while kind_at(words, p) != Kind::R_ANGLE {
-        let a = ty(words, classes, nodes, names, notes, given, true, p);
+        let a = child(text, words, classes, nodes, names, notes, given, true, k, p);
         if a.why != 0 {
-            return Listed::refused(a.why, a.m);
+            return a;
         }
-        let q = a.m;
-        k = link(nodes, k, p.used, q.used, a.high);
-        let s = past_comma(words, Kind::R_ANGLE, q);
+        k = a.kids;
+        let s = past_comma(words, Kind::R_ANGLE, a.m);
         if s.why != 0 {
             return Listed::refused(s.why, s.m);
         }
@@ -956,6 +1063,7 @@ fn targs(
 
 // Primary: brackets, which are a node of their own if asked for.
 fn parens(
+    text: &[u8],
     words: &[u64],
     classes: &[u16; 256],
     nodes: &mut [u64],
@@ -964,10 +1072,10 @@ fn parens(
     given: Given,
     m: Mark,
 ) -> Answer
-    requires { ⌜ (now classes ≡ classWords) × Sound (now words) × Room (length (now nodes)) (length (now notes)) given × Fine (length (now words)) given m × (m .at < length (now words)) ⌝ }
-    ensures { λ r. ⌜ Starts 0 (λ g. primary.brackets g (below given g)) (now (words .entry)) given m (now (nodes .entry)) (now (names .entry)) (now (notes .entry)) r (now (nodes .exit)) (now (names .exit)) (now (notes .exit)) ⌝ }
-    ensures { λ r. ⌜ Fine (length (now (words .entry))) given (r .m) × (r .high ≤ tallest) ⌝ }
-    ensures { λ r. ⌜ (r .why ≡ 0 → Past (placeOf m + 1) (m .used + 1) (r .m)) ⌝ }
+    requires { ⌜ Ready (now text) (now words) (now classes) (now nodes) (now notes) given m × (m .at < length (now words)) ⌝ }
+    ensures { λ r. ⌜ Reads 0 (λ g. primary.brackets g (below given g)) text words given m nodes names notes r ⌝ }
+    ensures { λ r. ⌜ Within words given r ⌝ }
+    ensures { λ r. ⌜ Onward m r ⌝ }
 {
     let s = Mark {
         at: m.at + 1,
@@ -976,7 +1084,7 @@ fn parens(
         named: m.named,
         noted: m.noted,
     };
-    let a = ty(words, classes, nodes, names, notes, given, true, s);
+    let a = ty(text, words, classes, nodes, names, notes, given, true, s);
     if a.why != 0 {
         return a;
     }
@@ -984,8 +1092,9 @@ fn parens(
     parens_node(words, nodes, given, b, a.high, a.m)
 }
 
-// Mapped: up to its constraint.
+// Mapped: the name type, the type and the `;` are optional.
 fn mapped(
+    text: &[u8],
     words: &[u64],
     classes: &[u16; 256],
     nodes: &mut [u64],
@@ -994,79 +1103,74 @@ fn mapped(
     given: Given,
     m: Mark,
 ) -> Answer
-    requires { ⌜ (now classes ≡ classWords) × Sound (now words) × Room (length (now nodes)) (length (now notes)) given × Fine (length (now words)) given m × (m .at < length (now words)) ⌝ }
-    ensures { λ r. ⌜ (kindAt (now (words .entry)) (m .at) (m .half) ≡ LCurly → Starts 0 (λ g. mapped.mapped g (below given g)) (now (words .entry)) given m (now (nodes .entry)) (now (names .entry)) (now (notes .entry)) r (now (nodes .exit)) (now (names .exit)) (now (notes .exit))) ⌝ }
-    ensures { λ r. ⌜ Fine (length (now (words .entry))) given (r .m) × (r .high ≤ tallest) ⌝ }
-    ensures { λ r. ⌜ (r .why ≡ 0 → Past (placeOf m + 1) (m .used + 1) (r .m)) ⌝ }
+    requires { ⌜ Ready (now text) (now words) (now classes) (now nodes) (now notes) given m × (m .at < length (now words)) ⌝ }
+    ensures { λ r. ⌜ (kindAt (now (words .entry)) (m .at) (m .half) ≡ LCurly → Reads 0 (λ g. mapped.mapped g (below given g)) text words given m nodes names notes r) ⌝ }
+    ensures { λ r. ⌜ Within words given r ⌝ }
+    ensures { λ r. ⌜ Onward m r ⌝ }
 {
     let h = mapped_head(words, classes, names, m);
     if h.why != 0 {
         return Answer::refused(h.why, h.m);
     }
-    let p = h.m;
-    let a = ty(words, classes, nodes, names, notes, given, true, p);
-    if a.why != 0 {
-        return a;
-    }
-    let q = a.m;
-    let b = Begin::at(words, m);
-    let k = Kids::one(q.used, a.high);
-    rename(
+    let c = child(
+        text,
         words,
         classes,
         nodes,
         names,
         notes,
         given,
-        b,
-        h.choices,
-        k,
-        q,
-    )
-}
-
-// Mapped: behind its constraint; the name type, the type and the `;` are optional.
-fn rename(
-    words: &[u64],
-    classes: &[u16; 256],
-    nodes: &mut [u64],
-    names: &mut [u64],
-    notes: &mut [u64],
-    given: Given,
-    b: Begin,
-    readonly: usize,
-    kids: Kids,
-    m: Mark,
-) -> Answer
-    requires { ⌜ (now classes ≡ classWords) × Sound (now words) × Room (length (now nodes)) (length (now notes)) given × Fine (length (now words)) given m × Under (m .used) kids × (b .first < 2 ^ 32) × (b .name ≤ mostTokens) × (readonly ≤ 3) ⌝ }
-    ensures { λ r. ⌜ ((text : List ℕ) (B : Was) (key : Spelling) (c : Placed) → Spelt text (now (words .entry)) → IsNode 0 c → BuiltAt B (nameRun key ⊕ runIn 0 c) kids m (now (nodes .entry)) (now (names .entry)) (now (notes .entry)) → b .name ≡ B .named → Says 0 B (onward.behindConstraint (givenOf text (now (words .entry)) given) (below given (givenOf text (now (words .entry)) given)) (b .first) readonly key c (view m (now (notes .entry)))) r (now (nodes .exit)) (now (names .exit)) (now (notes .exit))) ⌝ }
-    ensures { λ r. ⌜ Fine (length (now (words .entry))) given (r .m) × (r .high ≤ tallest) ⌝ }
-    ensures { λ r. ⌜ (r .why ≡ 0 → Past (placeOf m) (m .used + 1) (r .m)) ⌝ }
-{
-    let mark = Kind::AS;
-    let n = opt(words, classes, nodes, names, notes, given, mark, true, m);
+        true,
+        Kids::none(),
+        h.m,
+    );
+    if c.why != 0 {
+        return Answer::refused(c.why, c.m);
+    }
+    let n = opt(
+        text,
+        words,
+        classes,
+        nodes,
+        names,
+        notes,
+        given,
+        Kind::AS,
+        true,
+        c.kids,
+        c.m,
+    );
     if n.why != 0 {
-        return n;
+        return Answer::refused(n.why, n.m);
     }
-    let p = n.m;
-    let k = link_opt(nodes, kids, m.used, p.used, n.high);
-    let h = mapped_middle(words, p);
-    if h.why != 0 {
-        return Answer::refused(h.why, h.m);
+    let a = mapped_middle(words, n.m);
+    if a.why != 0 {
+        return Answer::refused(a.why, a.m);
     }
-    let colon = Kind::COLON;
-    let t = opt(words, classes, nodes, names, notes, given, colon, true, h.m);
+    let t = opt(
+        text,
+        words,
+        classes,
+        nodes,
+        names,
+        notes,
+        given,
+        Kind::COLON,
+        true,
+        n.kids,
+        a.m,
+    );
     if t.why != 0 {
-        return t;
+        return Answer::refused(t.why, t.m);
     }
-    let q = t.m;
-    let l = link_opt(nodes, k, p.used, q.used, t.high);
-    let choices = mapped_choices(readonly, opt_bit(n.high), h.choices, opt_bit(t.high));
-    mapped_node(words, nodes, given, b, choices, l, q)
+    let choices = mapped_choices(h.choices, opt_bit(n.there), a.choices, opt_bit(t.there));
+    let b = Begin::at(words, m);
+    mapped_node(words, nodes, given, b, choices, t.kids, t.m)
 }
 
 // Tuple: its elements in square brackets.
 fn tuple(
+    text: &[u8],
     words: &[u64],
     classes: &[u16; 256],
     nodes: &mut [u64],
@@ -1075,10 +1179,10 @@ fn tuple(
     given: Given,
     m: Mark,
 ) -> Answer
-    requires { ⌜ (now classes ≡ classWords) × Sound (now words) × Room (length (now nodes)) (length (now notes)) given × Fine (length (now words)) given m × (m .at < length (now words)) ⌝ }
-    ensures { λ r. ⌜ (kindAt (now (words .entry)) (m .at) (m .half) ≡ LBrack → Starts 0 (λ g. tuple.tuple g (below given g)) (now (words .entry)) given m (now (nodes .entry)) (now (names .entry)) (now (notes .entry)) r (now (nodes .exit)) (now (names .exit)) (now (notes .exit))) ⌝ }
-    ensures { λ r. ⌜ Fine (length (now (words .entry))) given (r .m) × (r .high ≤ tallest) ⌝ }
-    ensures { λ r. ⌜ (r .why ≡ 0 → Past (placeOf m + 1) (m .used + 1) (r .m)) ⌝ }
+    requires { ⌜ Ready (now text) (now words) (now classes) (now nodes) (now notes) given m × (m .at < length (now words)) ⌝ }
+    ensures { λ r. ⌜ (kindAt (now (words .entry)) (m .at) (m .half) ≡ LBrack → Reads 0 (λ g. tuple.tuple g (below given g)) text words given m nodes names notes r) ⌝ }
+    ensures { λ r. ⌜ Within words given r ⌝ }
+    ensures { λ r. ⌜ Onward m r ⌝ }
 {
     let mut p = Mark {
         at: m.at + 1,
@@ -1090,7 +1194,7 @@ fn tuple(
     let mut k = Kids::none();
     let mut seen = false;
     while kind_at(words, p) != Kind::R_BRACK {
-        let a = elem(words, classes, nodes, names, notes, given, p);
+        let a = elem(text, words, classes, nodes, names, notes, given, p);
         if a.why != 0 {
             return a;
         }
@@ -1112,6 +1216,7 @@ fn tuple(
 
 // Tuple element: dots, a label and dots again may stand before its type.
 fn elem(
+    text: &[u8],
     words: &[u64],
     classes: &[u16; 256],
     nodes: &mut [u64],
@@ -1120,13 +1225,13 @@ fn elem(
     given: Given,
     m: Mark,
 ) -> Answer
-    requires { ⌜ (now classes ≡ classWords) × Sound (now words) × Room (length (now nodes)) (length (now notes)) given × Fine (length (now words)) given m ⌝ }
-    ensures { λ r. ⌜ Starts 1 (λ g. tuple.element g (below given g)) (now (words .entry)) given m (now (nodes .entry)) (now (names .entry)) (now (notes .entry)) r (now (nodes .exit)) (now (names .exit)) (now (notes .exit)) ⌝ }
-    ensures { λ r. ⌜ Fine (length (now (words .entry))) given (r .m) × (r .high ≤ tallest) ⌝ }
-    ensures { λ r. ⌜ (r .why ≡ 0 → Past (placeOf m + 1) (m .used + 1) (r .m)) ⌝ }
+    requires { ⌜ Ready (now text) (now words) (now classes) (now nodes) (now notes) given m ⌝ }
+    ensures { λ r. ⌜ Reads 1 (λ g. tuple.element g (below given g)) text words given m nodes names notes r ⌝ }
+    ensures { λ r. ⌜ Within words given r ⌝ }
+    ensures { λ r. ⌜ Onward m r ⌝ }
 {
     let l = element_head(words, classes, names, m);
-    let a = ty(words, classes, nodes, names, notes, given, true, l.m);
+    let a = ty(text, words, classes, nodes, names, notes, given, true, l.m);
     if a.why != 0 {
         return a;
     }
@@ -1135,6 +1240,7 @@ fn elem(
 
 // Template: one type behind the head and each middle, until a tail follows.
 fn template(
+    text: &[u8],
     words: &[u64],
     classes: &[u16; 256],
     nodes: &mut [u64],
@@ -1143,20 +1249,20 @@ fn template(
     given: Given,
     m: Mark,
 ) -> Answer
-    requires { ⌜ (now classes ≡ classWords) × Sound (now words) × Room (length (now nodes)) (length (now notes)) given × Fine (length (now words)) given m × (m .at < length (now words)) ⌝ }
-    ensures { λ r. ⌜ (kindAt (now (words .entry)) (m .at) (m .half) ≡ TemplateHead → Starts 0 (λ g. template.template g (below given g)) (now (words .entry)) given m (now (nodes .entry)) (now (names .entry)) (now (notes .entry)) r (now (nodes .exit)) (now (names .exit)) (now (notes .exit))) ⌝ }
-    ensures { λ r. ⌜ Fine (length (now (words .entry))) given (r .m) × (r .high ≤ tallest) ⌝ }
-    ensures { λ r. ⌜ (r .why ≡ 0 → Past (placeOf m + 1) (m .used + 1) (r .m)) ⌝ }
+    requires { ⌜ Ready (now text) (now words) (now classes) (now nodes) (now notes) given m × (m .at < length (now words)) ⌝ }
+    ensures { λ r. ⌜ (kindAt (now (words .entry)) (m .at) (m .half) ≡ TemplateHead → Reads 0 (λ g. template.template g (below given g)) text words given m nodes names notes r) ⌝ }
+    ensures { λ r. ⌜ Within words given r ⌝ }
+    ensures { λ r. ⌜ Onward m r ⌝ }
 {
     let mut p = spell(words, names, m);
     let mut k = Kids::none();
     loop {
-        let a = ty(words, classes, nodes, names, notes, given, true, p);
+        let a = child(text, words, classes, nodes, names, notes, given, true, k, p);
         if a.why != 0 {
-            return a;
+            return Answer::refused(a.why, a.m);
         }
         let q = a.m;
-        k = link(nodes, k, p.used, q.used, a.high);
+        k = a.kids;
         let kind = kind_at(words, q);
         if kind == Kind::TEMPLATE_TAIL {
             let n = spell(words, names, q);

@@ -23,7 +23,13 @@ ty-requires c κs =
     let args = c .before .before .before .before .before .before .before .before .before .before .before .before .before .args in
     let class-words = c .before .before .before .before .before .class-words in
     let start = c .before .before .before .before .start in
-    (class-words .ensures, sound-list (args .text .now) (args .tokens .now) (args .start) (pre .0), omega (arith, pre .1, good), omega (arith, start .ensures, start-there (args .text .now) (args .tokens .now) (args .start) (pre .0), good))
+    record {
+      classes-are = class-words .ensures;
+      sound = sound-list (args .text .now) (args .tokens .now) (args .start) (pre .0);
+      spelt = spelt-list (args .text .now) (args .tokens .now) (args .start) (pre .0);
+      room = omega (arith, pre .1, good);
+      fine = omega (arith, start .ensures, start-there (args .text .now) (args .tokens .now) (args .start) (pre .0), good);
+    }
 
 first-byte-requires : tie.Need-first-byte-requires
 first-byte-requires c κs = search needs
@@ -55,7 +61,7 @@ returns c =
     let if1 = c .before .before .before .before .before .before .before .before .before .before .before .before .before .before .if1 in
     let first-byte = c .before .before .before .before .before .before .before .before .before .before .before .before .before .first-byte in
     let refuse = c .before .before .before .before .before .before .before .before .refuse in
-    reads-refused (args .text .now) (args .tokens .now) (args .start) (args .preserve-parens) (lend (length (args .nodes .now)) (length (args .names .now)) (length (args .notes .now)) (length (args .key .now))) (pre .0) (reading-from _ _ (args .noting .now) (start .ensures) ∙ ty .ensures .0 (args .text .now) (spelt-list (args .text .now) (args .tokens .now) (args .start) (pre .0)) .refused (if1 .taken)) (first-byte .ensures) (refuse .ensures) (same-lent (ty .kept .1 .1 .0) (ty .kept .1 .1 .1 .0))
+    reads-refused (args .text .now) (args .tokens .now) (args .start) (args .preserve-parens) (lend (length (args .nodes .now)) (length (args .names .now)) (length (args .notes .now)) (length (args .key .now))) (pre .0) (reading-from _ _ (args .noting .now) (start .ensures) ∙ ty .ensures .0 .refused (if1 .taken)) (first-byte .ensures) (refuse .ensures) (same-lent (ty .kept .1 .1 .1 .0) (ty .kept .1 .1 .1 .1 .0))
 
 finish-requires : tie.Need-finish-requires
 finish-requires c κs =
@@ -65,7 +71,7 @@ finish-requires c κs =
     let start = c .before .before .before .before .before .before .before .before .before .before .before .before .before .before .before .before .before .before .before .start in
     let ty = c .before .before .before .before .before .before .before .before .before .before .before .before .before .before .ty in
     let if1 = c .before .before .before .before .before .if1 in
-    (omega (arith, ty .ensures .1 .1 (if1 .left)), few-used (args .text .now) (args .tokens .now) (args .start) (args .preserve-parens) (lend (length (args .nodes .now)) (length (args .names .now)) (length (args .notes .now)) (length (args .key .now))) (pre .0) (bytes-of (args .text .now) (λ i. omega (arith, shared-slice-known .given i))) (ty .result .m) _ (reading-from _ _ (args .noting .now) (start .ensures) ∙ (ty .ensures .0 (args .text .now) (spelt-list (args .text .now) (args .tokens .now) (args .start) (pre .0)) .done (if1 .left)) .is), omega (arith, ty .ensures .1 .0 .0, ty .kept), noted-in (args .text .now) (args .tokens .now) (args .start) (args .preserve-parens) (lend (length (args .nodes .now)) (length (args .names .now)) (length (args .notes .now)) (length (args .key .now))) (pre .0) (bytes-of (args .text .now) (λ i. omega (arith, shared-slice-known .given i))) (ty .result .m) _ (reading-from _ _ (args .noting .now) (start .ensures) ∙ (ty .ensures .0 (args .text .now) (spelt-list (args .text .now) (args .tokens .now) (args .start) (pre .0)) .done (if1 .left)) .is) (omega (arith, pre .1, ty .kept)), omega (arith, ty .ensures .1 .0 .0))
+    (omega (arith, ty .ensures .1 .1 (if1 .left)), few-used (args .text .now) (args .tokens .now) (args .start) (args .preserve-parens) (lend (length (args .nodes .now)) (length (args .names .now)) (length (args .notes .now)) (length (args .key .now))) (pre .0) (bytes-of (args .text .now) (λ i. omega (arith, shared-slice-known .given i))) (ty .result .m) _ (reading-from _ _ (args .noting .now) (start .ensures) ∙ (ty .ensures .0 .done (if1 .left)) .is), omega (arith, ty .ensures .1 .0 .0, ty .kept), noted-in (args .text .now) (args .tokens .now) (args .start) (args .preserve-parens) (lend (length (args .nodes .now)) (length (args .names .now)) (length (args .notes .now)) (length (args .key .now))) (pre .0) (bytes-of (args .text .now) (λ i. omega (arith, shared-slice-known .given i))) (ty .result .m) _ (reading-from _ _ (args .noting .now) (start .ensures) ∙ (ty .ensures .0 .done (if1 .left)) .is) (omega (arith, pre .1, ty .kept)), omega (arith, ty .ensures .1 .0 .0))
 
 same-length-6 : tie.Need-same-length-6
 same-length-6 c = search needs
@@ -91,7 +97,7 @@ returns-2 c =
     let ty = c .before .before .before .before .before .before .before .before .before .before .before .before .before .before .before .before .before .before .before .before .before .before .before .ty in
     let if1 = c .before .before .before .before .before .before .before .before .before .before .before .before .before .before .if1 in
     let finish = c .before .before .before .before .before .before .before .before .finish in
-    reads-read (args .text .now) (args .tokens .now) (args .start) (args .preserve-parens) (lend (length (args .nodes .now)) (length (args .names .now)) (length (args .notes .now)) (length (args .key .now))) (pre .0) (reading-from _ _ (args .noting .now) (start .ensures) ∙ (ty .ensures .0 (args .text .now) (spelt-list (args .text .now) (args .tokens .now) (args .start) (pre .0)) .done (if1 .left)) .is) (finish .ensures ((ty .ensures .0 (args .text .now) (spelt-list (args .text .now) (args .tokens .now) (args .start) (pre .0)) .done (if1 .left)) .tree) (held (args .text .now) (args .tokens .now) (args .start) (args .preserve-parens) (lend (length (args .nodes .now)) (length (args .names .now)) (length (args .notes .now)) (length (args .key .now))) (pre .0) (bytes-of (args .text .now) (λ i. omega (arith, shared-slice-known .given i))) (ty .result .m) _ (reading-from _ _ (args .noting .now) (start .ensures) ∙ (ty .ensures .0 (args .text .now) (spelt-list (args .text .now) (args .tokens .now) (args .start) (pre .0)) .done (if1 .left)) .is) (args .nodes .now) (args .names .now) (args .noting .now) (omega (arith, ty .kept)) ((ty .ensures .0 (args .text .now) (spelt-list (args .text .now) (args .tokens .now) (args .start) (pre .0)) .done (if1 .left)) .stands .laid))) (same-lent (ty .kept .1 .1 .0) (ty .kept .1 .1 .1 .0))
+    reads-read (args .text .now) (args .tokens .now) (args .start) (args .preserve-parens) (lend (length (args .nodes .now)) (length (args .names .now)) (length (args .notes .now)) (length (args .key .now))) (pre .0) (reading-from _ _ (args .noting .now) (start .ensures) ∙ (ty .ensures .0 .done (if1 .left)) .is) (finish .ensures ((ty .ensures .0 .done (if1 .left)) .tree) (held (args .text .now) (args .tokens .now) (args .start) (args .preserve-parens) (lend (length (args .nodes .now)) (length (args .names .now)) (length (args .notes .now)) (length (args .key .now))) (pre .0) (bytes-of (args .text .now) (λ i. omega (arith, shared-slice-known .given i))) (ty .result .m) _ (reading-from _ _ (args .noting .now) (start .ensures) ∙ (ty .ensures .0 .done (if1 .left)) .is) (args .nodes .now) (args .names .now) (args .noting .now) (omega (arith, ty .kept)) ((ty .ensures .0 .done (if1 .left)) .stands .laid))) (same-lent (ty .kept .1 .1 .1 .0) (ty .kept .1 .1 .1 .1 .0))
 
 pub read-noting-spec : {M : Type 1} → statement M
 read-noting-spec =
