@@ -10,8 +10,8 @@ use Rattle.keys.specs.Form.{Value, nothing, spelt, choice, pair, node, letters,
 use Rattle.keys.specs.FormLaws.{form-back}
 use Rattle.keys.specs.Limits.{tooTall}
 use Rattle.keys.specs.Placed.{laid}
-use Rattle.keys.specs.Store.{Run, done, chose, name, kid, plant}
-use Rattle.keys.specs.StoreLaws.{_⊕_, join-done, plant-join}
+use Rattle.keys.specs.Store.{Run, done, chose, name, kid, plant, _⊕_}
+use Rattle.keys.specs.StoreLaws.{join-done, plant-join}
 use Rattle.keys.specs.Lines.{inLine, lined}
 use Rattle.key_in.specs.Runs.{Ran, ran, halt, haltAt, after, thenRun, asChild, spelledAt, asName, allowedRun, wholeRun, choiceRun, roomRun, formRun, nodeRun}
 use Rattle.key_in.specs.Back.{Spans}

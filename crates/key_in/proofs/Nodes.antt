@@ -8,8 +8,8 @@ use lib.ListN.{length, drop, length-drop}
 use Rattle.keys.specs.Bits.{Bits}
 use Rattle.keys.specs.Form.{Form, never, one, word, choose, both, child, Grammar, State, state}
 use Rattle.keys.specs.Limits.{widest, badKey, tooTall, noRoom}
-use Rattle.keys.specs.Store.{Run, done, chose, name, kid}
-use Rattle.keys.specs.StoreLaws.{_⊕_, join-done}
+use Rattle.keys.specs.Store.{Run, done, chose, name, kid, _⊕_}
+use Rattle.keys.specs.StoreLaws.{join-done}
 use Rattle.keys.specs.Table.{oneOf}
 use Rattle.keys.specs.Words.{firstNodes}
 use Rattle.keys.specs.Stored.{Base, base, Stored, Own}

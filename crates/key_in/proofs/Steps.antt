@@ -12,8 +12,8 @@ use lib.Seq.{drop-drop}
 use Rattle.keys.specs.Bits.{Bits, Field, short, field, takeField, Row, cut, row, ahead, afterByte, takeBytes}
 use Rattle.keys.specs.Form.{Value, spelt, Form, word, both, isNever, State, state, Result, got, stop, keep, takeLetters, takeLength, takeSpelling}
 use Rattle.keys.specs.Limits.{badKey, noSpace}
-use Rattle.keys.specs.Store.{Run, done, name, nameOf}
-use Rattle.keys.specs.StoreLaws.{_⊕_, join-join}
+use Rattle.keys.specs.Store.{Run, done, name, nameOf, _⊕_}
+use Rattle.keys.specs.StoreLaws.{join-join}
 use Rattle.keys.specs.BitsLaws.{take-whole, take-short, bytes-back, le-or-lt}
 use Rattle.keys.specs.Words.{firstNodes, firstNames}
 use Rattle.keys.specs.Stored.{lettersIn, Base, Stored, Own}

@@ -10,9 +10,8 @@ use Rattle.keys.specs.Form.{Value, spelt, nodes, names, letters, Form, never, o
 use Rattle.keys.specs.Limits.{badKey, noSpace, widest}
 use Rattle.keys.specs.Placed.{laid}
 use Rattle.keys.specs.Key.{padding, taken, refused, placeOf, takeKey}
-use Rattle.keys.specs.Store.{Run, done, chose, name, kid, under, called, packed, firstKid, records, nameOf, namesIn, nodesOf, namesOf, textOf, TakenBack}
+use Rattle.keys.specs.Store.{Run, done, chose, name, kid, under, called, packed, firstKid, records, nameOf, namesIn, nodesOf, namesOf, textOf, TakenBack, _⊕_, span}
 use Rattle.keys.specs.Store as store
-use Rattle.keys.specs.StoreLaws.{_⊕_, span}
 use Rattle.keys.specs.Words.{firstNodes, firstNames}
 use Rattle.keys.specs.Stored.{Base, base, Stored, Own}
 use Rattle.node_table.specs.Forms.{formOf, formBy, leads, entryAt, classAt, grammarOf, entryOf, spellingsThen, nodesThen, spellingIf, Narrow}

@@ -6,8 +6,7 @@ use lib.ListN.{length}
 use Rattle.keys.specs.Bits.{Bits, Field, short, field, takeField}
 use Rattle.keys.specs.Form.{Value, nothing, spelt, choice, pair, node, Form, never, one, word, choose, both, child, Grammar, isNever, State, state, Result, got, stop, takeSpelling}
 use Rattle.keys.specs.Limits.{tooTall, noRoom, badKey}
-use Rattle.keys.specs.Store.{Run, done, chose, name, kid}
-use Rattle.keys.specs.StoreLaws.{_⊕_}
+use Rattle.keys.specs.Store.{Run, done, chose, name, kid, _⊕_}
 
 -- What taking comes to in the store: a run and what is left; or a refusal, its number and how many bits were left at its place.
 pub data Ran : Type 0 where

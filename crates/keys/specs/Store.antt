@@ -18,6 +18,14 @@ pub data Run : Type 0 where
   name : (start : ℕ) → List ℕ → Run → Run
   kid : (first end : ℕ) → Run → Run → Run
 
+infixr 5 _⊕_
+-- A run and then another.
+abbrev pub _⊕_ : Run → Run → Run
+done ⊕ r = r
+chose w k a ⊕ r = chose w k (a ⊕ r)
+name x s a ⊕ r = name x s (a ⊕ r)
+kid first end b a ⊕ r = kid first end b (a ⊕ r)
+
 module _ (G : Grammar) where
   -- What a value of a form puts into its node, before the run r; a node's first choice is its tag.
   abbrev pub plant : Form → Placed → Run → Run
@@ -42,6 +50,13 @@ called (name x s r) = 1 + called r
 called (kid first end a r) = called a + called r
 
 -- ---- A node's record of four words
+
+-- How many bits a node's own choices have.
+abbrev pub span : Run → ℕ
+span done = 0
+span (chose w k a) = w + span a
+span (name x s a) = span a
+span (kid first end b a) = span a
 
 -- A node's own choices in one word, the first lowest.
 abbrev pub packed : Run → ℕ

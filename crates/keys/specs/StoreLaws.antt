@@ -10,15 +10,7 @@ use lib.Seq.{take-append-seam, drop-append-seam}
 use lib.ListN.{length, take, drop, replicate, length-append, length-replicate}
 use Rattle.keys.specs.Form.{Value, nothing, spelt, choice, pair, node, Form, Grammar, width, branch, left, right, class, nodes, names, letters}
 use Rattle.keys.specs.Placed.{Placed, void, said, pick, join, tree, bare, laid}
-use Rattle.keys.specs.Store.{Run, done, chose, name, kid, plant, under, called, packed, firstKid, recordOf, records, nameOf, namesIn, textOf, pointed, allPointed, filled}
-
-infixr 5 _⊕_
--- A run and then another.
-abbrev pub _⊕_ : Run → Run → Run
-done ⊕ r = r
-chose w k a ⊕ r = chose w k (a ⊕ r)
-name x s a ⊕ r = name x s (a ⊕ r)
-kid first end b a ⊕ r = kid first end b (a ⊕ r)
+use Rattle.keys.specs.Store.{Run, done, chose, name, kid, _⊕_, plant, under, called, span, packed, firstKid, recordOf, records, nameOf, namesIn, textOf, pointed, allPointed, filled}
 
 pub join-done : (a : Run) → a ⊕ done ≡ a
 join-done done = refl
@@ -56,13 +48,6 @@ called-join done r = sym (zero-add (called r))
 called-join (chose w k a) r = called-join a r
 called-join (name x s a) r = omega (arith, called-join a r)
 called-join (kid first end b a) r = omega (arith, called-join a r)
-
--- How many bits a node's own choices have.
-abbrev pub span : Run → ℕ
-span done = 0
-span (chose w k a) = w + span a
-span (name x s a) = span a
-span (kid first end b a) = span a
 
 pub span-join : (a r : Run) → span (a ⊕ r) ≡ span a + span r
 span-join done r = sym (zero-add (span r))
