@@ -6,7 +6,7 @@ use borrow.Author.Tests.{not-true, not-false}
 use mathlib.Core.Path.{refl, sym, _∙_}
 use Rattle.parts.specs.LeafLaws.{stands-on}
 use Rattle.keys.specs.Placed.{join}
-use Rattle.keys.specs.StoreLaws.{_⊕_}
+use Rattle.keys.specs.Store.{_⊕_}
 use Rattle.parts.specs.Marks.{view, givenOf}
 use Rattle.parts.specs.Laid.{runIn}
 use Rattle.parts.specs.Ring.{below}
