@@ -7,11 +7,11 @@ use native.Mathlib.Omega.{arith}
 use lib.Dec.{leb, ltb}
 use Rattle.keys.specs.Bits.{Bits, Field, short, field, takeField}
 use Rattle.keys.specs.Form.{Value, nothing, spelt, choice, pair, node, letters, Form, never, one, word, choose, both, child, Grammar, isNever, Fits, fits-word, State, state, Result, got, stop, stopAt, into, andThen, allowed, ifWhole, takeChoice, takeSpelling, takeRoom, takeForm, takeNode}
-use Rattle.keys.specs.FormLaws.{form-back}
+use Rattle.keys.proofs.FormLaws.{form-back}
 use Rattle.keys.specs.Limits.{tooTall}
 use Rattle.keys.specs.Placed.{laid}
 use Rattle.keys.specs.Store.{Run, done, chose, name, kid, plant, _⊕_}
-use Rattle.keys.specs.StoreLaws.{join-done, plant-join}
+use Rattle.keys.proofs.StoreLaws.{join-done, plant-join}
 use Rattle.keys.specs.Lines.{inLine, lined}
 use Rattle.key_in.specs.Runs.{Ran, ran, halt, haltAt, after, thenRun, asChild, spelledAt, asName, allowedRun, wholeRun, choiceRun, roomRun, formRun, nodeRun}
 use Rattle.key_in.specs.Back.{Spans}

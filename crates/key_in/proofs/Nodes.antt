@@ -9,13 +9,13 @@ use Rattle.keys.specs.Bits.{Bits}
 use Rattle.keys.specs.Form.{Form, never, one, word, choose, both, child, Grammar, State, state}
 use Rattle.keys.specs.Limits.{widest, badKey, tooTall, noRoom}
 use Rattle.keys.specs.Store.{Run, done, chose, name, kid, _⊕_}
-use Rattle.keys.specs.StoreLaws.{join-done}
+use Rattle.keys.proofs.StoreLaws.{join-done}
 use Rattle.keys.specs.Table.{oneOf}
 use Rattle.keys.specs.Words.{firstNodes}
 use Rattle.keys.specs.Stored.{Base, base, Stored, Own}
-use Rattle.keys.specs.StoredLaws.{stored-none, stored-choice, stored-node}
+use Rattle.keys.proofs.StoredLaws.{stored-none, stored-choice, stored-node}
 use Rattle.node_table.specs.Forms.{Entry, listed, formBy, formOf, stepsOf, entryAt, classAt, grammarOf, leads, entryOf, IsRow, Narrow, nodesThen, spellingIf}
-use Rattle.node_table.specs.FormsLaws.{form-at}
+use Rattle.node_table.proofs.FormsLaws.{form-at}
 use Rattle.node_table.specs.declared.forms.Row.{Row}
 use Rattle.key_in.specs.Runs.{Ran, ran, halt, after, thenRun, asChild, roomRun, haltAt, choiceRun, formRun, nodeRun}
 use Rattle.key_in.specs.Back.{stateAt, Inside, Steady, Housed, Spans, Slim, Sized, refusedAt, movedTo, withChild, onward, atBit, Named, NamesIn, Picked, Went, PlainIn, Grown, NodeIn, Asks, Linked, AfterIn, NodesIn}

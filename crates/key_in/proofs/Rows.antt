@@ -11,7 +11,7 @@ use Rattle.keys.specs.Table.{when, oneOf, times, flag, below, opt, needed, spel
 use Rattle.keys.specs.Key.{nodeTable}
 use Rattle.keys.specs.Lines.{inLine, lined}
 use Rattle.node_table.specs.Forms.{grammarOf, tableWords}
-use Rattle.node_table.specs.FormsLaws.{words-are, words-narrow}
+use Rattle.node_table.proofs.FormsLaws.{words-are, words-narrow}
 use Rattle.key_in.specs.Back.{Spans, Slim}
 use Rattle.key_in.proofs.Lines.{Fine, never-fine, one-fine, word-fine, child-fine, choose-fine, both-fine, line-spans, spans-more}
 

@@ -6,7 +6,7 @@ use native.Mathlib.Omega.{arith}
 use lib.ListN.{length, take, drop}
 use Rattle.keys.specs.Bits.{Bits, takeField, bitsOfBytes}
 use Rattle.keys.specs.Form.{spelt, State, state, Result, got, stop, takeSpelling}
-use Rattle.keys.specs.BitsLaws.{length-bytes}
+use Rattle.keys.proofs.BitsLaws.{length-bytes}
 use Rattle.keys.specs.Words.{firstNames}
 use Rattle.keys.proofs.Cells.{name-roomy}
 use Rattle.fields.specs.Take.{answered, Copied}

@@ -13,11 +13,11 @@ use Rattle.keys.specs.Bits.{Bits, Field, short, field, takeField, Row, cut, row
 use Rattle.keys.specs.Form.{Value, spelt, Form, word, both, isNever, State, state, Result, got, stop, keep, takeLetters, takeLength, takeSpelling}
 use Rattle.keys.specs.Limits.{badKey, noSpace}
 use Rattle.keys.specs.Store.{Run, done, name, nameOf, _⊕_}
-use Rattle.keys.specs.StoreLaws.{join-join}
-use Rattle.keys.specs.BitsLaws.{take-whole, take-short, bytes-back, le-or-lt}
+use Rattle.keys.proofs.StoreLaws.{join-join}
+use Rattle.keys.proofs.BitsLaws.{take-whole, take-short, bytes-back, le-or-lt}
 use Rattle.keys.specs.Words.{firstNodes, firstNames}
 use Rattle.keys.specs.Stored.{lettersIn, Base, Stored, Own}
-use Rattle.keys.specs.StoredLaws.{stored-same, own-same, stored-name, own-name}
+use Rattle.keys.proofs.StoredLaws.{stored-same, own-same, stored-name, own-name}
 use Rattle.fields.specs.Take.{answered}
 use Rattle.fields.specs.declared.take.TakenField.the-variants.{Number, Short}
 use Rattle.fields.proofs.Chunks.{Told, field-short, take-rest}

@@ -11,9 +11,9 @@ use lib.ListN.{length, set, drop, length-set, length-drop}
 use Rattle.keys.specs.Bits.{Bits}
 use Rattle.keys.specs.Form.{Form, never, one, word, choose, both, child, Grammar, State, state}
 use Rattle.keys.specs.Store.{Run, done, chose, name, kid, _⊕_}
-use Rattle.keys.specs.StoreLaws.{join-done, join-join}
+use Rattle.keys.proofs.StoreLaws.{join-done, join-join}
 use Rattle.keys.specs.Stored.{Base, base, Stored, Own}
-use Rattle.keys.specs.StoredLaws.{stored-same, own-same, stored-choice, own-choice, kid-first, kid-next, own-first, own-next}
+use Rattle.keys.proofs.StoredLaws.{stored-same, own-same, stored-choice, own-choice, kid-first, kid-next, own-first, own-next}
 use Rattle.node_table.specs.Forms.{formBy, formOf, leads, entryOf, spellingsThen, nodesThen, spellingIf}
 use Rattle.node_table.specs.declared.forms.Row.{Row}
 use Rattle.key_in.specs.Runs.{Ran, ran, halt, after, thenRun, formRun, nodeRun}

@@ -15,8 +15,8 @@ use Rattle.keys.specs.Placed.{bare, laid}
 use Rattle.keys.specs.Key.{padding, closed, taken, refused, placeOf, outcome, takeWhole, nodeTable, takeWithin, takeKey}
 use Rattle.keys.specs.Store.{Run, done, chose, name, kid, plant, under, called, records, namesIn, nodesOf, namesOf, textOf, filled, lent, takeBack}
 use Rattle.keys.specs.Store as store
-use Rattle.keys.specs.BitsLaws.{clash, length-bytes}
-use Rattle.keys.specs.StoreLaws.{under-plant, called-plant, length-textOf, bare-laid}
+use Rattle.keys.proofs.BitsLaws.{clash, length-bytes}
+use Rattle.keys.proofs.StoreLaws.{under-plant, called-plant, length-textOf, bare-laid}
 use Rattle.keys.specs.Words.{firstNodes, firstNames}
 use Rattle.keys.specs.Lines.{lined}
 use Rattle.keys.specs.Stored.{lettersIn, base, Stored}
@@ -24,7 +24,7 @@ use Rattle.fields.specs.Take.{answered}
 use Rattle.fields.specs.declared.take.TakenField.the-variants.{Number, Short}
 use Rattle.fields.proofs.Chunks.{Told, number-told, field-short}
 use Rattle.node_table.specs.Forms.{grammarOf, tableWords}
-use Rattle.node_table.specs.FormsLaws.{words-are}
+use Rattle.node_table.proofs.FormsLaws.{words-are}
 use Rattle.key_in.specs.Runs.{Ran, ran, halt, nodeRun}
 use Rattle.key_in.specs.Back.{stateAt, Inside, Slim, refusedAt, NodeIn, Asks, Grown, Ends, Held, WholeIn, Answers, told}
 use Rattle.key_in.specs.declared.back.Pos.{Pos}

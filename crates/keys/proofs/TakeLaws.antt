@@ -15,10 +15,10 @@ use Rattle.keys.specs.Table.{type, wholeKey}
 use Rattle.keys.specs.Placed.{bare, laid}
 use Rattle.keys.specs.Key.{Taken, taken, refused, treeIn, outcome, takeWhole, nodeTable, keyOf, takeWithin, takeKey, IsTree, HasRoom, IsKey}
 use Rattle.keys.specs.Store.{Kept, lent, filled, runOf, nodesOf, namesOf, textOf, done}
-use Rattle.keys.specs.BitsLaws.{clash}
-use Rattle.keys.specs.FormLaws.{some, letters-written}
-use Rattle.keys.specs.KeyLaws.{length-packed, whole-back, Came}
-use Rattle.keys.specs.StoreLaws.{length-records, length-namesIn, under-plant, called-plant, length-textOf, length-filled, bare-laid}
+use Rattle.keys.proofs.BitsLaws.{clash}
+use Rattle.keys.proofs.FormLaws.{some, letters-written}
+use Rattle.keys.proofs.KeyLaws.{length-packed, whole-back, Came}
+use Rattle.keys.proofs.StoreLaws.{length-records, length-namesIn, under-plant, called-plant, length-textOf, length-filled, bare-laid}
 
 -- ---- What a tree needs
 

@@ -10,7 +10,7 @@ use lib.Dec.{leb}
 use lib.ListN.{length, length-append}
 use Rattle.keys.specs.Bits.{Bits, bitsOf, Field, short, field, takeField, bitsOfBytes, Row, cut, row, takeBytes}
 use Rattle.keys.specs.Form.{Value, nothing, spelt, choice, pair, node, Form, never, one, word, choose, both, child, Grammar, isNever, height, nodes, names, letters, Bytes, write, Fits, fits-one, fits-word, fits-choose, fits-both, fits-child, State, state, Result, got, stop, into, andThen, allowed, ifWhole, takeChoice, keep, takeLetters, takeLength, takeSpelling, takeRoom, takeForm, takeNode}
-use Rattle.keys.specs.BitsLaws.{clash, take-written, take-back, Written, take-bytes, bytes-back, Spelled, length-bytes}
+use Rattle.keys.proofs.BitsLaws.{clash, take-written, take-back, Written, take-bytes, bytes-back, Spelled, length-bytes}
 
 -- ---- What was written is taken
 

@@ -11,7 +11,7 @@ use Rattle.keys.specs.Holds.{wordAt, childAt, nextAt, Cursor, cursor, HoldsBy}
 use Rattle.keys.specs.Lines.{tagged, Of, of-one, of-word, of-choose, of-child, levels}
 use Rattle.fields.specs.Put.{far}
 use Rattle.node_table.specs.Forms.{spellingsThen, spellingIf, nodesThen, Entry, entryAt, classAt, stepsOf, listed, leads, formBy, formOf, grammarOf, entryOf, IsRow, Lists, Jumps}
-use Rattle.node_table.specs.FormsLaws.{form-at}
+use Rattle.node_table.proofs.FormsLaws.{form-at}
 use Rattle.node_table.specs.Moves.{Output, items, Moved, Moves, Noded, Spelled, formAt, placeOf, mark, markOf, movedTo, besideTo, Ready, toDo, Own, After, Begun}
 use Rattle.node_table.specs.declared.forms.Row.{Row}
 use Rattle.node_table.specs.declared.forms.Jump.{Jump}

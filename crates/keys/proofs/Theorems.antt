@@ -16,12 +16,12 @@ use Rattle.keys.specs.Placed.{Placed, bare}
 use Rattle.keys.specs.Key.{Taken, taken, refused, outcome, bytesOf, nodeTable, keyOf, takeWithin, takeKey, IsTree, HasRoom, IsKey, IsRefusal}
 use Rattle.keys.specs.Store.{TakenBack, back, no, lent, takeBack, filled, nodesOf, namesOf, textOf, allPointed, Kept, Left}
 use Rattle.keys.specs.Holds.{Stands}
-use Rattle.keys.specs.BitsLaws.{clash}
-use Rattle.keys.specs.KeyLaws.{whole-room, whole-one}
-use Rattle.keys.specs.RefusalLaws.{too-long, whole-fine, outcome-fine}
-use Rattle.keys.specs.StoreLaws.{names-point}
-use Rattle.keys.specs.TakeLaws.{with-edition, key-back, kept-taken, kept-refused, text-small, names-first}
-use Rattle.keys.specs.OneTree.{one-written, own-words, four-words}
+use Rattle.keys.proofs.BitsLaws.{clash}
+use Rattle.keys.proofs.KeyLaws.{whole-room, whole-one}
+use Rattle.keys.proofs.RefusalLaws.{too-long, whole-fine, outcome-fine}
+use Rattle.keys.proofs.StoreLaws.{names-point}
+use Rattle.keys.proofs.TakeLaws.{with-edition, key-back, kept-taken, kept-refused, text-small, names-first}
+use Rattle.keys.proofs.OneTree.{one-written, own-words, four-words}
 
 -- A key taken back with room enough gives its tree.
 pub taken-back : {n k m : ℕ} {t : Value} → IsTree t → HasRoom n k m t → takeKey n k m (keyOf t) ≡ taken t

@@ -7,7 +7,7 @@ use native.Mathlib.Omega.{arith}
 use lib.ListN.{length, take, set, length-append}
 use lib.Seq.{take-set-lt, set-at, length-take-le, take-take, take-at}
 use Rattle.keys.specs.Store.{Run, done, chose, name, kid, under, called, packed, firstKid, recordOf, records, nameOf, namesIn, _⊕_, span}
-use Rattle.keys.specs.StoreLaws.{join-done, join-join, under-join, called-join, span-join, packed-join, firstKid-join, records-join, namesIn-join}
+use Rattle.keys.proofs.StoreLaws.{join-done, join-join, under-join, called-join, span-join, packed-join, firstKid-join, records-join, namesIn-join}
 use Rattle.keys.specs.Words.{firstNodes, firstNames}
 use Rattle.keys.specs.Stored.{lettersIn, Base, base, Stored, Own}
 

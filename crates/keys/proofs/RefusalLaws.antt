@@ -10,7 +10,7 @@ use Rattle.keys.specs.Limits.{tooTall, noRoom, badKey, noSpace}
 use Rattle.keys.specs.Bits.{Bits, Field, short, field, takeField, Row, cut, row, takeBytes}
 use Rattle.keys.specs.Form.{Value, choice, pair, node, Form, never, one, word, choose, both, child, Grammar, isNever, State, state, Result, got, stop, stopAt, into, andThen, allowed, ifWhole, takeChoice, keep, takeLetters, takeLength, takeSpelling, takeRoom, takeForm, takeNode}
 use Rattle.keys.specs.Key.{padding, closed, takeWhole, Taken, taken, refused, placeOf, outcome, IsRefusal, is-tooTall, is-noRoom, is-badKey, is-noSpace}
-use Rattle.keys.specs.BitsLaws.{clash}
+use Rattle.keys.proofs.BitsLaws.{clash}
 
 -- The numbers that are met.
 pub data Met : ℕ → Type 0 where

@@ -11,9 +11,9 @@ use Rattle.keys.specs.Store.{Run, done, chose, name, kid, called, part}
 use Rattle.keys.specs.Holds.{wordAt, childAt, nextAt, startAt, sizeAt, Spells, Cursor, cursor}
 use Rattle.keys.specs.Lines.{tagged, written}
 use Rattle.fields.specs.Put.{far, Put}
-use Rattle.fields.specs.PutLaws.{put-none, put-append}
+use Rattle.fields.proofs.PutLaws.{put-none, put-append}
 use Rattle.node_table.specs.Moves.{items, Spelled}
-use Rattle.node_table.specs.MovesLaws.{Sound, spelled-none}
+use Rattle.node_table.proofs.MovesLaws.{Sound, spelled-none}
 use Rattle.key_out.specs.Out.{keyBits}
 
 -- ---- Bits as an output

@@ -11,18 +11,18 @@ use Rattle.keys.specs.Limits.{countWidth}
 use Rattle.keys.specs.Placed.{Placed, bare}
 use Rattle.keys.specs.Key.{nodeTable}
 use Rattle.keys.specs.Store.{Run, done, chose, name, kid, under, called, firstKid, records, runOf, nodesOf, nodeVisit, choiceVisit, nameVisit, visit, visits, visitsOf}
-use Rattle.keys.specs.StoreLaws.{under-plant}
+use Rattle.keys.proofs.StoreLaws.{under-plant}
 use Rattle.keys.specs.Table.{type}
 use Rattle.keys.specs.Lines.{lined, tagged}
-use Rattle.keys.specs.BitsLaws.{le-or-lt}
+use Rattle.keys.proofs.BitsLaws.{le-or-lt}
 use Rattle.keys.specs.Holds.{wordAt, childAt, nextAt, Cursor, cursor, HoldsBy, Stands}
-use Rattle.keys.specs.HoldsLaws.{In, in-front, kid-in, of-type, root-is, stands-holds, stands-low}
+use Rattle.keys.proofs.HoldsLaws.{In, in-front, kid-in, of-type, root-is, stands-holds, stands-low}
 use Rattle.fields.specs.Put.{far}
-use Rattle.fields.specs.PutLaws.{sets-append, sets-past, sets-copies}
+use Rattle.fields.proofs.PutLaws.{sets-append, sets-past, sets-copies}
 use Rattle.node_table.specs.Forms.{grammarOf, tableWords}
-use Rattle.node_table.specs.FormsLaws.{words-are}
+use Rattle.node_table.proofs.FormsLaws.{words-are}
 use Rattle.node_table.specs.Moves.{items, Spelled, Noded}
-use Rattle.node_table.specs.MovesLaws.{Sound, spelled-none, all-put}
+use Rattle.node_table.proofs.MovesLaws.{Sound, spelled-none, all-put}
 use Rattle.visits.specs.Visits.{Visited, Listed, visitWords, Named}
 
 -- ---- Words as an output

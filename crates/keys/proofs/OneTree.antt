@@ -11,10 +11,10 @@ use Rattle.keys.specs.Table.{type}
 use Rattle.keys.specs.Placed.{Placed, bare}
 use Rattle.keys.specs.Key.{nodeTable}
 use Rattle.keys.specs.Store.{Run, done, called, firstKid, nodesOf, namesOf, allPointed, runOf}
-use Rattle.keys.specs.StoreLaws.{length-records, under-plant}
+use Rattle.keys.proofs.StoreLaws.{length-records, under-plant}
 use Rattle.keys.specs.Lines.{lined, Of, of-one, of-word, of-choose, of-child, written}
 use Rattle.keys.specs.Holds.{wordAt, childAt, nextAt, Cursor, cursor, HoldsBy, Stands}
-use Rattle.keys.specs.HoldsLaws.{of-type, root-is, stands-holds, stands-written}
+use Rattle.keys.proofs.HoldsLaws.{of-type, root-is, stands-holds, stands-written}
 
 -- Two runs of a form have one count of names and one row of bits.
 record Alike (G : Grammar) (f : Form) (a b : Run) : Type 0 where

@@ -9,7 +9,7 @@ use native.Mathlib.Omega.{arith}
 use borrow.Author.Tests.{lt-ltb, le-ltb, le-leb, lt-leb, leb-true}
 use lib.Dec.{leb, ltb, leb·zero, leb·suc-suc}
 use lib.ListN.{getD, take, drop, replicate}
-use Rattle.keys.specs.BitsLaws.{clash, le-or-lt}
+use Rattle.keys.proofs.BitsLaws.{clash, le-or-lt}
 use Rattle.keys.specs.Form.{Form, never, one, word, both, child}
 use Rattle.keys.specs.Limits.{countWidth, lengthWidth, widest}
 use Rattle.keys.specs.Table.{when, times, oneOf, type, underRest, namedRow, table, rows, rowsOf}

@@ -13,7 +13,7 @@ use Rattle.keys.specs.Table.{type}
 use Rattle.keys.specs.Placed.{Placed, void, said, pick, join, tree, bare, laid}
 use Rattle.keys.specs.Key.{nodeTable}
 use Rattle.keys.specs.Store.{Run, done, chose, name, kid, plant, under, called, packed, firstKid, recordOf, records, nameOf, namesIn, runOf, nodesOf, namesOf, textOf, pointed, allPointed, filled}
-use Rattle.keys.specs.StoreLaws.{length-records, length-namesIn, under-plant, bare-laid, names-point}
+use Rattle.keys.proofs.StoreLaws.{length-records, length-namesIn, under-plant, bare-laid, names-point}
 use Rattle.keys.specs.Lines.{inLine, lined, Of, of-one, of-word, of-choose, of-child, levels, written}
 use Rattle.keys.specs.Holds.{wordAt, childAt, nextAt, startAt, sizeAt, Spells, cursor, Holds, Stands}
 
