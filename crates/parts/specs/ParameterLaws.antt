@@ -10,7 +10,7 @@ use Rattle.keys.specs.Key.{nodeTable}
 use Rattle.keys.specs.Table.{opt}
 use Rattle.keys.specs.Placed.{Placed, join, Spelling, Opt, absent, present, spell, bit, maybe}
 use Rattle.keys.specs.Store.{Run, done, name, plant, _⊕_}
-use Rattle.keys.specs.StoreLaws.{join-done}
+use Rattle.keys.proofs.StoreLaws.{join-done}
 use Rattle.parts.specs.Laid.{heights, skeleton, runIn, runOpt, namesRun, IsOpt, Shape}
 use Rattle.parts.specs.Nodes.{optBit}
 use Rattle.parts.specs.Functions.{typeBits}

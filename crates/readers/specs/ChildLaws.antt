@@ -6,7 +6,7 @@ use native.Mathlib.Omega.{arith}
 use lib.ListN.{length}
 use Rattle.keys.specs.Placed.{Placed, tree, Spelling, Opt}
 use Rattle.keys.specs.Store.{Run, firstKid, under, _⊕_}
-use Rattle.keys.specs.StoreLaws.{firstKid-join}
+use Rattle.keys.proofs.StoreLaws.{firstKid-join}
 use Rattle.rules.specs.State.{Given, State, Result, make}
 use Rattle.parts.specs.Laid.{heights, runIn, runOpt, namesRun, Was, was, wasAt, Laid, Built, BuiltAt, Stands, Spoken, Shape}
 use Rattle.parts.specs.Says.{GotOpt}

@@ -8,7 +8,7 @@ use lib.ListN.{length, length-append}
 use Rattle.words.specs.Test.{_or_, test}
 use Rattle.keys.specs.Placed.{Placed, tree, listed}
 use Rattle.keys.specs.Store.{Run, done}
-use Rattle.keys.specs.StoreLaws.{join-done}
+use Rattle.keys.proofs.StoreLaws.{join-done}
 use Rattle.rules.specs.State as rule
 use Rattle.rules.specs.State.{State, Result, Reader, read, then, first, end, turns, past, make}
 use Rattle.rules.specs.Union.{partsFrom}

@@ -15,8 +15,8 @@ use Rattle.keys.specs.Form.{height, nodes, names, Bytes, Fits}
 use Rattle.keys.specs.Placed.{Placed, bare}
 use Rattle.keys.specs.Key.{taken, nodeTable, keyOf, IsTree, HasRoom}
 use Rattle.keys.specs.Store.{namesOf, allPointed, lent, takeBack}
-use Rattle.keys.specs.Theorems.{same-key, taken-back}
-use Rattle.keys.specs.BitsLaws.{clash}
+use Rattle.keys.proofs.Theorems.{same-key, taken-back}
+use Rattle.keys.proofs.BitsLaws.{clash}
 use Rattle.rules.specs.State.{Given, State, end, read as got}
 use Rattle.rules.specs.Reading.{reading}
 use Rattle.rules.specs.Read.{granted, denied, Outcome, outcome, refuses, written, read}

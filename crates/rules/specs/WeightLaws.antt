@@ -7,12 +7,12 @@ use native.Mathlib.Omega.{arith}
 use lib.Dec.{leb, ltb}
 use lib.ListN.{length, length-append}
 use Rattle.keys.specs.Bits.{Bits, bitsOf, bitsOfBytes}
-use Rattle.keys.specs.BitsLaws.{length-bits, length-bytes}
+use Rattle.keys.proofs.BitsLaws.{length-bits, length-bytes}
 use Rattle.keys.specs.Form.{Value, choice, Form, never, one, word, choose, both, child, write, Fits, fits-one, fits-word, fits-choose, fits-both, fits-child}
 use Rattle.keys.specs.Limits.{countWidth, lengthWidth, editionWidth, edition}
 use Rattle.keys.specs.Table.{when, oneOf, times, flag, below, spelling, type, namedRow, list, rows, rowsOf, wholeKey}
 use Rattle.keys.specs.Key.{nodeTable, keyOf}
-use Rattle.keys.specs.KeyLaws.{length-packed}
+use Rattle.keys.proofs.KeyLaws.{length-packed}
 use Rattle.rules.specs.Weight.{weight}
 
 -- ---- Narrow fields

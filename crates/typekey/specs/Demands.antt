@@ -15,9 +15,9 @@ use Rattle.keys.specs.Key as table
 use Rattle.keys.specs.Key.{taken, refused, keyOf, HasRoom, IsKey}
 use Rattle.keys.specs.Store.{TakenBack, back, no, lent, takeBack, nodesOf, namesOf, Left}
 use Rattle.keys.specs.Holds.{Stands}
-use Rattle.keys.specs.BitsLaws.{clash}
-use Rattle.keys.specs.Theorems as keys
-use Rattle.keys.specs.Theorems.{one-standing}
+use Rattle.keys.proofs.BitsLaws.{clash}
+use Rattle.keys.proofs.Theorems as keys
+use Rattle.keys.proofs.Theorems.{one-standing}
 use Rattle.rules.specs.State.{State}
 use Rattle.rules.specs.Read.{granted, refuses, Called, written}
 use Rattle.rules.specs.Call.{Call, left, grants, keyLeft, Granted, Kept, AllZero, IsRefusal}

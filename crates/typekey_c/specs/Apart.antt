@@ -9,8 +9,8 @@ use Rattle.keys.specs.Key.{Taken, taken, refused, takeKey}
 use Rattle.keys.specs.Limits.{recordWords}
 use Rattle.keys.specs.Store as store
 use Rattle.keys.specs.Store.{back, no, lent, takeBack}
-use Rattle.keys.specs.BitsLaws.{clash}
-use Rattle.keys.specs.Theorems as keys
+use Rattle.keys.proofs.BitsLaws.{clash}
+use Rattle.keys.proofs.Theorems as keys
 use Rattle.rules.specs.Read as rules
 use Rattle.rules.specs.Read.{reads, refuses}
 use Rattle.rules.specs.Call as call
