@@ -6,7 +6,7 @@ use Prim.Native.Nat.{ℕ, zero, suc, _+_, _-_, _≤_}
 use native.Mathlib.Omega.{arith}
 use lib.Dec.{leb, ltb}
 use Rattle.keys.specs.Form.{Form, never, one, word, choose, both, child, Grammar, isNever}
-use Rattle.keys.specs.Limits.{countWidth, tagWide}
+use Rattle.keys.specs.Limits.{newest, countWidth, tagWide}
 use Rattle.keys.specs.Table.{when, oneOf, times, flag, below, opt, needed, spelling, subject, list, args, rows, rowsOf, table, namedRow, typeParamRow, paramRow, literals, type, underRest}
 use Rattle.keys.specs.Key.{nodeTable}
 use Rattle.keys.specs.Lines.{inLine, lined}
@@ -169,5 +169,5 @@ pub words-slim : Slim (tableWords countWidth)
 words-slim =
     record {
       narrow = words-narrow;
-      rows = λ c t. subst (λ (G : Grammar). Spans (G .row c t) (60 - G .tagWidth c)) (sym (words-are countWidth)) (row-spans c t);
+      rows = λ c t. subst (λ (G : Grammar). Spans (G .row c t) (60 - G .tagWidth c)) (sym (words-are newest)) (row-spans c t);
     }

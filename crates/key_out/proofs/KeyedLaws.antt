@@ -10,7 +10,7 @@ use lib.Seq.{sets, take-suc-set, take-all, length-take-le}
 use Rattle.keys.specs.Bits.{Bits, bitsOf, bitsOfBytes}
 use Rattle.keys.proofs.BitsLaws.{length-bits, bytes-one}
 use Rattle.keys.specs.Form.{choice, one, child, both, Grammar, Bytes, height, nodes, write}
-use Rattle.keys.specs.Limits.{edition, countWidth}
+use Rattle.keys.specs.Limits.{newest, edition, countWidth}
 use Rattle.keys.specs.Table.{type, wholeKey}
 use Rattle.keys.specs.Placed.{Placed, bare}
 use Rattle.keys.specs.Key.{gap, bytesOf, nodeTable}
@@ -85,7 +85,7 @@ module _ (N M X : List ℕ) (root tall n m bit0 bit : ℕ) (k0 k1 k : List ℕ) 
     (d : Noded keyBits (grammarOf (tableWords countWidth)) N (Spells M X) tall 0 (length M) 0 root 0 bit0 k1 m bit k) where
   -- The root is written by the node table.
   rooted : Noded keyBits (lined nodeTable) N (Spells M X) tall 0 (length M) 0 root 0 bit0 k1 m bit k
-  rooted = subst (λ (G : Grammar). Noded keyBits G N (Spells M X) tall 0 (length M) 0 root 0 bit0 k1 m bit k) (words-are countWidth) d
+  rooted = subst (λ (G : Grammar). Noded keyBits G N (Spells M X) tall 0 (length M) 0 root 0 bit0 k1 m bit k) (words-are newest) d
 
   all : (p : Placed) → Stands N M X p → root + 1 ≡ nodes (bare p) → height (bare p) ≤ tall → Put bit0 (write nodeTable type (bare p)) bit k1 k
   all p s e h =

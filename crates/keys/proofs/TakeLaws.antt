@@ -4,16 +4,16 @@ use mathlib.Core.Bool.{Bool, true, false}
 use mathlib.Core.List.{List, []}
 use Prim.Native.Nat.{ℕ, zero, suc, _+_, _-_, _*_, _/_, _^_, _≤_, _<_}
 use native.Mathlib.Omega.{arith}
-use borrow.Author.Tests.{leb-true}
-use lib.Dec.{leb}
+use borrow.Author.Tests.{leb-true, eqb-true, eq-eqb}
+use lib.Dec.{leb, eqb}
 use lib.ListN.{length, take, replicate}
 use lib.Seq.{take-at}
 use Rattle.keys.specs.Bits.{Bits, bitsOfBytes}
-use Rattle.keys.specs.Form.{Value, choice, Bytes, Fits, fits-choose, nodes, names, letters, write, State, state, Result, got, stop}
-use Rattle.keys.specs.Limits.{longestKey, tallest, editionWidth, edition, recordWords}
-use Rattle.keys.specs.Table.{type, wholeKey}
+use Rattle.keys.specs.Form.{Value, choice, Form, Bytes, Fits, fits-choose, nodes, names, letters, write, State, state, Result, got, stop}
+use Rattle.keys.specs.Limits.{longestKey, tallest, editionWidth, Edition, edition1, numbered, newest, edition, recordWords}
+use Rattle.keys.specs.Table.{when, type, table, typeUnder, keyForm, wholeKey}
 use Rattle.keys.specs.Placed.{bare, laid}
-use Rattle.keys.specs.Key.{Taken, taken, refused, treeIn, outcome, takeWhole, nodeTable, keyOf, takeWithin, takeKey, IsTree, HasRoom, IsKey}
+use Rattle.keys.specs.Key.{Taken, taken, refused, treeIn, outcome, takeWhole, nodeTable, takeWithin, takeBy, IsTree, HasRoom, IsKeyBy}
 use Rattle.keys.specs.Store.{Kept, lent, filled, runOf, nodesOf, namesOf, textOf, done}
 use Rattle.keys.proofs.BitsLaws.{clash}
 use Rattle.keys.proofs.FormLaws.{some, letters-written}
@@ -34,48 +34,55 @@ length-namesOf t =
 
 -- ---- The edition
 
-edition-fits : edition < 2 ^ editionWidth
-edition-fits = omega arith
+-- Its number fits its field.
+edition-fits : (e : Edition) → numbered e < 2 ^ editionWidth
+edition-fits edition1 = omega arith
+
+-- It leads to a type.
+its-own : (e : Edition) → typeUnder e (numbered e) ≡ type
+its-own e = ap (λ (b : Bool). when b type) (eq-eqb (numbered e) (numbered e) refl)
 
 -- A tree with its edition has the form of a whole key.
-pub with-edition : {t : Value} → Fits nodeTable type t → Fits nodeTable wholeKey (choice edition t)
-with-edition h = fits-choose edition-fits h
+pub with-edition : (e : Edition) {t : Value} → Fits (table e) type t → Fits (table e) (keyForm e) (choice (numbered e) t)
+with-edition e {t} h = fits-choose (edition-fits e) (subst (λ (f : Form). Fits (table e) f t) (sym (its-own e)) h)
 
 -- A whole key is a tree with its edition.
-pub edition-only : {v : Value} → Fits nodeTable wholeKey v → v ≡ choice edition (treeIn v)
-edition-only (fits-choose {k = zero} a b) = clash (cc (some nodeTable b))
-edition-only (fits-choose {k = suc zero} a b) = refl
-edition-only (fits-choose {k = suc (suc k)} a b) = clash (cc (some nodeTable b))
+pub edition-only : (e : Edition) {v : Value} → Fits (table e) (keyForm e) v → v ≡ choice (numbered e) (treeIn v)
+edition-only e (fits-choose {k = k} {v = v} a b) = by (eqb k (numbered e)) refl b
+  where
+    by : (x : Bool) → eqb k (numbered e) ≡ x → Fits (table e) (when x type) v → choice k v ≡ choice (numbered e) v
+    by true i f = ap (λ (y : ℕ). choice y v) (eqb-true k (numbered e) i)
+    by false i f = clash (cc (some (table e) f))
 
-tree-fits : {t : Value} → Fits nodeTable wholeKey (choice edition t) → Fits nodeTable type t
-tree-fits (fits-choose a b) = b
+tree-fits : (e : Edition) {t : Value} → Fits (table e) (keyForm e) (choice (numbered e) t) → Fits (table e) type t
+tree-fits e {t} (fits-choose a b) = subst (λ (f : Form). Fits (table e) f t) (its-own e) b
 
 -- ---- What is taken is a key
-module _ (n k m : ℕ) (key : List ℕ) (ok : Bytes key) (t : Value) where
-  came-key : length key ≤ longestKey → Came nodeTable wholeKey tallest n k m (choice edition t) key → IsKey n k m t key
+module _ (e : Edition) (n k m : ℕ) (key : List ℕ) (ok : Bytes key) (t : Value) where
+  came-key : length key ≤ longestKey → Came (table e) (keyForm e) tallest n k m (choice (numbered e) t) key → IsKeyBy e n k m t key
   came-key short c =
       record {
-        isTree = record { fits = tree-fits (c .fits); tall = c .tall; short = subst (λ (x : List ℕ). length x ≤ longestKey) (c .is) short };
+        isTree = record { fits = tree-fits e (c .fits); tall = c .tall; short = subst (λ (x : List ℕ). length x ≤ longestKey) (c .is) short };
         hasRoom = record { forNodes = c .forNodes; forNames = c .forNames; forText = c .forText };
         is = c .is;
       }
 
-  got-key : length key ≤ longestKey → (x : Result) → takeWhole nodeTable wholeKey tallest (state n k m (bitsOfBytes key)) ≡ x
-      → outcome (length (bitsOfBytes key)) x ≡ taken t → IsKey n k m t key
-  got-key short (stop a l) i e = clash (cc)
-  got-key short (got v s) i e =
-      let c : Came nodeTable wholeKey tallest n k m v key = whole-back nodeTable wholeKey tallest n k m key ok v s i in
+  got-key : length key ≤ longestKey → (x : Result) → takeWhole (table e) (keyForm e) tallest (state n k m (bitsOfBytes key)) ≡ x
+      → outcome (length (bitsOfBytes key)) x ≡ taken t → IsKeyBy e n k m t key
+  got-key short (stop a l) i j = clash (cc)
+  got-key short (got v s) i j =
+      let c : Came (table e) (keyForm e) tallest n k m v key = whole-back (table e) (keyForm e) tallest n k m key ok v s i in
       let q : treeIn v ≡ t = cc in
-      came-key short (subst (λ (x : Value). Came nodeTable wholeKey tallest n k m x key) (edition-only (c .fits) ∙ ap (choice edition) q) c)
+      came-key short (subst (λ (x : Value). Came (table e) (keyForm e) tallest n k m x key) (edition-only e (c .fits) ∙ ap (choice (numbered e)) q) c)
 
   -- Bytes from which a tree is taken are its key.
-  pub key-back : takeKey n k m key ≡ taken t → IsKey n k m t key
-  key-back e = by (leb (length key) longestKey) refl e
+  pub key-back : takeBy e n k m key ≡ taken t → IsKeyBy e n k m t key
+  key-back h = by (leb (length key) longestKey) refl h
     where
-      by : (b : Bool) → leb (length key) longestKey ≡ b → takeWithin b n k m key ≡ taken t → IsKey n k m t key
+      by : (b : Bool) → leb (length key) longestKey ≡ b → takeWithin e b n k m key ≡ taken t → IsKeyBy e n k m t key
       by false i j = clash (cc)
       by true i j =
-          got-key (leb-true (length key) longestKey i) (takeWhole nodeTable wholeKey tallest (state n k m (bitsOfBytes key))) refl j
+          got-key (leb-true (length key) longestKey i) (takeWhole (table e) (keyForm e) tallest (state n k m (bitsOfBytes key))) refl j
 
 -- ---- What the call leaves keeps its length
 module _ (a b c : ℕ) where
@@ -96,7 +103,7 @@ module _ (a b c : ℕ) where
 -- A tree's spellings are short enough for the words of names.
 pub text-small : {t : Value} → IsTree t → letters t < 2 ^ 32
 text-small {t} h =
-    omega (arith, letters-written nodeTable (with-edition (h .fits)), length-packed (write nodeTable wholeKey (choice edition t)), h .short)
+    omega (arith, letters-written nodeTable (with-edition newest (h .fits)), length-packed (write nodeTable wholeKey (choice edition t)), h .short)
 
 -- Its names are the first words left for them.
 pub names-first : (t : Value) (b : ℕ) → take (length (names t)) (filled b (namesOf (laid t 0))) ≡ namesOf (laid t 0)

@@ -1,11 +1,11 @@
--- The node table as data: a form for each tag of each class, over the width c of a count (01, The key).
+-- The node table as data: a form for each tag of each class, over an edition (01, The key).
 use mathlib.Core.Bool.{Bool, true, false}
 use mathlib.Core.List.{List, [], _∷_}
 use Prim.Native.Nat.{ℕ, zero, suc}
-use lib.Dec.{leb, ltb}
+use lib.Dec.{leb, ltb, eqb}
 use lib.ListN.{getD}
 use Rattle.keys.specs.Form.{Form, never, one, word, choose, both, child, Grammar}
-use Rattle.keys.specs.Limits.{lengthWidth, tagWide, editionWidth}
+use Rattle.keys.specs.Limits.{lengthWidth, tagWide, editionWidth, Edition, numbered, countWide, newest}
 
 infixr 5 _⊗_
 -- One field and then the others.
@@ -92,6 +92,7 @@ typeParamRow = spelling ⊗ opt type ⊗ opt type
 abbrev pub paramRow : Form
 paramRow = flag ⊗ spelling ⊗ flag ⊗ opt type
 
+-- ---- The rows, over the width c of a count
 module _ (c : ℕ) where
   -- A list: its count, at least so many, and its entries (The key).
   abbrev pub list : ℕ → Form → Form
@@ -141,10 +142,24 @@ module _ (c : ℕ) where
   rowsOf (suc (suc (suc (suc (suc zero))))) = paramRow ∷ []
   rowsOf (suc (suc (suc (suc (suc (suc k)))))) = []
 
-  -- The node table: four classes with a tag of 6 bits and two with none.
-  abbrev pub table : Grammar
-  table = record { tagWidth = λ k. getD (tagWide ∷ tagWide ∷ tagWide ∷ tagWide ∷ []) k 0; row = λ k t. oneOf (rowsOf k) t }
+-- The width of a class's tag: four classes have one of 6 bits, two have none.
+abbrev pub tagWidthOf : ℕ → ℕ
+tagWidthOf k = getD (tagWide ∷ tagWide ∷ tagWide ∷ tagWide ∷ []) k 0
 
--- A whole key but for its last bits: the edition, which is 1, then a type.
+-- ---- The table of an edition
+
+-- The node table.
+abbrev pub table : Edition → Grammar
+table e = record { tagWidth = tagWidthOf; row = λ k t. oneOf (rowsOf (countWide e) k) t }
+
+-- What the number that a key begins with leads to: a type, if it is the edition's.
+abbrev pub typeUnder : Edition → ℕ → Form
+typeUnder e k = when (eqb k (numbered e)) type
+
+-- A whole key but for its last bits: the edition's number, then a type.
+abbrev pub keyForm : Edition → Form
+keyForm e = choose editionWidth (typeUnder e)
+
+-- The form of the keys we write.
 abbrev pub wholeKey : Form
-wholeKey = choose editionWidth (oneOf (never ∷ type ∷ []))
+wholeKey = keyForm newest

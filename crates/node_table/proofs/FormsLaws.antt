@@ -11,8 +11,8 @@ use lib.Dec.{leb, ltb, leb·zero, leb·suc-suc}
 use lib.ListN.{getD, take, drop, replicate}
 use Rattle.keys.proofs.BitsLaws.{clash, le-or-lt}
 use Rattle.keys.specs.Form.{Form, never, one, word, both, child}
-use Rattle.keys.specs.Limits.{countWidth, lengthWidth, widest}
-use Rattle.keys.specs.Table.{when, times, oneOf, type, underRest, namedRow, table, rows, rowsOf}
+use Rattle.keys.specs.Limits.{Edition, countWide, countWidth, lengthWidth, widest}
+use Rattle.keys.specs.Table.{when, times, oneOf, type, underRest, namedRow, tagWidthOf, table, rows, rowsOf}
 use Rattle.keys.specs.Lines.{inLine, lined}
 use Rattle.node_table.specs.Forms.{spellingsThen, nodesThen, listed, leads, Entry, entry, entryFrom, entryBy, entryAt, stepsOf, formBy, formOf, classAt, grammarOf, formsOf, classesOf, Narrow, entryOf, IsRow, Lists, Jumps, tableWords}
 use Rattle.node_table.specs.declared.forms.Row.{Row}
@@ -90,7 +90,7 @@ module _ (c : ℕ) where
   rows-are (suc (suc (suc (suc (suc (suc k)))))) =
       ap (λ (e : Entry). listed (tableWords c) (λ f. formOf (tableWords c) (stepsOf (tableWords c)) 1 f) (e .a) (e .b)) (sym (no-class k))
 
-  tags-are : (k : ℕ) → classAt (tableWords c) k .w ≡ table c .tagWidth k
+  tags-are : (k : ℕ) → classAt (tableWords c) k .w ≡ tagWidthOf k
   unfolding tableWords
   tags-are zero = refl
   tags-are (suc zero) = refl
@@ -103,9 +103,9 @@ module _ (c : ℕ) where
   row-is : (k t : ℕ) → oneOf (told k) t ≡ inLine (oneOf (rowsOf c k) t) one
   row-is k t = sym (line-oneOf (rowsOf c k) t one ∙ ap (λ (l : List Form). oneOf l t) (rows-are k))
 
-  -- The words are the node table, in line.
-  pub words-are : grammarOf (tableWords c) ≡ lined (table c)
-  words-are = λ i. record { tagWidth = λ k. tags-are k i; row = λ k t. row-is k t i }
+-- The words are an edition's node table, in line.
+pub words-are : (e : Edition) → grammarOf (tableWords (countWide e)) ≡ lined (table e)
+words-are e = λ i. record { tagWidth = λ k. tags-are (countWide e) k i; row = λ k t. row-is (countWide e) k t i }
 
 -- ---- Widths
 
@@ -138,7 +138,7 @@ all-narrow : narrowTo (tableWords countWidth) (formsOf (tableWords countWidth)) 
 unfolding tableWords
 all-narrow = refl
 
-tag-small : (c : ℕ) → table countWidth .tagWidth c ≤ widest
+tag-small : (c : ℕ) → tagWidthOf c ≤ widest
 tag-small zero = omega arith
 tag-small (suc zero) = omega arith
 tag-small (suc (suc zero)) = omega arith

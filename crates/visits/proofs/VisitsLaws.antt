@@ -7,7 +7,7 @@ use native.Mathlib.Omega.{arith}
 use lib.ListN.{length, set, replicate, length-append, length-set}
 use lib.Seq.{sets, length-sets}
 use Rattle.keys.specs.Form.{Form, one, child, both, Grammar, branch, left, right, class, height, nodes}
-use Rattle.keys.specs.Limits.{countWidth}
+use Rattle.keys.specs.Limits.{newest, countWidth}
 use Rattle.keys.specs.Placed.{Placed, bare}
 use Rattle.keys.specs.Key.{nodeTable}
 use Rattle.keys.specs.Store.{Run, done, chose, name, kid, under, called, firstKid, records, runOf, nodesOf, nodeVisit, choiceVisit, nameVisit, visit, visits, visitsOf}
@@ -109,7 +109,7 @@ module _ (N M : List ℕ) (root tall n m to : ℕ) (k0 k : List ℕ) (z : k0 ≡
     (d : Noded visitWords (grammarOf (tableWords countWidth)) N (Named M) tall 0 (length M) 0 root 0 0 k0 m to k) where
   -- The root is walked by the node table.
   rooted : Noded visitWords (lined nodeTable) N (Named M) tall 0 (length M) 0 root 0 0 k0 m to k
-  rooted = subst (λ (G : Grammar). Noded visitWords G N (Named M) tall 0 (length M) 0 root 0 0 k0 m to k) (words-are countWidth) d
+  rooted = subst (λ (G : Grammar). Noded visitWords G N (Named M) tall 0 (length M) 0 root 0 0 k0 m to k) (words-are newest) d
 
   all : (X : List ℕ) (p : Placed) → Stands N M X p → root + 1 ≡ nodes (bare p) → height (bare p) ≤ tall → Listed 0 (visitsOf p) to k0 k
   all X p s e h =
