@@ -6,7 +6,7 @@ use Prim.Native.Nat.{ℕ, zero, suc, _+_, _-_, _≤_}
 use native.Mathlib.Omega.{arith}
 use lib.Dec.{leb, ltb}
 use Rattle.keys.specs.Form.{Form, never, one, word, choose, both, child, Grammar, isNever}
-use Rattle.keys.specs.Limits.{newest, countWidth, tagWide}
+use Rattle.keys.specs.Limits.{newest, countWidth, tagWide, choicesWide}
 use Rattle.keys.specs.Table.{when, oneOf, times, flag, below, opt, needed, spelling, subject, list, args, rows, rowsOf, table, namedRow, typeParamRow, paramRow, literals, type, underRest}
 use Rattle.keys.specs.Key.{nodeTable}
 use Rattle.keys.specs.Lines.{inLine, lined}
@@ -160,14 +160,14 @@ tag-small (suc (suc zero)) = omega arith
 tag-small (suc (suc (suc zero))) = omega arith
 tag-small (suc (suc (suc (suc c)))) = omega arith
 
-row-spans : (c t : ℕ) → Spans (lined nodeTable .row c t) (60 - lined nodeTable .tagWidth c)
+row-spans : (c t : ℕ) → Spans (lined nodeTable .row c t) (choicesWide - lined nodeTable .tagWidth c)
 row-spans c t =
-    spans-more (inLine (nodeTable .row c t) one) (54 + 0) (60 - nodeTable .tagWidth c) (omega (arith, tag-small c)) (line-spans (table-fine c t) one 0 tt)
+    spans-more (inLine (nodeTable .row c t) one) (54 + 0) (choicesWide - nodeTable .tagWidth c) (omega (arith, tag-small c)) (line-spans (table-fine c t) one 0 tt)
 
 -- The table of words keeps all that the code asks of it.
 pub words-slim : Slim (tableWords countWidth)
 words-slim =
     record {
       narrow = words-narrow;
-      rows = λ c t. subst (λ (G : Grammar). Spans (G .row c t) (60 - G .tagWidth c)) (sym (words-are newest)) (row-spans c t);
+      rows = λ c t. subst (λ (G : Grammar). Spans (G .row c t) (choicesWide - G .tagWidth c)) (sym (words-are newest)) (row-spans c t);
     }

@@ -5,6 +5,7 @@ use Prim.Native.Nat.{ℕ, _+_, _*_, _/_, _^_, _<_}
 use native.Mathlib.Omega.{arith}
 use lib.ListN.{length}
 use lib.Seq.{take-all}
+use Rattle.keys.specs.Limits.{halfWord}
 use Rattle.keys.specs.Bits.{Bits, bitsOf, bitsOfBytes}
 use Rattle.keys.specs.Form.{Form, one, both, child, Grammar, nodes, names, write, Fits}
 use Rattle.keys.specs.Table.{type}
@@ -61,7 +62,7 @@ one-written {N} {M} {X} {p} {q} a b e = sym (stands-written N M X p a) ∙ same 
         (stands-holds N M X p a root (root-is p (a .fits))) (stands-holds N M X q b root (root-is p (a .fits) ∙ e))
 
 -- A tree whose names point at its spellings stands in its own words.
-pub own-words : (X : List ℕ) (p : Placed) → Fits nodeTable type (bare p) → nodes (bare p) < 2 ^ 32 → allPointed X (namesOf p) ≡ names (bare p) → Stands (nodesOf p) (namesOf p) X p
+pub own-words : (X : List ℕ) (p : Placed) → Fits nodeTable type (bare p) → nodes (bare p) < halfWord → allPointed X (namesOf p) ≡ names (bare p) → Stands (nodesOf p) (namesOf p) X p
 own-words X p f h s =
     record {
       fits = f;

@@ -8,6 +8,7 @@ use lib.Arith.{digits-div, digits-mod}
 use lib.Pow.{pow-add}
 use lib.Seq.{take-append-seam, drop-append-seam}
 use lib.ListN.{length, take, drop, replicate, length-append, length-replicate}
+use Rattle.keys.specs.Limits.{halfWord}
 use Rattle.keys.specs.Form.{Value, nothing, spelt, choice, pair, node, Form, Grammar, width, branch, left, right, class, nodes, names, letters}
 use Rattle.keys.specs.Placed.{Placed, void, said, pick, join, tree, bare, laid}
 use Rattle.keys.specs.Store.{Run, done, chose, name, kid, _⊕_, plant, under, called, span, packed, firstKid, recordOf, records, nameOf, namesIn, textOf, pointed, allPointed, filled}
@@ -181,12 +182,12 @@ pointed-append : (text xs ys : List ℕ) → allPointed text (xs ++ ys) ≡ allP
 pointed-append text [] ys = refl
 pointed-append text (x ∷ xs) ys = ap (λ (l : List (List ℕ)). pointed text x ∷ l) (pointed-append text xs ys)
 
-pointed-one : (s pre post : List ℕ) → length s < 2 ^ 32 → pointed (pre ++ (s ++ post)) (nameOf (length pre) s) ≡ s
+pointed-one : (s pre post : List ℕ) → length s < halfWord → pointed (pre ++ (s ++ post)) (nameOf (length pre) s) ≡ s
 pointed-one s pre post h =
     ap₂ (λ (x y : ℕ). take x (drop y (pre ++ (s ++ post)))) (digits-mod (length pre) h) (digits-div (length pre) h)
     ∙ ap (take (length s)) (drop-append-seam pre (s ++ post)) ∙ take-append-seam s post
 
-pointed-all : (v : Value) (pre post : List ℕ) → letters v < 2 ^ 32 → allPointed (pre ++ (textOf v ++ post)) (nameWords v (length pre)) ≡ names v
+pointed-all : (v : Value) (pre post : List ℕ) → letters v < halfWord → allPointed (pre ++ (textOf v ++ post)) (nameWords v (length pre)) ≡ names v
 pointed-all nothing pre post h = refl
 pointed-all (spelt s) pre post h = ap (λ (l : List ℕ). l ∷ []) (pointed-one s pre post h)
 pointed-all (choice k v) pre post h = pointed-all v pre post h
@@ -207,7 +208,7 @@ pointed-all (pair a b) pre post h =
 pointed-all (node t v) pre post h = pointed-all v pre post h
 
 -- The name words that are laid out point, in the text with anything after it, at the spellings in the key's order.
-pub names-point : (G : Grammar) (f : Form) (v : Value) (post : List ℕ) → letters v < 2 ^ 32
+pub names-point : (G : Grammar) (f : Form) (v : Value) (post : List ℕ) → letters v < halfWord
     → allPointed (textOf v ++ post) (namesIn (plant G f (laid v 0) done)) ≡ names v
 names-point G f v post h =
     ap (allPointed (textOf v ++ post)) (names-laid G f v 0 done ∙ append-nil (nameWords v 0)) ∙ pointed-all v [] post h

@@ -10,7 +10,7 @@ use lib.ListN.{length, take, replicate}
 use lib.Seq.{take-at}
 use Rattle.keys.specs.Bits.{Bits, bitsOfBytes}
 use Rattle.keys.specs.Form.{Value, choice, Form, Bytes, Fits, fits-choose, nodes, names, letters, write, State, state, Result, got, stop}
-use Rattle.keys.specs.Limits.{longestKey, tallest, editionWidth, Edition, edition1, numbered, newest, edition, recordWords}
+use Rattle.keys.specs.Limits.{longestKey, tallest, editionWidth, Edition, edition1, numbered, newest, edition, recordWords, halfWord}
 use Rattle.keys.specs.Table.{when, type, table, typeUnder, keyForm, wholeKey}
 use Rattle.keys.specs.Placed.{bare, laid}
 use Rattle.keys.specs.Key.{Taken, taken, refused, treeIn, outcome, takeWhole, nodeTable, takeWithin, takeBy, IsTree, HasRoom, IsKeyBy}
@@ -101,7 +101,7 @@ module _ (a b c : ℕ) where
 -- ---- What it leaves of the names
 
 -- A tree's spellings are short enough for the words of names.
-pub text-small : {t : Value} → IsTree t → letters t < 2 ^ 32
+pub text-small : {t : Value} → IsTree t → letters t < halfWord
 text-small {t} h =
     omega (arith, letters-written nodeTable (with-edition newest (h .fits)), length-packed (write nodeTable wholeKey (choice edition t)), h .short)
 

@@ -10,7 +10,7 @@ use lib.Dec.{leb}
 use lib.ListN.{length, take, replicate}
 use Rattle.keys.specs.Bits.{Bits, bitsOf, bitsOfBytes}
 use Rattle.keys.specs.Form.{Value, choice, nodes, names, Bytes, Fits, state}
-use Rattle.keys.specs.Limits.{longestKey, tallest, editionWidth, Edition, numbered, newest, edition, recordWords}
+use Rattle.keys.specs.Limits.{longestKey, tallest, editionWidth, Edition, numbered, newest, edition, recordWords, halfWord}
 use Rattle.keys.specs.Table.{type, table, keyForm}
 use Rattle.keys.specs.Placed.{Placed, bare}
 use Rattle.keys.specs.Key.{Taken, taken, refused, outcome, bytesOf, nodeTable, keyBy, takeWithin, takeBy, takeKey, IsTreeBy, IsTree, HasRoom, IsKeyBy, IsKey, IsRefusal}
@@ -62,7 +62,7 @@ pub one-standing : {N M X : List ℕ} {p q : Placed} → Stands N M X p → Stan
 one-standing a b e = same-key newest (a .fits) (b .fits) .0 (ap (λ (x : Bits). bytesOf (bitsOf editionWidth edition ++ x)) (one-written a b e))
 
 -- Trees that leave the same node and name words, and point at their spellings in the same text, are the same tree.
-pub one-store : (X : List ℕ) (p q : Placed) → Fits nodeTable type (bare p) → Fits nodeTable type (bare q) → nodes (bare p) < 2 ^ 32 → nodes (bare q) < 2 ^ 32
+pub one-store : (X : List ℕ) (p q : Placed) → Fits nodeTable type (bare p) → Fits nodeTable type (bare q) → nodes (bare p) < halfWord → nodes (bare q) < halfWord
     → allPointed X (namesOf p) ≡ names (bare p) → allPointed X (namesOf q) ≡ names (bare q) → nodesOf p ≡ nodesOf q → namesOf p ≡ namesOf q → bare p ≡ bare q
 one-store X p q a b c d s t e f =
     one-standing (own-words X p a c s) (subst₂ (λ (N M : List ℕ). Stands N M X q) (sym e) (sym f) (own-words X q b d t))

@@ -65,6 +65,18 @@ editionWidth = 4
 abbrev pub recordWords : ℕ
 recordWords = 4
 
+-- The words of a visit.
+abbrev pub visitWide : ℕ
+visitWide = 3
+
+-- A word holds two numbers, each below this.
+abbrev pub halfWord : ℕ
+halfWord = 2 ^ 32
+
+-- A node's own choices have at most so many bits together.
+abbrev pub choicesWide : ℕ
+choicesWide = 60
+
 -- ---- The refusals that taking back meets, by their names (Refusal numbers)
 
 -- 6: a node with 256 above it.

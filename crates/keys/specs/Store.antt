@@ -4,7 +4,7 @@ use mathlib.Core.List.{List, [], _∷_, _++_}
 use Prim.Native.Nat.{ℕ, _+_, _-_, _*_, _/_, _%_, _^_}
 use lib.ListN.{length, take, drop, replicate}
 use Rattle.keys.specs.Form.{Value, nothing, spelt, choice, pair, node, Form, Grammar, width, branch, left, right, class, nodes, names, letters}
-use Rattle.keys.specs.Limits.{recordWords}
+use Rattle.keys.specs.Limits.{recordWords, halfWord}
 use Rattle.keys.specs.Table.{type}
 use Rattle.keys.specs.Placed.{Placed, void, said, pick, join, tree, laid}
 use Rattle.keys.specs.Key.{Taken, taken, refused, takeKey, nodeTable, IsKey}
@@ -74,7 +74,7 @@ firstKid (kid first end a r) b none = b + under a
 
 -- A node's record: its choices; its first and end byte; its first child and its first name m; its next sibling.
 abbrev pub recordOf : (first end : ℕ) → Run → (b m next : ℕ) → List ℕ
-recordOf first end a b m next = packed a ∷ (first + 2 ^ 32 * end) ∷ (firstKid a b 0 + 2 ^ 32 * m) ∷ next ∷ []
+recordOf first end a b m next = packed a ∷ (first + halfWord * end) ∷ (firstKid a b 0 + halfWord * m) ∷ next ∷ []
 
 -- The records under a node in postorder, numbered from b, their names from m; next is the last child's next sibling.
 abbrev pub records : Run → (b m next : ℕ) → List ℕ
@@ -86,7 +86,7 @@ records (kid first end a r) b m next =
 
 -- A name's word: the start and the length of a spelling.
 abbrev pub nameOf : ℕ → List ℕ → ℕ
-nameOf start s = start * 2 ^ 32 + length s
+nameOf start s = start * halfWord + length s
 
 -- The names in a node and under it.
 abbrev pub namesIn : Run → List ℕ
@@ -123,7 +123,7 @@ part text start n = take n (drop start text)
 
 -- The bytes of a text at which a name's word points.
 abbrev pub pointed : List ℕ → ℕ → List ℕ
-pointed text w = take (w % 2 ^ 32) (drop (w / 2 ^ 32) text)
+pointed text w = take (w % halfWord) (drop (w / halfWord) text)
 
 -- The spellings at which name words point.
 abbrev pub allPointed : List ℕ → List ℕ → List (List ℕ)

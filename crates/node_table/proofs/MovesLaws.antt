@@ -4,13 +4,14 @@ use mathlib.Core.List.{List, [], _++_, append-assoc, append-nil}
 use Prim.Native.Nat.{ℕ, zero, suc, _+_, _-_, _*_, _/_, _%_, _^_, _≤_, _<_}
 use native.Mathlib.Omega.{arith}
 use lib.ListN.{length}
+use Rattle.keys.specs.Limits.{halfWord}
 use Rattle.keys.specs.Form.{Form, never, one, word, choose, both, child, Grammar}
 use Rattle.keys.specs.Table.{oneOf}
 use Rattle.keys.specs.Store.{Run, name, called}
 use Rattle.keys.specs.Holds.{wordAt, childAt, nextAt, Cursor, cursor, HoldsBy}
 use Rattle.keys.specs.Lines.{tagged, Of, of-one, of-word, of-choose, of-child, levels}
 use Rattle.fields.specs.Put.{far}
-use Rattle.node_table.specs.Forms.{spellingsThen, spellingIf, nodesThen, Entry, entryAt, classAt, stepsOf, listed, leads, formBy, formOf, grammarOf, entryOf, IsRow, Lists, Jumps}
+use Rattle.node_table.specs.Forms.{spellingsThen, spellingIf, nodesThen, Entry, entryAt, classAt, stepsOf, listed, leads, formBy, formOf, grammarOf, entryOf, IsRow, Lists, Jumps, tableMost}
 use Rattle.node_table.proofs.FormsLaws.{form-at}
 use Rattle.node_table.specs.Moves.{Output, items, Moved, Moves, Noded, Spelled, formAt, placeOf, mark, markOf, movedTo, besideTo, Ready, toDo, Own, After, Begun}
 use Rattle.node_table.specs.declared.forms.Row.{Row}
@@ -208,7 +209,7 @@ module _ (O : Output) (L : Sound O) (T : List ℕ) (P : ℕ → List ℕ → Typ
       five z l = omega arith
 
   -- A spelling is put out, and the walk goes on at a form.
-  spelling-then : (f n steps : ℕ) → f < 2 ^ 32 → n < 2 ^ 32 → steps < 2 ^ 32 → steps * 2 ^ 32 + n < toDo s → formAt T s ≡ both (word (r .w)) (formOf T steps n f)
+  spelling-then : (f n steps : ℕ) → f < tableMost → n < tableMost → steps < tableMost → steps * tableMost + n < toDo s → formAt T s ≡ both (word (r .w)) (formOf T steps n f)
       → (m' to' : ℕ) (k' : List ℕ) → Spelled O P most (r .w) d (s .name) (s .to) k m' to' k'
       → Own O T P most d s k (movedTo s (mark to' m') f n steps) k'
   spelling-then f n steps a b c z e m' to' k' x =
@@ -232,7 +233,7 @@ module _ (O : Output) (L : Sound O) (T : List ℕ) (P : ℕ → List ℕ → Typ
       (at (s .n) 2 o ∙ ap (λ (v : ℕ). spellingsThen v (r .w) (after 1 (r .b))) (one-less (s .n) z) ∙ ap (both (word (r .w))) (sym (at (s .n - 1) 2 o))) m' to' k' x
 
   -- Nothing is put out, and the walk goes on at a form.
-  own-on : (f n steps : ℕ) → f < 2 ^ 32 → n < 2 ^ 32 → steps < 2 ^ 32 → steps * 2 ^ 32 + n < toDo s
+  own-on : (f n steps : ℕ) → f < tableMost → n < tableMost → steps < tableMost → steps * tableMost + n < toDo s
       → ((G : Grammar) (N : List ℕ) (high : ℕ) → Moves O G N P high d (formAt T s) (placeOf s) (s .to) k (formOf T steps n f) (placeOf s) (s .to) k)
       → Own O T P most d s k (movedTo s (mark (s .to) (s .name)) f n steps) k
   own-on f n steps a b c z e =
@@ -285,7 +286,7 @@ no-other (suc (suc (suc (suc (suc op))))) n l a b c d e = absurd (omega arith)
 
 -- ---- What follows a child
 
-module _ (O : Output) (L : Sound O) (N : List ℕ) (P : ℕ → List ℕ → Type 0) (most w d : ℕ) (s : Walk) (o : Mark) (k : List ℕ) (a : s .form < 2 ^ 32) (b : s .n < 2 ^ 32) (z : s .steps < 2 ^ 32) (next : ℕ) (e : next ≡ nextAt N (s .child)) (f : next < 2 ^ 32) where
+module _ (O : Output) (L : Sound O) (N : List ℕ) (P : ℕ → List ℕ → Type 0) (most w d : ℕ) (s : Walk) (o : Mark) (k : List ℕ) (a : s .form < tableMost) (b : s .n < tableMost) (z : s .steps < tableMost) (next : ℕ) (e : next ≡ nextAt N (s .child)) (f : next < tableMost) where
   after-by : (m' to' : ℕ) (k' : List ℕ) → length k * 8 ≤ far → to' ≤ far → m' ≤ most → length k' ≡ length k
       → ((G : Grammar) (high : ℕ) (g : Form) → Moves O G N P high d (spellingIf w g) (cursor (s .word) next (o .name)) (o .to) k g (cursor (s .word) next m') to' k')
       → After O N P most w d s o k (besideTo s (mark to' m') next) k'
@@ -323,8 +324,8 @@ after-as {O} {N} {P} {most} {w} {d} {s} {o} {k} {q} {q'} {k'} e x = subst (λ (z
 -- ---- A node's tag
 
 pub begun : (O : Output) (L : Sound O) (T N : List ℕ) (P : ℕ → List ℕ → Type 0) (d c i : ℕ) (o : Mark) (k : List ℕ) (own kid : ℕ) (r : Row) (t x to₀ : ℕ) (k₀ : List ℕ) (to' : ℕ) (k' : List ℕ) (j : Jump) (steps : ℕ)
-    → own ≡ wordAt N i → kid ≡ childAt N i → kid < 2 ^ 32 → IsRow (classAt T c) r → t ≡ own % 2 ^ r .w → x ≡ own / 2 ^ r .w
-    → O .Puts (o .to) (O .node i d) to₀ k k₀ → O .Puts to₀ (O .choice (r .w) t (O .under d)) to' k₀ k' → Lists T r t j → steps ≡ stepsOf T → steps < 2 ^ 32
+    → own ≡ wordAt N i → kid ≡ childAt N i → kid < halfWord → IsRow (classAt T c) r → t ≡ own % 2 ^ r .w → x ≡ own / 2 ^ r .w
+    → O .Puts (o .to) (O .node i d) to₀ k k₀ → O .Puts to₀ (O .choice (r .w) t (O .under d)) to' k₀ k' → Lists T r t j → steps ≡ stepsOf T → steps < tableMost
     → Begun O T N P d c i o k (record { to = to'; name = o .name; word = x; child = kid; form = j .form; n = 1; steps = steps }) k'
 begun O L T N P d c i o k own kid r t x to₀ k₀ to' k' j steps a b e v q y f p u z l =
     record {

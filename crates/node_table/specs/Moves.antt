@@ -3,12 +3,13 @@ use mathlib.Core.Path.{_≡_}
 use mathlib.Core.List.{List, [], _++_}
 use Prim.Native.Nat.{ℕ, _+_, _-_, _*_, _/_, _^_, _≤_, _<_}
 use lib.ListN.{length}
+use Rattle.keys.specs.Limits.{halfWord}
 use Rattle.keys.specs.Form.{Form, one, word, child, Grammar, width, branch, left, right, class}
 use Rattle.keys.specs.Store.{Run, done, chose, name, kid, called}
 use Rattle.keys.specs.Lines.{tagged, Of, levels}
 use Rattle.keys.specs.Holds.{wordAt, childAt, nextAt, Cursor, cursor, HoldsBy}
 use Rattle.fields.specs.Put.{far}
-use Rattle.node_table.specs.Forms.{spellingIf, formOf, grammarOf}
+use Rattle.node_table.specs.Forms.{spellingIf, formOf, grammarOf, tableMost}
 use Rattle.node_table.specs.declared.moves.Mark.{Mark}
 use Rattle.node_table.specs.declared.moves.Walk.{Walk}
 
@@ -102,14 +103,14 @@ pub record Ready (most : ℕ) (k : List ℕ) (s : Walk) : Type 0 where
   pub short : length k * 8 ≤ far
   pub near : s .to ≤ far
   pub inNames : s .name ≤ most
-  pub inNodes : s .child < 2 ^ 32
-  pub inTable : s .form < 2 ^ 32
-  pub few : s .n < 2 ^ 32
-  pub steps : s .steps < 2 ^ 32
+  pub inNodes : s .child < halfWord
+  pub inTable : s .form < tableMost
+  pub few : s .n < tableMost
+  pub steps : s .steps < tableMost
 
 -- How much of a node is left to do at most.
 abbrev pub toDo : Walk → ℕ
-toDo s = s .steps * 2 ^ 32 + s .n
+toDo s = s .steps * tableMost + s .n
 
 -- A step that goes into no child.
 pub record Own (O : Output) (T : List ℕ) (P : ℕ → List ℕ → Type 0) (most d : ℕ) (s : Walk) (k : List ℕ) (q : Walk) (k' : List ℕ) : Type 0 where

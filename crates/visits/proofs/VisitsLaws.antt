@@ -7,7 +7,7 @@ use native.Mathlib.Omega.{arith}
 use lib.ListN.{length, set, replicate, length-append, length-set}
 use lib.Seq.{sets, length-sets}
 use Rattle.keys.specs.Form.{Form, one, child, both, Grammar, branch, left, right, class, height, nodes}
-use Rattle.keys.specs.Limits.{newest, countWidth}
+use Rattle.keys.specs.Limits.{newest, countWidth, halfWord}
 use Rattle.keys.specs.Placed.{Placed, bare}
 use Rattle.keys.specs.Key.{nodeTable}
 use Rattle.keys.specs.Store.{Run, done, chose, name, kid, under, called, firstKid, records, runOf, nodesOf, nodeVisit, choiceVisit, nameVisit, visit, visits, visitsOf}
@@ -91,7 +91,7 @@ holds-named N f (kid first end a t) s h = (
 )
 
 -- The items of a run that stands there are its visits: the links are the numbers of its nodes.
-items-visits : (G : Grammar) (N : List ℕ) (f : Form) (t : Run) (b m n d : ℕ) → In N (b * 4) (records t b m n) → b + under t < 2 ^ 32 → n < 2 ^ 32
+items-visits : (G : Grammar) (N : List ℕ) (f : Form) (t : Run) (b m n d : ℕ) → In N (b * 4) (records t b m n) → b + under t < halfWord → n < halfWord
     → (choices next : ℕ) → next ≡ firstKid t b n → items visitWords G N f t (cursor choices next m) d ≡ visits t b m d
 items-visits G N f done b m n d p h l choices next e = refl
 items-visits G N f (chose w k t) b m n d p h l choices next e =
