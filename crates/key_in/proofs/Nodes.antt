@@ -18,13 +18,13 @@ use Rattle.node_table.specs.Forms.{Entry, listed, formBy, formOf, stepsOf, entr
 use Rattle.node_table.proofs.FormsLaws.{form-at}
 use Rattle.node_table.specs.declared.forms.Row.{Row}
 use Rattle.key_in.specs.Runs.{Ran, ran, halt, after, thenRun, asChild, roomRun, haltAt, choiceRun, formRun, nodeRun}
-use Rattle.key_in.specs.Back.{stateAt, Inside, Steady, Housed, Spans, Slim, Sized, refusedAt, movedTo, withChild, onward, atBit, Named, NamesIn, Picked, Went, PlainIn, Grown, NodeIn, Asks, Linked, AfterIn, NodesIn}
+use Rattle.key_in.specs.Back.{stateAt, Inside, Steady, Housed, Spans, Slim, Sized, refusedAt, fillAt, withChild, fillOn, atBit, Named, NamesIn, Picked, Went, PlainIn, Grown, NodeIn, Asks, Linked, AfterIn, NodesIn}
 use Rattle.key_in.specs.declared.back.Pos.{Pos}
 use Rattle.key_in.specs.declared.back.Fill.{Fill}
 use Rattle.key_in.specs.declared.back.Pick.{Pick}
 use Rattle.key_in.proofs.Nevers.{some-times}
 use Rattle.key_in.proofs.Steps.{inside-as}
-use Rattle.key_in.proofs.Walk.{went-none, went-then, names-went, went-onward, spans-nodes, nodes-spans}
+use Rattle.key_in.proofs.Walk.{went-none, went-then, names-went, went-fillOn, spans-nodes, nodes-spans}
 
 -- ---- The same over lengths that are equal
 
@@ -96,7 +96,7 @@ module _ (bs : Bits) (lm lx : ℕ) (G : Grammar) (left : ℕ) (r : Row) (s : Fil
       halted z f = ap (λ (x : Ran). thenRun x λ t. formRun lx Y f t) (e .stopped z)
 
       -- A node is refused.
-      pub kids-bad : (p .why ≡ 0 → ⊥) → (s' : Fill) → s' ≡ movedTo q p → NodesIn bs lm lx G left r s N M X s' N2 M2 X2
+      pub kids-bad : (p .why ≡ 0 → ⊥) → (s' : Fill) → s' ≡ fillAt q p → NodesIn bs lm lx G left r s N M X s' N2 M2 X2
       kids-bad z s' j =
           let why : s' .at .why ≡ p .why = ap (λ (x : Fill). x .at .why) j in
           let bit : s' .at .bit ≡ p .bit = ap (λ (x : Fill). x .at .bit) j in
@@ -184,7 +184,7 @@ module _ (bs : Bits) (lm lx : ℕ) (G : Grammar) (left : ℕ) (r : Row) (s : Fil
               }
 
     -- All of them are taken.
-    pub kids-all : s .n ≤ i → r .b < tableMost → NodesIn bs lm lx G left r s N M X (onward q (q .at) (r .b) 1) N1 M1 X1
+    pub kids-all : s .n ≤ i → r .b < tableMost → NodesIn bs lm lx G left r s N M X (fillOn q (q .at) (r .b) 1) N1 M1 X1
     kids-all h b =
         record {
           nodes-same = kids-nodes;
@@ -196,7 +196,7 @@ module _ (bs : Bits) (lm lx : ℕ) (G : Grammar) (left : ℕ) (r : Row) (s : Fil
               λ _ g sp. (
                 refl,
                 refl,
-                went-onward bs lm lx Y
+                went-fillOn bs lm lx Y
                     (let z : s .n - i ≡ 0 = omega arith in subst (λ (k : ℕ). Went bs lm lx Y (F (s .n) g) (F k g) s N M X q N1 M1 X1) z (d .went g sp))
                     (r .b) 1 b (omega arith),
               );

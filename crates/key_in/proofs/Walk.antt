@@ -18,7 +18,7 @@ use Rattle.keys.proofs.StoredLaws.{stored-same, own-same, stored-choice, own-ch
 use Rattle.node_table.specs.Forms.{formBy, formOf, leads, entryOf, spellingsThen, nodesThen, spellingIf, tableMost}
 use Rattle.node_table.specs.declared.forms.Row.{Row}
 use Rattle.key_in.specs.Runs.{Ran, ran, halt, after, thenRun, formRun, nodeRun}
-use Rattle.key_in.specs.Back.{stateAt, Inside, Steady, Housed, Spans, Sized, refusedAt, movedTo, withChild, onward, atBit, chosen, Named, NamesIn, SpellingIn, SpellingsIn, Picked, Went, PlainIn, Grown, NodeIn, Linked, AfterIn, NodesIn}
+use Rattle.key_in.specs.Back.{stateAt, Inside, Steady, Housed, Spans, Sized, refusedAt, fillAt, withChild, fillOn, atBit, chosen, Named, NamesIn, SpellingIn, SpellingsIn, Picked, Went, PlainIn, Grown, NodeIn, Linked, AfterIn, NodesIn}
 use Rattle.key_in.specs.declared.back.Pos.{Pos}
 use Rattle.key_in.specs.declared.back.Fill.{Fill}
 use Rattle.key_in.specs.declared.back.Pick.{Pick}
@@ -39,7 +39,7 @@ pack-fits x a y b p f g h e =
     (omega arith, omega arith)
 
 module _ (s : Fill) (c : Pick) (w : ℕ) where
-  pub refuses : (p : Pos) (r : Fill) → (c .why ≡ 0 → ⊥) → p ≡ refusedAt 10 (s .at .bit) → r ≡ movedTo s p
+  pub refuses : (p : Pos) (r : Fill) → (c .why ≡ 0 → ⊥) → p ≡ refusedAt 10 (s .at .bit) → r ≡ fillAt s p
       → ((c .why ≡ 0 → ⊥) → (r .at .why ≡ 10) × (r .at .bit ≡ s .at .bit)) × (c .why ≡ 0 → r ≡ chosen s c w)
   refuses p r z e i = ((λ _. (ap (λ (x : Fill). x .at .why) i ∙ ap (λ (x : Pos). x .why) e, ap (λ (x : Fill). x .at .bit) i ∙ ap (λ (x : Pos). x .bit) e)), λ o. absurd (z o))
 
@@ -120,7 +120,7 @@ module _ (bs : Bits) (lm lx : ℕ) (Y : ℕ → State → Ran) where
 
   -- Names alone are a step.
   pub names-went : {f g : Form} (s : Fill) {M X : List ℕ} (q : Pos) {M' X' : List ℕ} → NamesIn bs lm lx f g (s .at) M X q M' X' → q .why ≡ 0 → Steady bs lm lx s
-      → Spans g (choicesWide - s .shift) → (form n : ℕ) → form < tableMost → n < tableMost → (N : List ℕ) → Went bs lm lx Y f g s N M X (onward s q form n) N M' X'
+      → Spans g (choicesWide - s .shift) → (form n : ℕ) → form < tableMost → n < tableMost → (N : List ℕ) → Went bs lm lx Y f g s N M X (fillOn s q form n) N M' X'
   names-went s q d z h sp form n a b N =
       let l = d .left z in
       record {
@@ -138,9 +138,9 @@ module _ (bs : Bits) (lm lx : ℕ) (Y : ℕ → State → Ran) where
       }
 
   -- The walk may be told another form to come.
-  pub went-onward : {f g : Form} {s q : Fill} {N M X N' M' X' : List ℕ} → Went bs lm lx Y f g s N M X q N' M' X' → (form n : ℕ) → form < tableMost → n < tableMost
-      → Went bs lm lx Y f g s N M X (onward q (q .at) form n) N' M' X'
-  went-onward d form n a b =
+  pub went-fillOn : {f g : Form} {s q : Fill} {N M X N' M' X' : List ℕ} → Went bs lm lx Y f g s N M X q N' M' X' → (form n : ℕ) → form < tableMost → n < tableMost
+      → Went bs lm lx Y f g s N M X (fillOn q (q .at) form n) N' M' X'
+  went-fillOn d form n a b =
       let h = d .steady in
       record {
         steady = record { ok = h .ok; inside = h .inside; small = h .small; narrow = h .narrow; in-table = a; few = b };
@@ -167,7 +167,7 @@ module _ (bs : Bits) (lm lx : ℕ) (T : List ℕ) (steps : ℕ) (r : Row) (s : F
   at-op o e = ap (formBy T (formOf T steps) (s .n) (entryOf r)) e
 
   names-plain : (f : Form) (n : ℕ) → F ≡ f → n < tableMost → Spans (formOf T steps n (r .b)) (choicesWide - s .shift) → (M X : List ℕ) (q : Pos) (M' X' : List ℕ)
-      → NamesIn bs lm lx f (formOf T steps n (r .b)) (s .at) M X q M' X' → PlainIn bs lm lx T steps r s M X (onward s q (r .b) n) M' X'
+      → NamesIn bs lm lx f (formOf T steps n (r .b)) (s .at) M X q M' X' → PlainIn bs lm lx T steps r s M X (fillOn s q (r .b) n) M' X'
   names-plain f n e l sp M X q M' X' d =
       record {
         names-same = d .names-same;
@@ -175,18 +175,18 @@ module _ (bs : Bits) (lm lx : ℕ) (T : List ℕ) (steps : ℕ) (r : Row) (s : F
         in-key = d .in-key;
         stopped = λ o Y. ap (λ (x : Form). formRun lx Y x (stateAt bs lm lx (s .at))) e ∙ d .stopped o Y;
         went =
-            λ o Y N. subst (λ (x : Form). Went bs lm lx Y x (formOf T steps n (r .b)) s N M X (onward s q (r .b) n) N M' X') (sym e)
+            λ o Y N. subst (λ (x : Form). Went bs lm lx Y x (formOf T steps n (r .b)) s N M X (fillOn s q (r .b) n) N M' X') (sym e)
             (names-went bs lm lx Y s q d o h sp (r .b) n (z .b) l N);
       }
 
   pub plain-words : r .op ≡ 2 → (M X : List ℕ) (q : Pos) (M' X' : List ℕ) → SpellingsIn bs lm lx (r .w) (s .n) (s .at) M X q M' X'
-      → PlainIn bs lm lx T steps r s M X (onward s q (r .b) 1) M' X'
+      → PlainIn bs lm lx T steps r s M X (fillOn s q (r .b) 1) M' X'
   plain-words e M X q M' X' d =
       names-plain (spellingsThen (s .n) (r .w) (formOf T steps 1 (r .b))) 1 (at-op 2 e) (omega arith)
       (spans-words (s .n) (r .w) (formOf T steps 1 (r .b)) (choicesWide - s .shift) (subst (λ (x : Form). Spans x (choicesWide - s .shift)) (at-op 2 e) y)) M X q M' X' (d (formOf T steps 1 (r .b)))
 
   pub plain-word : r .op ≡ 4 → (M X : List ℕ) (q : Pos) (M' X' : List ℕ) → SpellingIn bs lm lx (r .w) (s .at) M X q M' X'
-      → PlainIn bs lm lx T steps r s M X (onward s q (r .b) (s .n)) M' X'
+      → PlainIn bs lm lx T steps r s M X (fillOn s q (r .b) (s .n)) M' X'
   plain-word e M X q M' X' d =
       names-plain (both (word (r .w)) (formOf T steps (s .n) (r .b))) (s .n) (at-op 4 e) (h .few)
       (subst (λ (x : Form). Spans x (choicesWide - s .shift)) (at-op 4 e) y) M X q M' X' (d (formOf T steps (s .n) (r .b)))
@@ -196,18 +196,18 @@ module _ (bs : Bits) (lm lx : ℕ) (T : List ℕ) (steps : ℕ) (r : Row) (s : F
     abbrev fs : ℕ → Form
     fs = leads T (formOf T steps) (entryOf r) (r .op - 5)
 
-    by-op : (o : ℕ) → 5 ≤ o → formBy T (formOf T steps) (s .n) (entryOf r) o ≡ choose (r .w) (leads T (formOf T steps) (entryOf r) (o - 5))
+    by-op : (o : ℕ) → 5 ≤ o → formBy T (formOf T steps) (s .n) (entryOf r) o ≡ choose (r .w) 0 (leads T (formOf T steps) (entryOf r) (o - 5))
     by-op zero l = absurd (omega arith)
     by-op (suc zero) l = absurd (omega arith)
     by-op (suc (suc zero)) l = absurd (omega arith)
     by-op (suc (suc (suc zero))) l = absurd (omega arith)
     by-op (suc (suc (suc (suc zero)))) l = absurd (omega arith)
-    by-op (suc (suc (suc (suc (suc o))))) l = let e : o ≡ suc (suc (suc (suc (suc o)))) - 5 = omega arith in ap (λ (x : ℕ). choose (r .w) (leads T (formOf T steps) (entryOf r) x)) e
+    by-op (suc (suc (suc (suc (suc o))))) l = let e : o ≡ suc (suc (suc (suc (suc o)))) - 5 = omega arith in ap (λ (x : ℕ). choose (r .w) 0 (leads T (formOf T steps) (entryOf r) x)) e
 
-    is-choice : F ≡ choose (r .w) fs
+    is-choice : F ≡ choose (r .w) 0 fs
     is-choice = by-op (r .op) k
 
-    spanned : Spans (choose (r .w) fs) (choicesWide - s .shift)
+    spanned : Spans (choose (r .w) 0 fs) (choicesWide - s .shift)
     spanned = subst (λ (x : Form). Spans x (choicesWide - s .shift)) is-choice y
 
     pub choice-fits : s .shift + r .w ≤ choicesWide
@@ -283,7 +283,7 @@ module _ (bs : Bits) (lm lx : ℕ) (T : List ℕ) (steps : ℕ) (r : Row) (s : F
           by (inl o) = subst (λ (x : Fill). PlainIn bs lm lx T steps r s M X x M X) (sym (b o)) (choice-good o)
           by (inr o) = choice-bad s' o (a o .0) (a o .1)
 
-  pub plain-never : r .op ≡ 0 → (p : Pos) (s' : Fill) → p ≡ refusedAt 10 (s .at .bit) → s' ≡ movedTo s p → (M X : List ℕ) → PlainIn bs lm lx T steps r s M X s' M X
+  pub plain-never : r .op ≡ 0 → (p : Pos) (s' : Fill) → p ≡ refusedAt 10 (s .at .bit) → s' ≡ fillAt s p → (M X : List ℕ) → PlainIn bs lm lx T steps r s M X s' M X
   plain-never e p s' a b M X =
       let why : s' .at .why ≡ 10 = ap (λ (x : Fill). x .at .why) b ∙ ap (λ (x : Pos). x .why) a in
       let bit : s' .at .bit ≡ s .at .bit = ap (λ (x : Fill). x .at .bit) b ∙ ap (λ (x : Pos). x .bit) a in
@@ -330,7 +330,7 @@ module _ (bs : Bits) (lm lx w : ℕ) (s : Fill) (M X : List ℕ) where
         names = λ g. subst (λ (x : ℕ). NamesIn bs lm lx (spellingIf x g) g (s .at) M X (s .at) M X) (sym e) (names-none bs lm lx g (s .at) M X z h);
       }
 
-  pub after-some : (w ≡ 0 → ⊥) → (p : Pos) (M' X' : List ℕ) → SpellingIn bs lm lx w (s .at) M X p M' X' → (q : Fill) → q ≡ movedTo s p → AfterIn bs lm lx w s M X q M' X'
+  pub after-some : (w ≡ 0 → ⊥) → (p : Pos) (M' X' : List ℕ) → SpellingIn bs lm lx w (s .at) M X p M' X' → (q : Fill) → q ≡ fillAt s p → AfterIn bs lm lx w s M X q M' X'
   after-some z p M' X' d q e =
       record { at = p; is = e; names = λ g. subst (λ (x : Form). NamesIn bs lm lx x g (s .at) M X p M' X') (if-spelled w g z) (d g) }
 

@@ -12,7 +12,7 @@ use Rattle.keys.specs.Form.{Value, nothing, spelt, choice, pair, node, Form, ne
 use Rattle.keys.specs.Limits.{longestKey, tallest, newest, countWidth, recordWords, badKey, noSpace}
 use Rattle.keys.specs.Table.{when, type, typeUnder, wholeKey}
 use Rattle.keys.specs.Placed.{bare, laid}
-use Rattle.keys.specs.Key.{padding, closed, taken, refused, placeOf, outcome, takeWhole, nodeTable, takeWithin, takeKey}
+use Rattle.keys.specs.Key.{padding, closed, taken, refused, refusalPlace, outcome, takeWhole, nodeTable, takeWithin, takeKey}
 use Rattle.keys.specs.Store.{Run, done, chose, name, kid, plant, under, called, records, namesIn, nodesOf, namesOf, textOf, filled, lent, takeBack}
 use Rattle.keys.specs.Store as store
 use Rattle.keys.proofs.BitsLaws.{clash, length-bytes}
@@ -79,7 +79,7 @@ node-is lm lx T e bs p z y h c =
 
 -- ---- The key
 
-place-zero : (b : Bool) → placeOf b 0 ≡ 0
+place-zero : (b : Bool) → refusalPlace b 0 ≡ 0
 place-zero true = refl
 place-zero false = refl
 
@@ -112,7 +112,7 @@ module _ (key : List ℕ) (n k m : ℕ) where
     early : takeForm (takeNode nodeTable tallest) wholeKey (state n k m (bitsOfBytes key)) ≡ stop badKey (length (bitsOfBytes key)) → takeKey n k m key ≡ refused badKey 0
     early e =
         within ∙ ap (λ (y : Result). outcome (length (bitsOfBytes key)) (closed y)) e
-        ∙ ap (λ (x : ℕ). refused badKey (placeOf (eqb badKey noSpace) x)) (let z : length (bitsOfBytes key) - length (bitsOfBytes key) ≡ 0 = omega arith in z)
+        ∙ ap (λ (x : ℕ). refused badKey (refusalPlace (eqb badKey noSpace) x)) (let z : length (bitsOfBytes key) - length (bitsOfBytes key) ≡ 0 = omega arith in z)
         ∙ ap (refused badKey) (place-zero (eqb badKey noSpace))
 
     abbrev K : ℕ → Bits → Result
@@ -168,7 +168,7 @@ module _ (key : List ℕ) (n k m : ℕ) where
                     λ _. within
                     ∙ ap (λ (y : Result). outcome (length bs) (closed y))
                     (in-tree ∙ ap (into (choice 1)) (was-stop nodeTable (child 0) (takeNode nodeTable tallest 0 (state n k m (drop 4 bs))) (q .why) (length bs - q .bit) (node-eq ∙ d .stopped o)))
-                    ∙ ap (λ (x : ℕ). refused (q .why) (placeOf (eqb (q .why) noSpace) x)) (back-to (q .bit) (d .in-key));
+                    ∙ ap (λ (x : ℕ). refused (q .why) (refusalPlace (eqb (q .why) noSpace) x)) (back-to (q .bit) (d .in-key));
                 held = λ j. absurd (o j);
               }
 
@@ -191,7 +191,7 @@ module _ (key : List ℕ) (n k m : ℕ) where
                 (record {
                   stopped =
                       λ _. in-padding ∙ ap (outcome (length bs)) (f .stopped (omega (arith, length-bytes key)) (choice 1 tree))
-                      ∙ ap (λ (x : ℕ). refused badKey (placeOf (eqb badKey noSpace) x)) (back-to r (f .inside));
+                      ∙ ap (λ (x : ℕ). refused badKey (refusalPlace (eqb badKey noSpace) x)) (back-to r (f .inside));
                   held = λ y. absurd (omega arith);
                 })
 
@@ -239,7 +239,7 @@ module _ (key : List ℕ) (n k m : ℕ) where
 
 module _ (key : List ℕ) (a b c : ℕ) (q : Pos) (N M X : List ℕ) (w : WholeIn key (a / recordWords) b c q N M X)
     (la : length N ≡ a) (lb : length M ≡ b) (lc : length X ≡ c) where
-  pub call-refused : (q .why ≡ 0 → ⊥) → (place : ℕ) → place ≡ placeOf (eqb (q .why) noSpace) (q .bit) → (N' M' X' : List ℕ)
+  pub call-refused : (q .why ≡ 0 → ⊥) → (place : ℕ) → place ≡ refusalPlace (eqb (q .why) noSpace) (q .bit) → (N' M' X' : List ℕ)
       → N' ≡ filled (length N) (take 0 N) → M' ≡ filled (length M) (take 0 M) → X' ≡ filled (length X) (take 0 X) → Answers (takeBack key a b c) (Refused (q .why) place) N' M' X'
   call-refused o place e N' M' X' i j k =
       let z = ap (lent a b c) (w .stopped o) in

@@ -6,10 +6,10 @@ use Prim.Native.Nat.{ℕ, _+_, _-_, _*_, _%_, _^_, _≤_, _<_}
 use lib.Dec.{eqb}
 use lib.ListN.{length, take, drop}
 use Rattle.keys.specs.Bits.{Bits}
-use Rattle.keys.specs.Form.{Value, spelt, nodes, names, letters, Form, never, one, word, choose, both, child, Grammar, State, state, Result, got, stop, takeSpelling}
+use Rattle.keys.specs.Form.{Value, spelt, nodes, names, letters, Form, never, one, word, choose, both, child, Grammar, State, state, Result, got, stop, takeSpelling, wider}
 use Rattle.keys.specs.Limits.{recordWords, badKey, noSpace, widest, choicesWide}
 use Rattle.keys.specs.Placed.{laid}
-use Rattle.keys.specs.Key.{padding, taken, refused, placeOf, takeKey}
+use Rattle.keys.specs.Key.{padding, taken, refused, refusalPlace, takeKey}
 use Rattle.keys.specs.Store.{Run, done, chose, name, kid, under, called, packed, firstKid, records, nameOf, namesIn, nodesOf, namesOf, textOf, TakenBack, _⊕_, span}
 use Rattle.keys.specs.Store as store
 use Rattle.keys.specs.Words.{firstNodes, firstNames}
@@ -57,7 +57,7 @@ abbrev pub Spans : Form → ℕ → Type 0
 Spans never n = Unit {0}
 Spans one n = Unit {0}
 Spans (word w) n = Unit {0}
-Spans (choose w fs) n = (w ≤ n) × ((k : ℕ) → Spans (fs k) (n - w))
+Spans (choose w x fs) n = (wider w x ≤ n) × ((k : ℕ) → Spans (fs k) (n - wider w x))
 Spans (both f g) n = Spans g n
 Spans (child c) n = Unit {0}
 
@@ -77,16 +77,16 @@ abbrev pub refusedAt : (why bit : ℕ) → Pos
 refusedAt why bit = record { why = why; bit = bit; nodes = 0; used = 0; names = 0; chars = 0 }
 
 -- The walk of a node at another place.
-abbrev pub movedTo : Fill → Pos → Fill
-movedTo s p = record { at = p; base = s .base; word = s .word; shift = s .shift; child = s .child; form = s .form; n = s .n }
+abbrev pub fillAt : Fill → Pos → Fill
+fillAt s p = record { at = p; base = s .base; word = s .word; shift = s .shift; child = s .child; form = s .form; n = s .n }
 
 -- The walk at another place, with another first child.
 abbrev pub withChild : Fill → Pos → ℕ → Fill
 withChild s p x = record { at = p; base = s .base; word = s .word; shift = s .shift; child = x; form = s .form; n = s .n }
 
 -- The walk at another place, with another form to come.
-abbrev pub onward : Fill → Pos → (form n : ℕ) → Fill
-onward s p f n = record { at = p; base = s .base; word = s .word; shift = s .shift; child = s .child; form = f; n = n }
+abbrev pub fillOn : Fill → Pos → (form n : ℕ) → Fill
+fillOn s p f n = record { at = p; base = s .base; word = s .word; shift = s .shift; child = s .child; form = f; n = n }
 
 -- A place further on in the key.
 abbrev pub atBit : Pos → ℕ → Pos
@@ -218,7 +218,7 @@ pub record Linked (N : List ℕ) (s : Fill) (p : Pos) (q : Fill) (N' : List ℕ)
 -- The walk after the spelling that may follow a child.
 pub record AfterIn (bs : Bits) (lm lx w : ℕ) (s : Fill) (M X : List ℕ) (q : Fill) (M' X' : List ℕ) : Type 0 where
   pub at : Pos
-  pub is : q ≡ movedTo s at
+  pub is : q ≡ fillAt s at
   pub names : (g : Form) → NamesIn bs lm lx (spellingIf w g) g (s .at) M X at M' X'
 
 -- n nodes, a spelling after each if w > 0: refused as s' says, or gone on to the next form.
@@ -253,7 +253,7 @@ pub record Held (key : List ℕ) (n k m : ℕ) (q : Pos) (N M X : List ℕ) : Ty
 
 -- A whole key: refused as q says, or taken.
 pub record WholeIn (key : List ℕ) (n k m : ℕ) (q : Pos) (N M X : List ℕ) : Type 0 where
-  pub stopped : (q .why ≡ 0 → ⊥) → takeKey n k m key ≡ refused (q .why) (placeOf (eqb (q .why) noSpace) (q .bit))
+  pub stopped : (q .why ≡ 0 → ⊥) → takeKey n k m key ≡ refused (q .why) (refusalPlace (eqb (q .why) noSpace) (q .bit))
   pub held : q .why ≡ 0 → Held key n k m q N M X
 
 -- ---- The call

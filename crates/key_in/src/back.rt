@@ -7,7 +7,7 @@ ghost use lib.ListN.{length};
 ghost use Rattle.keys.specs.Limits.{longestKey, recordWords, noSpace, widest, choicesWide};
 ghost use Rattle.keys.specs.Bits.{bitsOfBytes};
 ghost use Rattle.keys.specs.Form.{isNever};
-ghost use Rattle.keys.specs.Key.{placeOf};
+ghost use Rattle.keys.specs.Key.{refusalPlace};
 ghost use Rattle.keys.specs.Store.{takeBack};
 ghost use Rattle.node_table.specs.Forms.{formBy, formOf, leads, grammarOf, entryOf, tableMost};
 ghost use Rattle.key_in.specs.Back as back;
@@ -236,7 +236,7 @@ fn power(k: usize) -> u64
 
 // The walk at another place.
 fn moved(s: Fill, at: Pos) -> Fill
-    ensures { λ r. ⌜ r ≡ back.movedTo s at ⌝ }
+    ensures { λ r. ⌜ r ≡ back.fillAt s at ⌝ }
 {
     Fill {
         at,
@@ -557,7 +557,7 @@ pub enum Answer {
 
 // A refusal's place is its bit; that of 11 is 0.
 fn place_of(why: u32, bit: usize) -> usize
-    ensures { λ r. ⌜ r ≡ placeOf (eqb why noSpace) bit ⌝ }
+    ensures { λ r. ⌜ r ≡ refusalPlace (eqb why noSpace) bit ⌝ }
 {
     if why == Refusal::NO_SPACE {
         return 0;

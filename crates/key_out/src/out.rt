@@ -7,7 +7,7 @@ ghost use Rattle.keys.specs.Limits.{widest, halfWord};
 ghost use Rattle.keys.specs.Holds.{Spells};
 ghost use Rattle.fields.specs.Put.{far};
 ghost use Rattle.node_table.specs.Forms.{entryAt, grammarOf, IsRow, Narrow, tableMost};
-ghost use Rattle.node_table.specs.Moves.{Spelled, Ready, Own, After, Begun, Noded};
+ghost use Rattle.node_table.specs.Moves.{Spelled, Ready, OwnStep, After, Begun, Noded};
 ghost use Rattle.key_out.specs.Out.{keyBits, Keyed};
 use fields::put;
 use keys::store;
@@ -42,7 +42,7 @@ fn put_spelling(names: &[u64], text: &[u8], key: &mut [u8], w: usize, o: Mark) -
 // A step that is a choice.
 fn put_chosen(forms: &[u16], names: &[u64], text: &[u8], key: &mut [u8], r: Row, s: Walk) -> Walk
     requires { ⌜ Ready (length (now names)) (now key) s × IsRow (entryAt (now forms) (s .form)) r × (r .w ≤ widest) × (0 < s .steps) × (5 ≤ r .op) ⌝ }
-    ensures { λ q. ⌜ Own keyBits (now (forms .entry)) (Spells (now (names .entry)) (now (text .entry))) (length (now (names .entry))) 0 s (now (key .entry)) q (now (key .exit)) ⌝ }
+    ensures { λ q. ⌜ OwnStep keyBits (now (forms .entry)) (Spells (now (names .entry)) (now (text .entry))) (length (now (names .entry))) 0 s (now (key .entry)) q (now (key .exit)) ⌝ }
 {
     let c = moves::choice_of(s.word, r.w);
     let to = put::put_number(key, s.to, r.w, c.number as u32);
@@ -61,7 +61,7 @@ fn put_chosen(forms: &[u16], names: &[u64], text: &[u8], key: &mut [u8], r: Row,
 // A step that is no choice and goes into no child: a spelling, or on to the next form.
 fn put_said(forms: &[u16], names: &[u64], text: &[u8], key: &mut [u8], r: Row, s: Walk) -> Walk
     requires { ⌜ Ready (length (now names)) (now key) s × IsRow (entryAt (now forms) (s .form)) r × (r .w ≤ widest) × (0 < s .steps) × (r .op < 5) × (r .op ≡ 1 → ⊥) × (r .op ≡ 3 → s .n ≡ 0) ⌝ }
-    ensures { λ q. ⌜ Own keyBits (now (forms .entry)) (Spells (now (names .entry)) (now (text .entry))) (length (now (names .entry))) 0 s (now (key .entry)) q (now (key .exit)) ⌝ }
+    ensures { λ q. ⌜ OwnStep keyBits (now (forms .entry)) (Spells (now (names .entry)) (now (text .entry))) (length (now (names .entry))) 0 s (now (key .entry)) q (now (key .exit)) ⌝ }
 {
     let op = r.op;
     let n = s.n;
@@ -86,7 +86,7 @@ fn put_said(forms: &[u16], names: &[u64], text: &[u8], key: &mut [u8], r: Row, s
 // A step of a node that goes into no child.
 fn put_own(forms: &[u16], names: &[u64], text: &[u8], key: &mut [u8], r: Row, s: Walk) -> Walk
     requires { ⌜ Ready (length (now names)) (now key) s × IsRow (entryAt (now forms) (s .form)) r × (r .w ≤ widest) × (0 < s .steps) × (r .op ≡ 1 → ⊥) × (r .op ≡ 3 → s .n ≡ 0) ⌝ }
-    ensures { λ q. ⌜ Own keyBits (now (forms .entry)) (Spells (now (names .entry)) (now (text .entry))) (length (now (names .entry))) 0 s (now (key .entry)) q (now (key .exit)) ⌝ }
+    ensures { λ q. ⌜ OwnStep keyBits (now (forms .entry)) (Spells (now (names .entry)) (now (text .entry))) (length (now (names .entry))) 0 s (now (key .entry)) q (now (key .exit)) ⌝ }
 {
     if forms::CHOICE <= r.op {
         return put_chosen(forms, names, text, key, r, s);

@@ -1,15 +1,16 @@
 -- A store in which a tree stands holds the tree's run, and the run is of the tree's form in line and written as the tree is.
 use mathlib.Core.Path.{_≡_, refl, sym, ap, ap₂, _∙_, subst}
 use mathlib.Core.List.{List, [], _∷_, _++_, append-assoc, append-nil}
-use Prim.Native.Nat.{ℕ, suc, _+_, _-_, _*_, _/_, _%_, _^_, _≤_, _<_, max, min}
+use Prim.Native.Nat.{ℕ, zero, suc, _+_, _-_, _*_, _/_, _%_, _^_, _≤_, _<_, max, min}
 use native.Mathlib.Nat.{add-comm, add-zero, mul-comm, mod-eq-of-lt}
 use native.Mathlib.Omega.{arith}
 use lib.Arith.{digits-div, digits-mod}
+use lib.Pow.{pow-mono}
 use lib.ListN.{length, getD, take, drop, replicate, length-append, take-append-drop, length-take, length-drop, List·getD-append}
 use lib.Seq.{getD-append-add, take-append-seam}
 use Rattle.keys.specs.Limits.{halfWord}
 use Rattle.keys.specs.Bits.{Bits, bitsOf}
-use Rattle.keys.specs.Form.{Value, Form, one, both, child, Grammar, branch, left, right, class, height, nodes, names, letters, write, Fits, fits-one, fits-word, fits-choose, fits-both, fits-child}
+use Rattle.keys.specs.Form.{Value, Form, one, both, child, Grammar, wider, branch, left, right, class, height, nodes, names, letters, write, Fits, fits-one, fits-word, fits-choose, fits-both, fits-child}
 use Rattle.keys.specs.Table.{type}
 use Rattle.keys.specs.Placed.{Placed, void, said, pick, join, tree, bare, laid}
 use Rattle.keys.specs.Key.{nodeTable}
@@ -34,11 +35,19 @@ spellings (chose w k r) = spellings r
 spellings (name x s r) = s ∷ spellings r
 spellings (kid first end a r) = spellings a ++ spellings r
 
+-- What fits a width fits a wider one.
+wider-most : (w x : ℕ) → w ≤ wider w x
+wider-most w zero = omega arith
+wider-most w (suc x) = omega (arith, wider-most w x)
+
+wider-fits : (w x k : ℕ) → k < 2 ^ w → k < 2 ^ wider w x
+wider-fits w x k h = omega (arith, h, pow-mono {i = w} {j = wider w x} (wider-most w x))
+
 module _ (G : Grammar) where
   neat-plant : {f : Form} (p : Placed) → Fits G f (bare p) → (r : Run) → Neat r → Neat (plant G f p r)
   neat-plant void fits-one r h = h
   neat-plant (said x s) (fits-word a b c) r h = (a, h)
-  neat-plant (pick k p) (fits-choose a b) r h = (a, neat-plant p b r h)
+  neat-plant (pick k p) (fits-choose {w = w} {x = x} a b) r h = (wider-fits w x k a, neat-plant p b r h)
   neat-plant (join p q) (fits-both {g = g} a b) r h = neat-plant p a (plant G g q r) (neat-plant q b r h)
   neat-plant (tree t first end p) (fits-child a b) r h = ((a, neat-plant p b done tt), h)
 

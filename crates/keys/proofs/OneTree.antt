@@ -7,7 +7,7 @@ use lib.ListN.{length}
 use lib.Seq.{take-all}
 use Rattle.keys.specs.Limits.{halfWord}
 use Rattle.keys.specs.Bits.{Bits, bitsOf, bitsOfBytes}
-use Rattle.keys.specs.Form.{Form, one, both, child, Grammar, nodes, names, write, Fits}
+use Rattle.keys.specs.Form.{Form, one, both, child, Grammar, wider, nodes, names, write, Fits}
 use Rattle.keys.specs.Table.{type}
 use Rattle.keys.specs.Placed.{Placed, bare}
 use Rattle.keys.specs.Key.{nodeTable}
@@ -32,9 +32,9 @@ one-run N k (of-word {w = w} {s = u} o) (of-word {s = v} q) s h j =
       count = ap (λ (n : ℕ). 1 + n) (d .count);
       bits = ap₂ (λ (x : List ℕ) (y : Bits). (bitsOf w (length x) ++ bitsOfBytes x) ++ y) (k (s .name) u v (h .0) (j .0)) (d .bits);
     }
-one-run {G} N k (of-choose {w = w} {k = m} {fs = fs} o) (of-choose {k = n} {r = b} q) s h j =
+one-run {G} N k (of-choose {w = w} {x = x} {k = m} {fs = fs} o) (of-choose {k = n} {r = b} q) s h j =
     let e : n ≡ m = sym (j .0) ∙ h .0 in
-    let d = one-run N k o (subst (λ (x : ℕ). Of G (fs x) b) e q) (cursor (s .word / 2 ^ w) (s .child) (s .name)) (h .1) (j .1) in
+    let d = one-run N k o (subst (λ (y : ℕ). Of G (fs y) b) e q) (cursor (s .word / 2 ^ wider w x) (s .child) (s .name)) (h .1) (j .1) in
     record {
       count = d .count;
       bits = ap (λ (x : Bits). bitsOf w m ++ x) (d .bits) ∙ ap (λ (x : ℕ). bitsOf w x ++ written G (fs x) b) (sym e);

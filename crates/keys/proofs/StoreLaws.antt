@@ -9,7 +9,7 @@ use lib.Pow.{pow-add}
 use lib.Seq.{take-append-seam, drop-append-seam}
 use lib.ListN.{length, take, drop, replicate, length-append, length-replicate}
 use Rattle.keys.specs.Limits.{halfWord}
-use Rattle.keys.specs.Form.{Value, nothing, spelt, choice, pair, node, Form, Grammar, width, branch, left, right, class, nodes, names, letters}
+use Rattle.keys.specs.Form.{Value, nothing, spelt, choice, pair, node, Form, Grammar, storeWidth, branch, left, right, class, nodes, names, letters}
 use Rattle.keys.specs.Placed.{Placed, void, said, pick, join, tree, bare, laid}
 use Rattle.keys.specs.Store.{Run, done, chose, name, kid, _⊕_, plant, under, called, span, packed, firstKid, recordOf, records, nameOf, namesIn, textOf, pointed, allPointed, filled}
 
@@ -29,7 +29,7 @@ join-join (kid first end c a) b r = ap (kid first end c) (join-join a b r)
 pub plant-join : (G : Grammar) (f : Form) (p : Placed) (r : Run) → plant G f p r ≡ plant G f p done ⊕ r
 plant-join G f void r = refl
 plant-join G f (said x s) r = refl
-plant-join G f (pick k p) r = ap (chose (width f) k) (plant-join G (branch f k) p r)
+plant-join G f (pick k p) r = ap (chose (storeWidth f) k) (plant-join G (branch f k) p r)
 plant-join G f (join a b) r =
     plant-join G (left f) a (plant G (right f) b r) ∙ ap (λ (x : Run). plant G (left f) a done ⊕ x) (plant-join G (right f) b r)
     ∙ sym (join-join (plant G (left f) a done) (plant G (right f) b done) r)

@@ -13,7 +13,7 @@ use Rattle.keys.specs.Form.{Value, choice, Form, Bytes, Fits, fits-choos
 use Rattle.keys.specs.Limits.{longestKey, tallest, editionWidth, Edition, edition1, numbered, newest, edition, recordWords, halfWord}
 use Rattle.keys.specs.Table.{when, type, table, typeUnder, keyForm, wholeKey}
 use Rattle.keys.specs.Placed.{bare, laid}
-use Rattle.keys.specs.Key.{Taken, taken, refused, treeIn, outcome, takeWhole, nodeTable, takeWithin, takeBy, IsTree, HasRoom, IsKeyBy}
+use Rattle.keys.specs.Key.{Taken, taken, refused, treeIn, outcome, takeWhole, nodeTable, takeWithin, takeUnder, IsTree, HasRoom, IsKeyUnder}
 use Rattle.keys.specs.Store.{Kept, lent, filled, runOf, nodesOf, namesOf, textOf, done}
 use Rattle.keys.proofs.BitsLaws.{clash}
 use Rattle.keys.proofs.FormLaws.{some, letters-written}
@@ -59,7 +59,7 @@ tree-fits e {t} (fits-choose a b) = subst (λ (f : Form). Fits (table e) f t) (i
 
 -- ---- What is taken is a key
 module _ (e : Edition) (n k m : ℕ) (key : List ℕ) (ok : Bytes key) (t : Value) where
-  came-key : length key ≤ longestKey → Came (table e) (keyForm e) tallest n k m (choice (numbered e) t) key → IsKeyBy e n k m t key
+  came-key : length key ≤ longestKey → Came (table e) (keyForm e) tallest n k m (choice (numbered e) t) key → IsKeyUnder e n k m t key
   came-key short c =
       record {
         isTree = record { fits = tree-fits e (c .fits); tall = c .tall; short = subst (λ (x : List ℕ). length x ≤ longestKey) (c .is) short };
@@ -68,7 +68,7 @@ module _ (e : Edition) (n k m : ℕ) (key : List ℕ) (ok : Bytes key) (t : Valu
       }
 
   got-key : length key ≤ longestKey → (x : Result) → takeWhole (table e) (keyForm e) tallest (state n k m (bitsOfBytes key)) ≡ x
-      → outcome (length (bitsOfBytes key)) x ≡ taken t → IsKeyBy e n k m t key
+      → outcome (length (bitsOfBytes key)) x ≡ taken t → IsKeyUnder e n k m t key
   got-key short (stop a l) i j = clash (cc)
   got-key short (got v s) i j =
       let c : Came (table e) (keyForm e) tallest n k m v key = whole-back (table e) (keyForm e) tallest n k m key ok v s i in
@@ -76,10 +76,10 @@ module _ (e : Edition) (n k m : ℕ) (key : List ℕ) (ok : Bytes key) (t : Valu
       came-key short (subst (λ (x : Value). Came (table e) (keyForm e) tallest n k m x key) (edition-only e (c .fits) ∙ ap (choice (numbered e)) q) c)
 
   -- Bytes from which a tree is taken are its key.
-  pub key-back : takeBy e n k m key ≡ taken t → IsKeyBy e n k m t key
+  pub key-back : takeUnder e n k m key ≡ taken t → IsKeyUnder e n k m t key
   key-back h = by (leb (length key) longestKey) refl h
     where
-      by : (b : Bool) → leb (length key) longestKey ≡ b → takeWithin e b n k m key ≡ taken t → IsKeyBy e n k m t key
+      by : (b : Bool) → leb (length key) longestKey ≡ b → takeWithin e b n k m key ≡ taken t → IsKeyUnder e n k m t key
       by false i j = clash (cc)
       by true i j =
           got-key (leb-true (length key) longestKey i) (takeWhole (table e) (keyForm e) tallest (state n k m (bitsOfBytes key))) refl j

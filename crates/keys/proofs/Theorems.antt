@@ -13,7 +13,7 @@ use Rattle.keys.specs.Form.{Value, choice, nodes, names, Bytes, Fits, st
 use Rattle.keys.specs.Limits.{longestKey, tallest, editionWidth, Edition, numbered, newest, edition, recordWords, halfWord}
 use Rattle.keys.specs.Table.{type, table, keyForm}
 use Rattle.keys.specs.Placed.{Placed, bare}
-use Rattle.keys.specs.Key.{Taken, taken, refused, outcome, bytesOf, nodeTable, keyBy, takeWithin, takeBy, takeKey, IsTreeBy, IsTree, HasRoom, IsKeyBy, IsKey, IsRefusal}
+use Rattle.keys.specs.Key.{Taken, taken, refused, outcome, bytesOf, nodeTable, keyUnder, takeWithin, takeUnder, takeKey, IsTreeUnder, IsTree, HasRoom, IsKeyUnder, IsKey, IsRefusal}
 use Rattle.keys.specs.Store.{TakenBack, back, no, lent, takeBack, filled, nodesOf, namesOf, textOf, allPointed, Kept, Left}
 use Rattle.keys.specs.Holds.{Stands}
 use Rattle.keys.proofs.BitsLaws.{clash}
@@ -26,29 +26,29 @@ use Rattle.keys.proofs.OneTree.{one-written, own-words, four-words}
 -- ---- Keys of one edition
 module _ (e : Edition) where
   -- A key taken back with room enough gives its tree.
-  pub taken-back : {n k m : ℕ} {t : Value} → IsTreeBy e t → HasRoom n k m t → takeBy e n k m (keyBy e t) ≡ taken t
+  pub taken-back : {n k m : ℕ} {t : Value} → IsTreeUnder e t → HasRoom n k m t → takeUnder e n k m (keyUnder e t) ≡ taken t
   taken-back {n} {k} {m} {t} a r =
-      ap (λ (b : Bool). takeWithin e b n k m (keyBy e t)) (le-leb (length (keyBy e t)) longestKey (a .short))
-      ∙ ap (outcome (length (bitsOfBytes (keyBy e t))))
+      ap (λ (b : Bool). takeWithin e b n k m (keyUnder e t)) (le-leb (length (keyUnder e t)) longestKey (a .short))
+      ∙ ap (outcome (length (bitsOfBytes (keyUnder e t))))
       (whole-room (table e) (keyForm e) (with-edition e (a .fits)) tallest n k m (a .tall) (r .forNodes) (r .forNames) (r .forText))
 
   -- Two trees share a key exactly when they are the same tree.
-  pub same-key : {t u : Value} → Fits (table e) type t → Fits (table e) type u → (keyBy e t ≡ keyBy e u) ↔ (t ≡ u)
-  same-key {t} {u} a b = (λ h. inside (whole-one (table e) (keyForm e) (with-edition e a) (with-edition e b) h), λ h. ap (keyBy e) h)
+  pub same-key : {t u : Value} → Fits (table e) type t → Fits (table e) type u → (keyUnder e t ≡ keyUnder e u) ↔ (t ≡ u)
+  same-key {t} {u} a b = (λ h. inside (whole-one (table e) (keyForm e) (with-edition e a) (with-edition e b) h), λ h. ap (keyUnder e) h)
     where
       inside : choice (numbered e) t ≡ choice (numbered e) u → t ≡ u
       inside h = cc
 
   -- Bytes are taken back as a tree exactly when they are the key of that tree, it is one of the node table within the limits, and there is room for it.
-  pub exactly : {n k m : ℕ} {key : List ℕ} {t : Value} → Bytes key → (takeBy e n k m key ≡ taken t) ↔ IsKeyBy e n k m t key
-  exactly {n} {k} {m} {key} {t} ok = (key-back e n k m key ok t, λ x. ap (takeBy e n k m) (x .is) ∙ taken-back (x .isTree) (x .hasRoom))
+  pub exactly : {n k m : ℕ} {key : List ℕ} {t : Value} → Bytes key → (takeUnder e n k m key ≡ taken t) ↔ IsKeyUnder e n k m t key
+  exactly {n} {k} {m} {key} {t} ok = (key-back e n k m key ok t, λ x. ap (takeUnder e n k m) (x .is) ∙ taken-back (x .isTree) (x .hasRoom))
 
   -- They are the key of no other tree, whatever the room.
-  pub one-tree : {n k m n' k' m' : ℕ} {key : List ℕ} {t u : Value} → IsKeyBy e n k m t key → IsKeyBy e n' k' m' u key → t ≡ u
+  pub one-tree : {n k m n' k' m' : ℕ} {key : List ℕ} {t u : Value} → IsKeyUnder e n k m t key → IsKeyUnder e n' k' m' u key → t ≡ u
   one-tree x y = same-key (x .isTree .fits) (y .isTree .fits) .0 (sym (x .is) ∙ y .is)
 
   -- What is not taken is refused under 6, 8, 10 or 11: at a bit of the key or at its end, and at 0 for 11.
-  pub refusals : (n k m : ℕ) (key : List ℕ) {w p : ℕ} → takeBy e n k m key ≡ refused w p → IsRefusal (length (bitsOfBytes key)) w p
+  pub refusals : (n k m : ℕ) (key : List ℕ) {w p : ℕ} → takeUnder e n k m key ≡ refused w p → IsRefusal (length (bitsOfBytes key)) w p
   refusals n k m key {w} {p} h = by (leb (length key) longestKey) h
     where
       by : (b : Bool) → takeWithin e b n k m key ≡ refused w p → IsRefusal (length (bitsOfBytes key)) w p

@@ -3,7 +3,7 @@ use mathlib.Core.Path.{_≡_}
 use mathlib.Core.List.{List, [], _∷_, _++_}
 use Prim.Native.Nat.{ℕ, _+_, _-_, _*_, _/_, _%_, _^_}
 use lib.ListN.{length, take, drop, replicate}
-use Rattle.keys.specs.Form.{Value, nothing, spelt, choice, pair, node, Form, Grammar, width, branch, left, right, class, nodes, names, letters}
+use Rattle.keys.specs.Form.{Value, nothing, spelt, choice, pair, node, Form, Grammar, storeWidth, branch, left, right, class, nodes, names, letters}
 use Rattle.keys.specs.Limits.{recordWords, halfWord}
 use Rattle.keys.specs.Table.{type}
 use Rattle.keys.specs.Placed.{Placed, void, said, pick, join, tree, laid}
@@ -11,7 +11,7 @@ use Rattle.keys.specs.Key.{Taken, taken, refused, takeKey, nodeTable, Is
 
 -- ---- A node as the run of what it holds
 
--- What a node holds in the key's order: a choice and its width, a name with its start and bytes, a child with its first and end byte.
+-- What a node holds in the key's order: a choice and its width there, a name with its start and bytes, a child with its first and end byte.
 pub data Run : Type 0 where
   done : Run
   chose : (wide number : ℕ) → Run → Run
@@ -31,7 +31,7 @@ module _ (G : Grammar) where
   abbrev pub plant : Form → Placed → Run → Run
   plant f void r = r
   plant f (said x s) r = name x s r
-  plant f (pick k p) r = chose (width f) k (plant (branch f k) p r)
+  plant f (pick k p) r = chose (storeWidth f) k (plant (branch f k) p r)
   plant f (join a b) r = plant (left f) a (plant (right f) b r)
   plant f (tree t first end p) r = kid first end (chose (G .tagWidth (class f)) t (plant (G .row (class f) t) p done)) r
 

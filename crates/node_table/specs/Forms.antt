@@ -96,7 +96,7 @@ formBy T go n e (suc zero) = one
 formBy T go n e (suc (suc zero)) = spellingsThen n (e .w) (go 1 (e .b))
 formBy T go n e (suc (suc (suc zero))) = nodesThen n (e .a) (e .w) (go 1 (e .b))
 formBy T go n e (suc (suc (suc (suc zero)))) = both (word (e .w)) (go n (e .b))
-formBy T go n e (suc (suc (suc (suc (suc k))))) = choose (e .w) (leads T go e k)
+formBy T go n e (suc (suc (suc (suc (suc k))))) = choose (e .w) 0 (leads T go e k)
 
 -- Form f to so many steps, its first done n times.
 abbrev pub formOf : List ℕ → (steps n f : ℕ) → Form

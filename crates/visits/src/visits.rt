@@ -7,7 +7,7 @@ ghost use Rattle.keys.specs.Limits.{widest, halfWord};
 ghost use Rattle.keys.specs.Store.{visit};
 ghost use Rattle.fields.specs.Put.{far};
 ghost use Rattle.node_table.specs.Forms.{entryAt, grammarOf, IsRow, Narrow, tableMost};
-ghost use Rattle.node_table.specs.Moves.{Spelled, Ready, Own, After, Begun, Noded};
+ghost use Rattle.node_table.specs.Moves.{Spelled, Ready, OwnStep, After, Begun, Noded};
 ghost use Rattle.visits.specs.Visits.{VisitAt, Listed, visitWords, Named, Visited};
 use fields::put;
 use keys::store;
@@ -75,7 +75,7 @@ fn visit_chosen(
     s: Walk,
 ) -> Walk
     requires { ⌜ Ready (length (now names)) (now visits) s × IsRow (entryAt (now forms) (s .form)) r × (r .w ≤ widest) × (0 < s .steps) × (5 ≤ r .op) ⌝ }
-    ensures { λ q. ⌜ Own visitWords (now (forms .entry)) (Named (now (names .entry))) (length (now (names .entry))) depth s (now (visits .entry)) q (now (visits .exit)) ⌝ }
+    ensures { λ q. ⌜ OwnStep visitWords (now (forms .entry)) (Named (now (names .entry))) (length (now (names .entry))) depth s (now (visits .entry)) q (now (visits .exit)) ⌝ }
 {
     let c = moves::choice_of(s.word, r.w);
     let to = put_visit(visits, s.to, CHOICE, c.number as u64, depth);
@@ -101,7 +101,7 @@ fn visit_said(
     s: Walk,
 ) -> Walk
     requires { ⌜ Ready (length (now names)) (now visits) s × IsRow (entryAt (now forms) (s .form)) r × (0 < s .steps) × (r .op < 5) × (r .op ≡ 1 → ⊥) × (r .op ≡ 3 → s .n ≡ 0) ⌝ }
-    ensures { λ q. ⌜ Own visitWords (now (forms .entry)) (Named (now (names .entry))) (length (now (names .entry))) depth s (now (visits .entry)) q (now (visits .exit)) ⌝ }
+    ensures { λ q. ⌜ OwnStep visitWords (now (forms .entry)) (Named (now (names .entry))) (length (now (names .entry))) depth s (now (visits .entry)) q (now (visits .exit)) ⌝ }
 {
     let op = r.op;
     let n = s.n;
@@ -133,7 +133,7 @@ fn visit_own(
     s: Walk,
 ) -> Walk
     requires { ⌜ Ready (length (now names)) (now visits) s × IsRow (entryAt (now forms) (s .form)) r × (r .w ≤ widest) × (0 < s .steps) × (r .op ≡ 1 → ⊥) × (r .op ≡ 3 → s .n ≡ 0) ⌝ }
-    ensures { λ q. ⌜ Own visitWords (now (forms .entry)) (Named (now (names .entry))) (length (now (names .entry))) depth s (now (visits .entry)) q (now (visits .exit)) ⌝ }
+    ensures { λ q. ⌜ OwnStep visitWords (now (forms .entry)) (Named (now (names .entry))) (length (now (names .entry))) depth s (now (visits .entry)) q (now (visits .exit)) ⌝ }
 {
     if forms::CHOICE <= r.op {
         return visit_chosen(forms, names, visits, depth, r, s);
