@@ -22,7 +22,7 @@ data Narrow : Form → Type 0 where
   is-never : Narrow never
   is-one : Narrow one
   is-word : (w : ℕ) → w ≤ 16 → Narrow (word w)
-  is-choice : (w : ℕ) {fs : ℕ → Form} → w ≤ 16 → ((k : ℕ) → Narrow (fs k)) → Narrow (choose w fs)
+  is-choice : (w : ℕ) {x : ℕ} {fs : ℕ → Form} → w ≤ 16 → ((k : ℕ) → Narrow (fs k)) → Narrow (choose w x fs)
   is-both : {f g : Form} → Narrow f → Narrow g → Narrow (both f g)
   is-child : {c : ℕ} → Narrow (child c)
 
@@ -61,7 +61,7 @@ spelling-narrow : Narrow spelling
 spelling-narrow = is-word lengthWidth (omega arith)
 
 -- A bit that chooses among two forms, as an opt's does.
-bit-narrow : {a b : Form} → Narrow a → Narrow b → Narrow (choose 1 (oneOf (a ∷ b ∷ [])))
+bit-narrow : {a b : Form} → Narrow a → Narrow b → Narrow (choose 1 0 (oneOf (a ∷ b ∷ [])))
 bit-narrow a b = is-choice 1 (omega arith) (one-narrow (a also b also none))
 
 -- One bit.
