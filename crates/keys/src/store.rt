@@ -129,6 +129,26 @@ pub fn node_at(nodes: &[u64], at: usize) -> Node
     }
 }
 
+// The word of a node's choices, 0 past the last node.
+fn choices_word(nodes: &[u64], at: usize) -> u64
+    ensures { λ r. ⌜ r ≡ wordAt (now (nodes .entry)) at ⌝ }
+{
+    if at <= nodes.len() / RECORD {
+        return stored(nodes, at * RECORD);
+    }
+    0
+}
+
+// The word of a node's first and end byte, 0 past the last node.
+fn place_word(nodes: &[u64], at: usize) -> u64
+    ensures { λ r. ⌜ r ≡ getD (now (nodes .entry)) (at * recordWords + 1) 0 ⌝ }
+{
+    if at <= nodes.len() / RECORD {
+        return stored(nodes, at * RECORD + 1);
+    }
+    0
+}
+
 // A node's choices but for its tag.
 fn above_tag(word: u64) -> u64
     ensures { λ r. ⌜ (r ≡ afterTag word) × (r < 2 ^ 58) ⌝ }
@@ -136,20 +156,18 @@ fn above_tag(word: u64) -> u64
     word / TAGS
 }
 
-// A node's tag.
+// A node's tag, 0 past the last node.
 pub fn tag_at(nodes: &[u64], at: usize) -> usize
-    requires { ⌜ at < halfWord ⌝ }
     ensures { λ r. ⌜ (r ≡ tagIn (wordAt (now (nodes .entry)) at)) × (r < 2 ^ tagWide) ⌝ }
 {
-    (stored(nodes, at * RECORD) % TAGS) as usize
+    (choices_word(nodes, at) % TAGS) as usize
 }
 
 // A node's choices after its tag, the first lowest.
 pub fn choices_at(nodes: &[u64], at: usize) -> u64
-    requires { ⌜ at < halfWord ⌝ }
     ensures { λ r. ⌜ r ≡ afterTag (wordAt (now (nodes .entry)) at) ⌝ }
 {
-    above_tag(stored(nodes, at * RECORD))
+    above_tag(choices_word(nodes, at))
 }
 
 // Another tag for a node, whose other choices stay.
@@ -170,10 +188,9 @@ pub struct Place {
 
 // The place of a node.
 pub fn place_at(nodes: &[u64], at: usize) -> Place
-    requires { ⌜ at < halfWord ⌝ }
     ensures { λ r. ⌜ (r .first ≡ firstAt (now (nodes .entry)) at) × (r .end ≡ endAt (now (nodes .entry)) at) × (r .first < halfWord) × (r .end < halfWord) ⌝ }
 {
-    let word = stored(nodes, at * RECORD + 1);
+    let word = place_word(nodes, at);
     Place {
         first: low(word),
         end: high(word),
