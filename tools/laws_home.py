@@ -2,12 +2,13 @@
 """Moves modules of laws from a crate's specs/ to its proofs/, and definitions from one module to another.
 
     tools/laws_home.py move CRATE MODULE...        specs/MODULE becomes proofs/MODULE, in every import, Lib and document
-    tools/laws_home.py name CRATE FROM TO NAME...  imports take NAME from specs/TO where they took it from specs/FROM
+    tools/laws_home.py mend CRATE...               after a merge: imports that still look for moved modules in specs/
+    tools/laws_home.py name CRATE FROM TO NAME...  imports take NAME from specs/TO where they took it from FROM
     tools/laws_home.py rename CRATE OLD NEW        the module OLD of specs/ or proofs/ is called NEW
     tools/laws_home.py count CRATE...              lines of definitions and of laws, by crate
 
 `move` refuses where a module that stays, or a contract of the crate, imports one that goes: specs/ can't cite proofs/ of its own crate.
-Crates above may cite both. `name` rewrites imports only: put the definition into its new place first, by hand.
+Crates above may cite both. `name` rewrites imports only: put the definition into its new place first, by hand. `mend` and `name` may run again.
 """
 import os, re, subprocess, sys
 
@@ -99,6 +100,18 @@ def move(crate, modules):
     print('%s: %d modules moved, %d files and %d documents changed' % (crate, len(modules), changed, told))
 
 
+def mend(crates):
+    rules = []
+    for c in crates:
+        here = path('crates', c, 'proofs')
+        for f in sorted(os.listdir(here)) if os.path.isdir(here) else []:
+            m = f[:-5]
+            if not f.endswith('.antt') or m == 'Lib' or os.path.exists(path('crates', c, 'specs', f)): continue
+            rules.append((own(c, 'specs', m), 'Rattle.%s.proofs.%s' % (c, m)))
+            rules.append((above(c, 'specs', m), 'Rattle.%s.proofs.%s' % (c, m)))
+    print('%d files changed' % sum(change(f, rules) for f in list(sources())))
+
+
 IMPORT = re.compile(r'^(?P<lead>(?:ghost )?use )(?P<path>[^\s{]+)\.\{(?P<names>[^}]*)\}(?P<end>;?)$', re.M)
 
 
@@ -106,8 +119,9 @@ def name(crate, source, target, names):
     changed = 0
     for f in list(sources()):
         old = text = text_of(f)
-        for inside in (True, False):
-            a, b = [('Rattle.%s.specs.%s' if inside else 'Rattle.%s.specs.%s') % (crate, m) for m in (source, target)]
+        for inside, part in ((True, 'specs'), (True, 'proofs'), (False, 'specs'), (False, 'proofs')):
+            a = 'Rattle.%s.%s.%s' % (crate, part, part, source) if inside else 'Rattle.%s.%s.%s' % (crate, part, source)
+            b = 'Rattle.%s.specs.%s' % (crate, target) if inside else 'Rattle.%s.specs.%s' % (crate, target)
             take = []
 
             def less(m):
@@ -180,6 +194,7 @@ def count(crates):
 
 def main(words):
     if len(words) > 2 and words[0] == 'move': move(words[1], words[2:])
+    elif len(words) > 1 and words[0] == 'mend': mend(words[1:])
     elif len(words) > 4 and words[0] == 'name': name(words[1], words[2], words[3], words[4:])
     elif len(words) == 4 and words[0] == 'rename': rename(*words[1:])
     elif len(words) > 1 and words[0] == 'count': count(words[1:])
