@@ -14,7 +14,7 @@ use Rattle.keys.specs.Placed.{Placed, bare}
 use Rattle.keys.specs.Table.{type}
 use Rattle.keys.specs.Key.{nodeTable, keyOf}
 use Rattle.keys.specs.Store.{done, runOf, nodesOf, namesOf, filled}
-use Rattle.keys.specs.StoreLaws.{length-records, under-plant}
+use Rattle.keys.proofs.StoreLaws.{length-records, under-plant}
 use Rattle.keys.specs.Holds.{Stands}
 use Rattle.rules.specs.Notes.{noteWords}
 use Rattle.rules.specs.State.{State}

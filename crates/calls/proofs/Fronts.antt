@@ -10,7 +10,7 @@ use Rattle.keys.specs.Placed.{bare}
 use Rattle.keys.specs.Key.{keyOf}
 use Rattle.keys.specs.Store.{filled}
 use Rattle.fields.specs.Put.{far, fitted}
-use Rattle.fields.specs.PutLaws.{fitted-whole}
+use Rattle.fields.proofs.PutLaws.{fitted-whole}
 use Rattle.key_out.specs.Out.{Keyed}
 use Rattle.calls.specs.Reading.{WroteIn}
 

@@ -13,7 +13,7 @@ use Rattle.keys.specs.Form.{Bytes, nodes}
 use Rattle.keys.specs.Limits.{recordWords}
 use Rattle.keys.specs.Placed.{Placed, bare}
 use Rattle.keys.specs.Store.{runOf, nodesOf, namesOf}
-use Rattle.keys.specs.StoreLaws.{length-namesIn}
+use Rattle.keys.proofs.StoreLaws.{length-namesIn}
 use Rattle.keys.specs.Words.{firstNodes, firstNames}
 use Rattle.rules.specs.State as rule
 use Rattle.rules.specs.State.{Result, State, read as got, refuse}

@@ -10,7 +10,7 @@ use lib.Pow.{pow-pos, pow-add, pow-mono}
 use lib.ListN.{length, getD, take, drop, set, length-drop, length-append, length-set}
 use lib.Seq.{drop-at, drop-append-add, drop-drop, drop-nil, take-suc-set}
 use Rattle.keys.specs.Bits.{Bits, odd, unit, bitsOf, Field, short, field, takeOn, takeField, bitsOfBytes, Row, cut, row, ahead, afterByte, takeBytes}
-use Rattle.keys.specs.BitsLaws.{clash, length-bits, digit-taken, take-back, take-whole, take-short, length-bytes}
+use Rattle.keys.proofs.BitsLaws.{clash, length-bits, digit-taken, take-back, take-whole, take-short, length-bytes}
 use Rattle.fields.specs.Take.{answered, Copied}
 use Rattle.fields.specs.declared.take.TakenField.{TakenField}
 use Rattle.fields.specs.declared.take.TakenField.the-variants.{Number, Short}

@@ -1,2 +1,3 @@
+pub mod PutLaws
 pub mod Chunks
 pub mod Windows

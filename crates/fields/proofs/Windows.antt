@@ -8,9 +8,9 @@ use lib.Pow.{pow-pos, pow-add, pow-mono, shl-lt, shl-exact, shr-shr, split, high
 use lib.ListN.{length, getD, take, drop, set, length-append, length-drop, length-set, take-append-drop}
 use lib.Seq.{sets, drop-append-le, drop-drop, length-take-le}
 use Rattle.keys.specs.Bits.{Bits, unit, bitsOf, bitsOfBytes, takeOn, takeField}
-use Rattle.keys.specs.BitsLaws.{length-bits, bits-low, length-bytes, takeOn-written}
+use Rattle.keys.proofs.BitsLaws.{length-bits, bits-low, length-bytes, takeOn-written}
 use Rattle.keys.specs.Store.{part}
-use Rattle.fields.specs.PutLaws.{bits-front, bits-mod, bits-three, bytes-append, bytes-set, sets-append, sets-left, sets-right, sets-whole, sets-middle, text-suc}
+use Rattle.fields.proofs.PutLaws.{bits-front, bits-mod, bits-three, bytes-append, bytes-set, sets-append, sets-left, sets-right, sets-whole, sets-middle, text-suc}
 use Rattle.fields.specs.Take.{answered, Four}
 use Rattle.fields.specs.declared.take.TakenField.the-variants.{Number}
 use Rattle.fields.proofs.Chunks.{part-first, part-at, Told, number-told}

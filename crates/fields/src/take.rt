@@ -4,6 +4,7 @@ ghost use Prim.Native.Nat.{_+_, _-_, _*_, _/_, _%_, _^_, _<_, _≤_};
 ghost use lib.ListN.{length, drop, getD};
 ghost use Rattle.keys.specs.Limits.{longestKey, widest};
 ghost use Rattle.keys.specs.Bits.{bitsOfBytes, takeField};
+ghost use Rattle.fields.specs.Put.{far};
 ghost use Rattle.fields.specs.Take.{answered, Four, Copied};
 
 // A field's number, or that the bits end inside it.
@@ -37,7 +38,7 @@ fn joined(a: u64, b: u64, c: u64, d: u64) -> u64
 
 // The four bytes from a place on.
 pub fn four_at(key: &[u8], at: usize) -> u64
-    requires { ⌜ (at + 4 ≤ length (now key)) × (length (now key) ≤ 2 ^ 60) ⌝ }
+    requires { ⌜ (at + 4 ≤ length (now key)) × (length (now key) ≤ far) ⌝ }
     ensures { λ r. ⌜ Four (now (key .entry)) at r ⌝ }
 {
     joined(

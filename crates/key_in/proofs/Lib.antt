@@ -1,3 +1,4 @@
+pub mod BackLaws
 pub mod Nevers
 pub mod Steps
 pub mod Spelling

@@ -6,12 +6,12 @@ use Prim.Native.Nat.{ℕ, zero, suc, _+_, _-_, _*_, _≤_, _<_}
 use native.Mathlib.Omega.{arith}
 use lib.Dec.{leb, ltb}
 use Rattle.keys.specs.Bits.{Bits, Field, short, field, takeField}
-use Rattle.keys.specs.Form.{Value, nothing, spelt, choice, pair, node, letters, Form, never, one, word, choose, both, child, Grammar, isNever, Fits, fits-word, State, state, Result, got, stop, stopAt, into, andThen, allowed, ifWhole, takeChoice, takeSpelling, takeRoom, takeForm, takeNode}
-use Rattle.keys.specs.FormLaws.{form-back}
+use Rattle.keys.specs.Form.{Value, nothing, spelt, choice, pair, node, letters, Form, never, one, word, choose, both, child, Grammar, isNever, Fits, fits-word, State, state, Result, got, stop, stopAt, into, andThen, allowed, ifWhole, takeChoice, takeSpelling, takeRoom, takeForm, takeNode, wider}
+use Rattle.keys.proofs.FormLaws.{form-back}
 use Rattle.keys.specs.Limits.{tooTall}
 use Rattle.keys.specs.Placed.{laid}
-use Rattle.keys.specs.Store.{Run, done, chose, name, kid, plant}
-use Rattle.keys.specs.StoreLaws.{_⊕_, join-done, plant-join}
+use Rattle.keys.specs.Store.{Run, done, chose, name, kid, plant, _⊕_}
+use Rattle.keys.proofs.StoreLaws.{join-done, plant-join}
 use Rattle.keys.specs.Lines.{inLine, lined}
 use Rattle.key_in.specs.Runs.{Ran, ran, halt, haltAt, after, thenRun, asChild, spelledAt, asName, allowedRun, wholeRun, choiceRun, roomRun, formRun, nodeRun}
 use Rattle.key_in.specs.Back.{Spans}
@@ -41,9 +41,9 @@ module _ (lx : ℕ) (G : Grammar) where
       by true = refl
       by false = i t r
 
-  into-choice : (w : ℕ) (fs : ℕ → Form) (x k : ℕ) (y : Result) → runBy G (choose w fs) x (into (choice k) y) ≡ after (chose w k done) (runBy G (fs k) x y)
-  into-choice w fs x k (got v q) = refl
-  into-choice w fs x k (stop n l) = refl
+  into-choice : (w z : ℕ) (fs : ℕ → Form) (x k : ℕ) (y : Result) → runBy G (choose w z fs) x (into (choice k) y) ≡ after (chose (wider w z) k done) (runBy G (fs k) x y)
+  into-choice w z fs x k (got v q) = refl
+  into-choice w z fs x k (stop n l) = refl
 
   into-pair : (f g : Form) (x : ℕ) (a : Value) (y : Result) → runBy G (both f g) x (into (pair a) y) ≡ after (plant G f (laid a x) done) (runBy G g (x + letters a) y)
   into-pair f g x a (got b q) = ap (λ (u : Run). ran u q) (plant-join G f (laid a x) (plant G g (laid b (x + letters a)) done))
@@ -62,10 +62,10 @@ module _ (lx : ℕ) (G : Grammar) where
     fields-run never s l = refl
     fields-run one s l = refl
     fields-run (word w) s l = word-run h w s (lx - s .textLeft) (takeSpelling w s) refl
-    fields-run (choose w fs) s l =
-        choice-run (choose w fs) (lx - s .textLeft) s fs _ _
-        (λ t r. into-choice w fs (lx - s .textLeft) t (takeForm (takeNode G h) (fs t) (state (s .nodesLeft) (s .namesLeft) (s .textLeft) r))
-        ∙ ap (after (chose w t done)) (fields-run (fs t) (state (s .nodesLeft) (s .namesLeft) (s .textLeft) r) l)) (takeField w (s .bits))
+    fields-run (choose w x fs) s l =
+        choice-run (choose w x fs) (lx - s .textLeft) s fs _ _
+        (λ t r. into-choice w x fs (lx - s .textLeft) t (takeForm (takeNode G h) (fs t) (state (s .nodesLeft) (s .namesLeft) (s .textLeft) r))
+        ∙ ap (after (chose (wider w x) t done)) (fields-run (fs t) (state (s .nodesLeft) (s .namesLeft) (s .textLeft) r) l)) (takeField w (s .bits))
     fields-run (both f g) s l = by (takeForm (takeNode G h) f s) refl (fields-run f s l) (λ q k. fields-run g q k)
       where
         by : (y : Result) → takeForm (takeNode G h) f s ≡ y → runBy G f (lx - s .textLeft) (takeForm (takeNode G h) f s) ≡ formRun lx (nodeRun lx G h) f s
@@ -104,7 +104,7 @@ pub data Fine : Form → ℕ → Type 0 where
   one-fine : {n : ℕ} → Fine one n
   word-fine : {w n : ℕ} → Fine (word w) n
   child-fine : {c n : ℕ} → Fine (child c) n
-  choose-fine : {w n : ℕ} {fs : ℕ → Form} (m : ℕ) → w + m ≤ n → ((k : ℕ) → Fine (fs k) m) → Fine (choose w fs) n
+  choose-fine : {w x n : ℕ} {fs : ℕ → Form} (m : ℕ) → wider w x + m ≤ n → ((k : ℕ) → Fine (fs k) m) → Fine (choose w x fs) n
   both-fine : {f g : Form} {n : ℕ} (a b : ℕ) → a + b ≤ n → isNever f ≡ false → isNever g ≡ false → Fine f a → Fine g b → Fine (both f g) n
 
 never-line : {f : Form} {n : ℕ} → Fine f n → (g : Form) → isNever g ≡ false → isNever (inLine f g) ≡ isNever f
@@ -129,20 +129,20 @@ module _ (lx : ℕ) (X : ℕ → State → Ran) where
   line-run one-fine g z s = sym (after-done (formRun lx X g s))
   line-run word-fine g z s = refl
   line-run child-fine g z s = refl
-  line-run (choose-fine {w = w} {fs = fs} m l k) g z s =
+  line-run (choose-fine {w = w} {x = x} {fs = fs} m l k) g z s =
       by (takeField w (s .bits)) (λ t r. line-run (k t) g z (state (s .nodesLeft) (s .namesLeft) (s .textLeft) r))
     where
       K : ℕ → Bits → Ran
-      K t r = after (chose w t done) (formRun lx X (fs t) (state (s .nodesLeft) (s .namesLeft) (s .textLeft) r))
+      K t r = after (chose (wider w x) t done) (formRun lx X (fs t) (state (s .nodesLeft) (s .namesLeft) (s .textLeft) r))
 
       K' : ℕ → Bits → Ran
-      K' t r = after (chose w t done) (formRun lx X (inLine (fs t) g) (state (s .nodesLeft) (s .namesLeft) (s .textLeft) r))
+      K' t r = after (chose (wider w x) t done) (formRun lx X (inLine (fs t) g) (state (s .nodesLeft) (s .namesLeft) (s .textLeft) r))
 
       choices : (t : ℕ) (r : Bits) → formRun lx X (inLine (fs t) g) (state (s .nodesLeft) (s .namesLeft) (s .textLeft) r)
           ≡ thenRun (formRun lx X (fs t) (state (s .nodesLeft) (s .namesLeft) (s .textLeft) r)) (λ q. formRun lx X g q)
           → (b : Bool) → allowedRun s K' t r b ≡ thenRun (allowedRun s K t r b) (λ q. formRun lx X g q)
       choices t r i true = refl
-      choices t r i false = ap (after (chose w t done)) i ∙ sym (then-after (chose w t done) (formRun lx X (fs t) (state (s .nodesLeft) (s .namesLeft) (s .textLeft) r)) (λ q. formRun lx X g q))
+      choices t r i false = ap (after (chose (wider w x) t done)) i ∙ sym (then-after (chose (wider w x) t done) (formRun lx X (fs t) (state (s .nodesLeft) (s .namesLeft) (s .textLeft) r)) (λ q. formRun lx X g q))
 
       by : (y : Field) → ((t : ℕ) (r : Bits) → formRun lx X (inLine (fs t) g) (state (s .nodesLeft) (s .namesLeft) (s .textLeft) r)
           ≡ thenRun (formRun lx X (fs t) (state (s .nodesLeft) (s .namesLeft) (s .textLeft) r)) (λ q. formRun lx X g q))
@@ -180,7 +180,7 @@ pub spans-more : (f : Form) (a b : ℕ) → a ≤ b → Spans f a → Spans f b
 spans-more never a b l h = tt
 spans-more one a b l h = tt
 spans-more (word w) a b l h = tt
-spans-more (choose w fs) a b l h = (omega (arith, h .0), λ k. spans-more (fs k) (a - w) (b - w) (omega arith) (h .1 k))
+spans-more (choose w x fs) a b l h = (omega (arith, h .0), λ k. spans-more (fs k) (a - wider w x) (b - wider w x) (omega arith) (h .1 k))
 spans-more (both f g) a b l h = spans-more g a b l h
 spans-more (child c) a b l h = tt
 
@@ -189,7 +189,7 @@ line-spans never-fine g m h = tt
 line-spans {n = n} one-fine g m h = spans-more g m (n + m) (omega arith) h
 line-spans {n = n} word-fine g m h = spans-more g m (n + m) (omega arith) h
 line-spans {n = n} child-fine g m h = spans-more g m (n + m) (omega arith) h
-line-spans {n = n} (choose-fine {w = w} {fs = fs} i l k) g m h =
-    (omega arith, λ j. spans-more (inLine (fs j) g) (i + m) (n + m - w) (omega arith) (line-spans (k j) g m h))
+line-spans {n = n} (choose-fine {w = w} {x = x} {fs = fs} i l k) g m h =
+    (omega arith, λ j. spans-more (inLine (fs j) g) (i + m) (n + m - wider w x) (omega arith) (line-spans (k j) g m h))
 line-spans {n = n} (both-fine {f = f} {g = h} a b l x y p q) g m z =
     spans-more (inLine f (inLine h g)) (a + (b + m)) (n + m) (omega arith) (line-spans p (inLine h g) (b + m) (line-spans q g m z))

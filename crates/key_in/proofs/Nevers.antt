@@ -8,7 +8,7 @@ use borrow.Author.Tests.{eq-eqb, ne-eqb}
 use lib.Dec.{eqb}
 use Rattle.keys.specs.Form.{Form, isNever}
 use Rattle.node_table.specs.Forms.{Entry, formBy, formOf, entryAt, entryOf, IsRow}
-use Rattle.node_table.specs.FormsLaws.{form-at}
+use Rattle.node_table.proofs.FormsLaws.{form-at}
 use Rattle.node_table.specs.declared.forms.Row.{Row}
 
 pub before-one : (x : ℕ) → (x ≡ 0 → ⊥) → x ≡ suc (x - 1)

@@ -7,24 +7,24 @@ use native.Mathlib.Omega.{arith}
 use lib.ListN.{length, drop, length-drop}
 use Rattle.keys.specs.Bits.{Bits}
 use Rattle.keys.specs.Form.{Form, never, one, word, choose, both, child, Grammar, State, state}
-use Rattle.keys.specs.Limits.{widest, badKey, tooTall, noRoom}
-use Rattle.keys.specs.Store.{Run, done, chose, name, kid}
-use Rattle.keys.specs.StoreLaws.{_⊕_, join-done}
+use Rattle.keys.specs.Limits.{widest, badKey, tooTall, noRoom, halfWord, choicesWide}
+use Rattle.keys.specs.Store.{Run, done, chose, name, kid, _⊕_}
+use Rattle.keys.proofs.StoreLaws.{join-done}
 use Rattle.keys.specs.Table.{oneOf}
 use Rattle.keys.specs.Words.{firstNodes}
 use Rattle.keys.specs.Stored.{Base, base, Stored, Own}
-use Rattle.keys.specs.StoredLaws.{stored-none, stored-choice, stored-node}
-use Rattle.node_table.specs.Forms.{Entry, listed, formBy, formOf, stepsOf, entryAt, classAt, grammarOf, leads, entryOf, IsRow, Narrow, nodesThen, spellingIf}
-use Rattle.node_table.specs.FormsLaws.{form-at}
+use Rattle.keys.proofs.StoredLaws.{stored-none, stored-choice, stored-node}
+use Rattle.node_table.specs.Forms.{Entry, listed, formBy, formOf, stepsOf, entryAt, classAt, grammarOf, leads, entryOf, IsRow, Narrow, nodesThen, spellingIf, tableMost}
+use Rattle.node_table.proofs.FormsLaws.{form-at}
 use Rattle.node_table.specs.declared.forms.Row.{Row}
 use Rattle.key_in.specs.Runs.{Ran, ran, halt, after, thenRun, asChild, roomRun, haltAt, choiceRun, formRun, nodeRun}
-use Rattle.key_in.specs.Back.{stateAt, Inside, Steady, Housed, Spans, Slim, Sized, refusedAt, movedTo, withChild, onward, atBit, Named, NamesIn, Picked, Went, PlainIn, Grown, NodeIn, Asks, Linked, AfterIn, NodesIn}
+use Rattle.key_in.specs.Back.{stateAt, Inside, Steady, Housed, Spans, Slim, Sized, refusedAt, fillAt, withChild, fillOn, atBit, Named, NamesIn, Picked, Went, PlainIn, Grown, NodeIn, Asks, Linked, AfterIn, NodesIn}
 use Rattle.key_in.specs.declared.back.Pos.{Pos}
 use Rattle.key_in.specs.declared.back.Fill.{Fill}
 use Rattle.key_in.specs.declared.back.Pick.{Pick}
 use Rattle.key_in.proofs.Nevers.{some-times}
 use Rattle.key_in.proofs.Steps.{inside-as}
-use Rattle.key_in.proofs.Walk.{went-none, went-then, names-went, went-onward, spans-nodes, nodes-spans}
+use Rattle.key_in.proofs.Walk.{went-none, went-then, names-went, went-fillOn, spans-nodes, nodes-spans}
 
 -- ---- The same over lengths that are equal
 
@@ -51,7 +51,7 @@ module _ (bs : Bits) (lm lx : ℕ) (G : Grammar) (left : ℕ) (r : Row) (s : Fil
   pub record Kids (i : ℕ) (q : Fill) (N' M' X' : List ℕ) : Type 0 where
     pub few : i ≤ s .n
     pub shift-same : q .shift ≡ s .shift
-    pub went : (g : Form) → Spans g (60 - s .shift) → Went bs lm lx (nodeRun lx G left) (nodesThen (s .n) (r .a) (r .w) g) (nodesThen (s .n - i) (r .a) (r .w) g) s N M X q N' M' X'
+    pub went : (g : Form) → Spans g (choicesWide - s .shift) → Went bs lm lx (nodeRun lx G left) (nodesThen (s .n) (r .a) (r .w) g) (nodesThen (s .n - i) (r .a) (r .w) g) s N M X q N' M' X'
 
   pub kids-none : Steady bs lm lx s → Kids 0 s N M X
   kids-none h =
@@ -61,7 +61,7 @@ module _ (bs : Bits) (lm lx : ℕ) (G : Grammar) (left : ℕ) (r : Row) (s : Fil
         shift-same = refl;
         went =
             λ g sp. subst (λ (k : ℕ). Went bs lm lx Y (F (s .n) g) (F k g) s N M X s N M X) e
-            (went-none bs lm lx Y (F (s .n) g) s N M X h (nodes-spans (s .n) (r .a) (r .w) g (60 - s .shift) sp));
+            (went-none bs lm lx Y (F (s .n) g) s N M X h (nodes-spans (s .n) (r .a) (r .w) g (choicesWide - s .shift) sp));
       }
 
   module _ {i : ℕ} {q : Fill} {N1 M1 X1 : List ℕ} (d : Kids i q N1 M1 X1) where
@@ -87,7 +87,7 @@ module _ (bs : Bits) (lm lx : ℕ) (G : Grammar) (left : ℕ) (r : Row) (s : Fil
       abbrev rest : Form → Form
       rest g = nodesThen (s .n - (i + 1)) (r .a) (r .w) g
 
-      here : (g : Form) → Spans g (60 - s .shift) → Went bs lm lx Y (F (s .n) g) (both (child (r .a)) (spellingIf (r .w) (rest g))) s N M X q N1 M1 X1
+      here : (g : Form) → Spans g (choicesWide - s .shift) → Went bs lm lx Y (F (s .n) g) (both (child (r .a)) (spellingIf (r .w) (rest g))) s N M X q N1 M1 X1
       here g sp =
           let z : s .n - i ≡ suc (s .n - (i + 1)) = omega arith in
           subst (λ (k : ℕ). Went bs lm lx Y (F (s .n) g) (F k g) s N M X q N1 M1 X1) z (d .went g sp)
@@ -96,7 +96,7 @@ module _ (bs : Bits) (lm lx : ℕ) (G : Grammar) (left : ℕ) (r : Row) (s : Fil
       halted z f = ap (λ (x : Ran). thenRun x λ t. formRun lx Y f t) (e .stopped z)
 
       -- A node is refused.
-      pub kids-bad : (p .why ≡ 0 → ⊥) → (s' : Fill) → s' ≡ movedTo q p → NodesIn bs lm lx G left r s N M X s' N2 M2 X2
+      pub kids-bad : (p .why ≡ 0 → ⊥) → (s' : Fill) → s' ≡ fillAt q p → NodesIn bs lm lx G left r s N M X s' N2 M2 X2
       kids-bad z s' j =
           let why : s' .at .why ≡ p .why = ap (λ (x : Fill). x .at .why) j in
           let bit : s' .at .bit ≡ p .bit = ap (λ (x : Fill). x .at .bit) j in
@@ -111,7 +111,7 @@ module _ (bs : Bits) (lm lx : ℕ) (G : Grammar) (left : ℕ) (r : Row) (s : Fil
           }
 
       module _ (z : p .why ≡ 0) {q' : Fill} {N3 : List ℕ} (l : Linked N2 q p q' N3) where
-        child-went : (f : Form) → Spans f (60 - q .shift) → Grown bs lm lx G left (r .a) (q .at) N1 M1 X1 p N2 M2 X2
+        child-went : (f : Form) → Spans f (choicesWide - q .shift) → Grown bs lm lx G left (r .a) (q .at) N1 M1 X1 p N2 M2 X2
             → Went bs lm lx Y (both (child (r .a)) f) f q N1 M1 X1 (withChild q p (l .child)) N3 M2 X2
         child-went f sp k =
             let t = kids-steady in
@@ -137,14 +137,14 @@ module _ (bs : Bits) (lm lx : ℕ) (G : Grammar) (left : ℕ) (r : Row) (s : Fil
         shift-linked : q' .shift ≡ q .shift
         shift-linked = ap (λ (x : Fill). x .shift) (l .is)
 
-        linked : (f : Form) → Spans f (60 - s .shift) → Went bs lm lx Y (both (child (r .a)) f) f q N1 M1 X1 q' N3 M2 X2
+        linked : (f : Form) → Spans f (choicesWide - s .shift) → Went bs lm lx Y (both (child (r .a)) f) f q N1 M1 X1 q' N3 M2 X2
         linked f sp =
             subst (λ (x : Fill). Went bs lm lx Y (both (child (r .a)) f) f q N1 M1 X1 x N3 M2 X2) (sym (l .is))
-            (child-went f (subst (λ (k : ℕ). Spans f (60 - k)) (sym (d .shift-same)) sp) (e .grown z))
+            (child-went f (subst (λ (k : ℕ). Spans f (choicesWide - k)) (sym (d .shift-same)) sp) (e .grown z))
 
         -- The child is there, and the spelling after it is to come.
-        kid-there : (g : Form) → Spans g (60 - s .shift) → Went bs lm lx Y (F (s .n) g) (spellingIf (r .w) (rest g)) s N M X q' N3 M2 X2
-        kid-there g sp = went-then bs lm lx Y (here g sp) (linked (spellingIf (r .w) (rest g)) (subst (λ (k : ℕ). Spans (spellingIf (r .w) (rest g)) (60 - k)) (d .shift-same) (here g sp .spans)))
+        kid-there : (g : Form) → Spans g (choicesWide - s .shift) → Went bs lm lx Y (F (s .n) g) (spellingIf (r .w) (rest g)) s N M X q' N3 M2 X2
+        kid-there g sp = went-then bs lm lx Y (here g sp) (linked (spellingIf (r .w) (rest g)) (subst (λ (k : ℕ). Spans (spellingIf (r .w) (rest g)) (choicesWide - k)) (d .shift-same) (here g sp .spans)))
 
         pub kid-steady : Steady bs lm lx q'
         kid-steady = kid-there one tt .steady
@@ -179,12 +179,12 @@ module _ (bs : Bits) (lm lx : ℕ) (G : Grammar) (left : ℕ) (r : Row) (s : Fil
                     λ g sp. went-then bs lm lx Y (kid-there g sp)
                     (subst (λ (x : Fill). Went bs lm lx Y (spellingIf (r .w) (rest g)) (rest g) q' N3 M2 X2 x N3 M3 X3) (sym (a .is))
                     (names-went bs lm lx Y q' (a .at) (a .names (rest g)) (sym why-same ∙ o) kid-steady
-                    (subst (λ (k : ℕ). Spans (rest g) (60 - k)) (sym (shift-linked ∙ d .shift-same)) (nodes-spans (s .n - (i + 1)) (r .a) (r .w) g (60 - s .shift) sp))
+                    (subst (λ (k : ℕ). Spans (rest g) (choicesWide - k)) (sym (shift-linked ∙ d .shift-same)) (nodes-spans (s .n - (i + 1)) (r .a) (r .w) g (choicesWide - s .shift) sp))
                     (q' .form) (q' .n) (kid-steady .in-table) (kid-steady .few) N3));
               }
 
     -- All of them are taken.
-    pub kids-all : s .n ≤ i → r .b < 2 ^ 32 → NodesIn bs lm lx G left r s N M X (onward q (q .at) (r .b) 1) N1 M1 X1
+    pub kids-all : s .n ≤ i → r .b < tableMost → NodesIn bs lm lx G left r s N M X (fillOn q (q .at) (r .b) 1) N1 M1 X1
     kids-all h b =
         record {
           nodes-same = kids-nodes;
@@ -196,7 +196,7 @@ module _ (bs : Bits) (lm lx : ℕ) (G : Grammar) (left : ℕ) (r : Row) (s : Fil
               λ _ g sp. (
                 refl,
                 refl,
-                went-onward bs lm lx Y
+                went-fillOn bs lm lx Y
                     (let z : s .n - i ≡ 0 = omega arith in subst (λ (k : ℕ). Went bs lm lx Y (F (s .n) g) (F k g) s N M X q N1 M1 X1) z (d .went g sp))
                     (r .b) 1 b (omega arith),
               );
@@ -294,9 +294,9 @@ module _ (bs : Bits) (ln lm lx : ℕ) (T : List ℕ) (class : ℕ) (p : Pos) (h 
         pub start-housed : Housed ln s₀
         start-housed = record { above = omega arith; nodes-fit = omega (arith, h .nodes-fit); in-nodes = omega arith }
 
-        pub start-spans : Spans f₀ (60 - r .w)
+        pub start-spans : Spans f₀ (choicesWide - r .w)
         start-spans =
-            subst₂ (λ (x : Form) (n : ℕ). Spans x (60 - n)) to (sym (ap (λ (x : Entry). x .w) (i .is))) (h .slim .rows class (c .number))
+            subst₂ (λ (x : Form) (n : ℕ). Spans x (choicesWide - n)) to (sym (ap (λ (x : Entry). x .w) (i .is))) (h .slim .rows class (c .number))
 
         module _ (N M X : List ℕ) (f : Form) (s : Fill) (N1 M1 X1 : List ℕ) (w : Went bs lm lx (nodeRun lx (grammarOf T) l) f₀ f s₀ N M X s N1 M1 X1) where
           -- A refusal inside.
@@ -329,7 +329,7 @@ module _ (bs : Bits) (ln lm lx : ℕ) (T : List ℕ) (class : ℕ) (p : Pos) (h 
               (record { word-is = zero-out (c .number) (2 ^ r .w); shift-is = sym (add-zero (r .w)); child-is = refl })
 
           pub node-done : f ≡ one → (N2 : List ℕ) → length N2 ≡ length N1
-              → firstNodes N2 (s .at .used + 1) ≡ firstNodes N1 (s .at .used) ++ (s .word ∷ (0 + 2 ^ 32 * 0) ∷ (s .child + 2 ^ 32 * p .names) ∷ 0 ∷ [])
+              → firstNodes N2 (s .at .used + 1) ≡ firstNodes N1 (s .at .used) ++ (s .word ∷ (0 + halfWord * 0) ∷ (s .child + halfWord * p .names) ∷ 0 ∷ [])
               → NodeIn bs lm lx (grammarOf T) left class p N M X q₀ N2 M1 X1
           node-done a N2 b v =
               record {
@@ -384,8 +384,8 @@ module _ (T : List ℕ) {bs : Bits} {lm lx : ℕ} {G : Grammar} {left : ℕ} {f�
   there : Went bs lm lx (nodeRun lx G left) f₀ (nodesThen (s .n) (r .a) (r .w) (formOf T d 1 (r .b))) s₀ N₀ M₀ X₀ s N M X
   there = at-op T depth w d q r e 3 o
 
-  sp : Spans (formOf T d 1 (r .b)) (60 - s .shift)
-  sp = spans-nodes (s .n) (r .a) (r .w) (formOf T d 1 (r .b)) (60 - s .shift) (there .spans)
+  sp : Spans (formOf T d 1 (r .b)) (choicesWide - s .shift)
+  sp = spans-nodes (s .n) (r .a) (r .w) (formOf T d 1 (r .b)) (choicesWide - s .shift) (there .spans)
 
   pub nodes-on : s' .at .why ≡ 0 → Went bs lm lx (nodeRun lx G left) f₀ (formOf T d (s' .n) (s' .form)) s₀ N₀ M₀ X₀ s' N' M' X'
   nodes-on z =

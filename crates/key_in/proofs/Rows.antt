@@ -6,12 +6,12 @@ use Prim.Native.Nat.{ℕ, zero, suc, _+_, _-_, _≤_}
 use native.Mathlib.Omega.{arith}
 use lib.Dec.{leb, ltb}
 use Rattle.keys.specs.Form.{Form, never, one, word, choose, both, child, Grammar, isNever}
-use Rattle.keys.specs.Limits.{countWidth, tagWide}
+use Rattle.keys.specs.Limits.{newest, countWidth, tagWide, choicesWide}
 use Rattle.keys.specs.Table.{when, oneOf, times, flag, below, opt, needed, spelling, subject, list, args, rows, rowsOf, table, namedRow, typeParamRow, paramRow, literals, type, underRest}
 use Rattle.keys.specs.Key.{nodeTable}
 use Rattle.keys.specs.Lines.{inLine, lined}
 use Rattle.node_table.specs.Forms.{grammarOf, tableWords}
-use Rattle.node_table.specs.FormsLaws.{words-are, words-narrow}
+use Rattle.node_table.proofs.FormsLaws.{words-are, words-narrow}
 use Rattle.key_in.specs.Back.{Spans, Slim}
 use Rattle.key_in.proofs.Lines.{Fine, never-fine, one-fine, word-fine, child-fine, choose-fine, both-fine, line-spans, spans-more}
 
@@ -20,11 +20,11 @@ fine-more never-fine b l = never-fine
 fine-more one-fine b l = one-fine
 fine-more word-fine b l = word-fine
 fine-more child-fine b l = child-fine
-fine-more (choose-fine {w = w} m i k) b l = choose-fine {w = w} {n = b} m (omega arith) k
+fine-more (choose-fine {w = w} {x = x} m i k) b l = choose-fine {w = w} {x = x} {n = b} m (omega arith) k
 fine-more (both-fine x y i p q u v) b l = both-fine {n = b} x y (omega arith) p q u v
 
-choose-at : {w : ℕ} {fs : ℕ → Form} (m : ℕ) → ((k : ℕ) → Fine (fs k) m) → Fine (choose w fs) (w + m)
-choose-at {w} m k = choose-fine {w = w} {n = w + m} m (omega arith) k
+choose-at : {w : ℕ} {fs : ℕ → Form} (m : ℕ) → ((k : ℕ) → Fine (fs k) m) → Fine (choose w 0 fs) (w + m)
+choose-at {w} m k = choose-fine {w = w} {x = 0} {n = w + m} m (omega arith) k
 
 both-at : {f g : Form} (a b : ℕ) → isNever f ≡ false → isNever g ≡ false → Fine f a → Fine g b → Fine (both f g) (a + b)
 both-at a b p q u v = both-fine {n = a + b} a b (omega arith) p q u v
@@ -93,12 +93,12 @@ mapped-fine =
     (both-at 0 4 refl refl word-fine
     (both-at 0 4 refl refl child-fine (both-at 1 3 refl refl opt-type-fine (both-at 2 1 refl refl (below-fine 2 4) opt-type-fine))))
 
-template-fine : Fine (choose 12 (λ n. both spelling (times n (both type spelling)))) 12
+template-fine : Fine (choose 12 0 (λ n. both spelling (times n (both type spelling)))) 12
 template-fine =
     choose-at 0
     (λ n. both-at 0 0 refl (times-some n (both type spelling)) word-fine (times-fine refl (both-at 0 0 refl refl child-fine word-fine) n))
 
-predicate-fine : Fine (choose 1 (oneOf (both subject (needed type) ∷ both subject (opt type) ∷ []))) 3
+predicate-fine : Fine (choose 1 0 (oneOf (both subject (needed type) ∷ both subject (opt type) ∷ []))) 3
 predicate-fine =
     choose-at 2
     (λ k. one-of-fine (more-fine (both-at 1 1 refl refl subject-fine (needed-fine {n = 0} child-fine))
@@ -109,7 +109,7 @@ import-fine =
     both-at 1 25 refl refl flag-fine
     (both-at 0 25 refl refl word-fine (both-at 12 13 refl refl (list-fine 12 0 refl word-fine) opt-args-fine))
 
-literal-fine : Fine (choose 3 (oneOf literals)) 3
+literal-fine : Fine (choose 3 0 (oneOf literals)) 3
 literal-fine =
     choose-at 0
     (λ k. one-of-fine
@@ -160,14 +160,14 @@ tag-small (suc (suc zero)) = omega arith
 tag-small (suc (suc (suc zero))) = omega arith
 tag-small (suc (suc (suc (suc c)))) = omega arith
 
-row-spans : (c t : ℕ) → Spans (lined nodeTable .row c t) (60 - lined nodeTable .tagWidth c)
+row-spans : (c t : ℕ) → Spans (lined nodeTable .row c t) (choicesWide - lined nodeTable .tagWidth c)
 row-spans c t =
-    spans-more (inLine (nodeTable .row c t) one) (54 + 0) (60 - nodeTable .tagWidth c) (omega (arith, tag-small c)) (line-spans (table-fine c t) one 0 tt)
+    spans-more (inLine (nodeTable .row c t) one) (54 + 0) (choicesWide - nodeTable .tagWidth c) (omega (arith, tag-small c)) (line-spans (table-fine c t) one 0 tt)
 
 -- The table of words keeps all that the code asks of it.
 pub words-slim : Slim (tableWords countWidth)
 words-slim =
     record {
       narrow = words-narrow;
-      rows = λ c t. subst (λ (G : Grammar). Spans (G .row c t) (60 - G .tagWidth c)) (sym (words-are countWidth)) (row-spans c t);
+      rows = λ c t. subst (λ (G : Grammar). Spans (G .row c t) (choicesWide - G .tagWidth c)) (sym (words-are newest)) (row-spans c t);
     }

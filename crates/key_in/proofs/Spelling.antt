@@ -4,9 +4,10 @@ use mathlib.Core.List.{List, [], _∷_, _++_}
 use Prim.Native.Nat.{ℕ, zero, suc, _+_, _-_, _*_, _/_, _^_, _≤_, _<_}
 use native.Mathlib.Omega.{arith}
 use lib.ListN.{length, take, drop}
+use Rattle.keys.specs.Limits.{halfWord}
 use Rattle.keys.specs.Bits.{Bits, takeField, bitsOfBytes}
 use Rattle.keys.specs.Form.{spelt, State, state, Result, got, stop, takeSpelling}
-use Rattle.keys.specs.BitsLaws.{length-bytes}
+use Rattle.keys.proofs.BitsLaws.{length-bytes}
 use Rattle.keys.specs.Words.{firstNames}
 use Rattle.keys.proofs.Cells.{name-roomy}
 use Rattle.fields.specs.Take.{answered, Copied}
@@ -70,7 +71,7 @@ module _ (key : List ℕ) (w : ℕ) (p : Pos) (M X : List ℕ) (h : Inside (bits
           spell-ends = omega (arith, spell-within)
 
           module _ (fewer : p .names < length M) (X' M' : List ℕ) (c : Copied (bitsOfBytes key) (p .bit + w) X (p .chars) n X')
-              (d : firstNames M' (p .names + 1) ≡ take (length M) (firstNames M (p .names) ++ ((p .chars * 2 ^ 32 + n) ∷ []))) where
+              (d : firstNames M' (p .names + 1) ≡ take (length M) (firstNames M (p .names) ++ ((p .chars * halfWord + n) ∷ []))) where
             got-is : takeSpelling w (stateAt bs lm lx p)
                 ≡ got (spelt (c .bytes)) (state (p .nodes) (lm - (p .names + 1)) (lx - p .chars - length (c .bytes)) (drop (p .bit + w + n * 8) bs))
             got-is =
@@ -82,4 +83,4 @@ module _ (key : List ℕ) (w : ℕ) (p : Pos) (M X : List ℕ) (h : Inside (bits
                 (record { why = 0; bit = p .bit + w + n * 8; nodes = p .nodes; used = p .used; names = p .names + 1; chars = p .chars + n }) M' X'
             spell-done a b =
                 spelling-good bs lm lx w p M X (c .bytes) n M' X' (c .many) (some-times n some) h (omega (arith, h .in-text)) fewer
-                (omega (arith, spell-ends, long)) got-is a b (d ∙ name-roomy M (p .names) (p .chars * 2 ^ 32 + n) fewer) (c .text)
+                (omega (arith, spell-ends, long)) got-is a b (d ∙ name-roomy M (p .names) (p .chars * halfWord + n) fewer) (c .text)

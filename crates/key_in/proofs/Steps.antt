@@ -11,17 +11,17 @@ use lib.ListN.{length, take, drop, length-drop}
 use lib.Seq.{drop-drop}
 use Rattle.keys.specs.Bits.{Bits, Field, short, field, takeField, Row, cut, row, ahead, afterByte, takeBytes}
 use Rattle.keys.specs.Form.{Value, spelt, Form, word, both, isNever, State, state, Result, got, stop, keep, takeLetters, takeLength, takeSpelling}
-use Rattle.keys.specs.Limits.{badKey, noSpace}
-use Rattle.keys.specs.Store.{Run, done, name, nameOf}
-use Rattle.keys.specs.StoreLaws.{_⊕_, join-join}
-use Rattle.keys.specs.BitsLaws.{take-whole, take-short, bytes-back, le-or-lt}
+use Rattle.keys.specs.Limits.{badKey, noSpace, halfWord}
+use Rattle.keys.specs.Store.{Run, done, name, nameOf, _⊕_}
+use Rattle.keys.proofs.StoreLaws.{join-join}
+use Rattle.keys.proofs.BitsLaws.{take-whole, take-short, bytes-back, le-or-lt}
 use Rattle.keys.specs.Words.{firstNodes, firstNames}
 use Rattle.keys.specs.Stored.{lettersIn, Base, Stored, Own}
-use Rattle.keys.specs.StoredLaws.{stored-same, own-same, stored-name, own-name}
+use Rattle.keys.proofs.StoredLaws.{stored-same, own-same, stored-name, own-name}
 use Rattle.fields.specs.Take.{answered}
 use Rattle.fields.specs.declared.take.TakenField.the-variants.{Number, Short}
 use Rattle.fields.proofs.Chunks.{Told, field-short, take-rest}
-use Rattle.node_table.specs.Forms.{formOf, spellingsThen, spellingIf}
+use Rattle.node_table.specs.Forms.{formOf, spellingsThen, spellingIf, tableMost}
 use Rattle.key_in.specs.Runs.{Ran, ran, halt, after, thenRun, asName, choiceRun, wholeRun, allowedRun, formRun}
 use Rattle.key_in.specs.Back.{stateAt, Inside, Named, NamesIn, SpellingIn, SpellingsIn, Picked, refusedAt, unpicked}
 use Rattle.key_in.specs.declared.back.Pos.{Pos}
@@ -243,7 +243,7 @@ module _ (bs : Bits) (lm lx w : ℕ) (p : Pos) (M X : List ℕ) where
   pub spelling-good : (s : List ℕ) (n : ℕ) (M' X' : List ℕ) → length s ≡ n → 1 ≤ n → Inside bs lm lx p → p .chars + n ≤ lx → p .names < lm → p .bit + w + n * 8 ≤ length bs
       → takeSpelling w (stateAt bs lm lx p) ≡ got (spelt s) (state (p .nodes) (lm - (p .names + 1)) (lx - p .chars - length s) (drop (p .bit + w + n * 8) bs))
       → length M' ≡ length M → length X' ≡ length X
-      → firstNames M' (p .names + 1) ≡ firstNames M (p .names) ++ ((p .chars * 2 ^ 32 + n) ∷ []) → take (p .chars + n) X' ≡ take (p .chars) X ++ s
+      → firstNames M' (p .names + 1) ≡ firstNames M (p .names) ++ ((p .chars * halfWord + n) ∷ []) → take (p .chars + n) X' ≡ take (p .chars) X ++ s
       → SpellingIn bs lm lx w p M X (record { why = 0; bit = p .bit + w + n * 8; nodes = p .nodes; used = p .used; names = p .names + 1; chars = p .chars + n }) M' X'
   spelling-good s n M' X' l one-up h room fewer key e a b c d g =
       let q : Pos = record { why = 0; bit = p .bit + w + n * 8; nodes = p .nodes; used = p .used; names = p .names + 1; chars = p .chars + n } in
@@ -273,7 +273,7 @@ module _ (bs : Bits) (lm lx w : ℕ) (p : Pos) (M X : List ℕ) where
               nodes = refl;
               stored =
                   λ B t N x. subst (λ (y : ℕ). Stored B (t ⊕ name (p .chars) s done) N M' X' (p .used) (p .names + 1) (p .chars + y)) l
-                  (stored-name s M' X' x (c ∙ ap (λ (y : ℕ). firstNames M (p .names) ++ ((p .chars * 2 ^ 32 + y) ∷ [])) (sym l)) (ap (λ (y : ℕ). take (p .chars + y) X') l ∙ d));
+                  (stored-name s M' X' x (c ∙ ap (λ (y : ℕ). firstNames M (p .names) ++ ((p .chars * halfWord + y) ∷ [])) (sym l)) (ap (λ (y : ℕ). take (p .chars + y) X') l ∙ d));
               own = λ B t x y z o. own-name (p .chars) s o;
             };
       }
@@ -307,7 +307,7 @@ module _ (bs : Bits) (T : List ℕ) (steps w : ℕ) (fs : ℕ → Form) (bit : �
     picked-never u e =
         picked-bad (λ n k m K. ap (wholeRun (state n k m (drop bit bs)) fs K) (o .is) ∙ ap (allowedRun (state n k m (drop bit bs)) K t (drop (bit + w) bs)) e) u
 
-    pub picked-to : (form n : ℕ) → isNever (fs t) ≡ false → fs t ≡ formOf T steps n form → form < 2 ^ 32 → n < 2 ^ 32
+    pub picked-to : (form n : ℕ) → isNever (fs t) ≡ false → fs t ≡ formOf T steps n form → form < tableMost → n < tableMost
         → Picked bs T steps w fs bit (record { why = 0; bit = bit + w; number = t; form = form; n = n })
     picked-to form n e q a b =
         record {

@@ -8,16 +8,17 @@ use native.Mathlib.Omega.{arith}
 use lib.Arith.{digits-lt}
 use lib.Pow.{pow-add, pow-mono}
 use lib.ListN.{length, set, drop, length-set, length-drop}
+use Rattle.keys.specs.Limits.{choicesWide}
 use Rattle.keys.specs.Bits.{Bits}
 use Rattle.keys.specs.Form.{Form, never, one, word, choose, both, child, Grammar, State, state}
-use Rattle.keys.specs.Store.{Run, done, chose, name, kid}
-use Rattle.keys.specs.StoreLaws.{_⊕_, join-done, join-join}
+use Rattle.keys.specs.Store.{Run, done, chose, name, kid, _⊕_}
+use Rattle.keys.proofs.StoreLaws.{join-done, join-join}
 use Rattle.keys.specs.Stored.{Base, base, Stored, Own}
-use Rattle.keys.specs.StoredLaws.{stored-same, own-same, stored-choice, own-choice, kid-first, kid-next, own-first, own-next}
-use Rattle.node_table.specs.Forms.{formBy, formOf, leads, entryOf, spellingsThen, nodesThen, spellingIf}
+use Rattle.keys.proofs.StoredLaws.{stored-same, own-same, stored-choice, own-choice, kid-first, kid-next, own-first, own-next}
+use Rattle.node_table.specs.Forms.{formBy, formOf, leads, entryOf, spellingsThen, nodesThen, spellingIf, tableMost}
 use Rattle.node_table.specs.declared.forms.Row.{Row}
 use Rattle.key_in.specs.Runs.{Ran, ran, halt, after, thenRun, formRun, nodeRun}
-use Rattle.key_in.specs.Back.{stateAt, Inside, Steady, Housed, Spans, Sized, refusedAt, movedTo, withChild, onward, atBit, chosen, Named, NamesIn, SpellingIn, SpellingsIn, Picked, Went, PlainIn, Grown, NodeIn, Linked, AfterIn, NodesIn}
+use Rattle.key_in.specs.Back.{stateAt, Inside, Steady, Housed, Spans, Sized, refusedAt, fillAt, withChild, fillOn, atBit, chosen, Named, NamesIn, SpellingIn, SpellingsIn, Picked, Went, PlainIn, Grown, NodeIn, Linked, AfterIn, NodesIn}
 use Rattle.key_in.specs.declared.back.Pos.{Pos}
 use Rattle.key_in.specs.declared.back.Fill.{Fill}
 use Rattle.key_in.specs.declared.back.Pick.{Pick}
@@ -30,15 +31,15 @@ pack-lt x a y b f g =
     subst (λ (i : ℕ). i < 2 ^ (a + b)) (add-comm (y * 2 ^ a) x ∙ ap (λ (i : ℕ). x + i) (mul-comm y (2 ^ a)))
     (subst (λ (i : ℕ). y * 2 ^ a + x < i) (mul-comm (2 ^ b) (2 ^ a) ∙ sym (pow-add 2 a b)) (digits-lt g f))
 
-pub pack-fits : (x a y b p : ℕ) → x < 2 ^ a → y < 2 ^ b → a + b ≤ 60 → p ≡ 2 ^ a → (p * y < 2 ^ 60) × (x + p * y < 2 ^ 61)
+pub pack-fits : (x a y b p : ℕ) → x < 2 ^ a → y < 2 ^ b → a + b ≤ choicesWide → p ≡ 2 ^ a → (p * y < 2 ^ choicesWide) × (x + p * y < 2 ^ 61)
 pack-fits x a y b p f g h e =
     let q : y * 2 ^ a + x < 2 ^ b * 2 ^ a = digits-lt g f in
-    let m : 2 ^ b * 2 ^ a ≤ 2 ^ 60 = subst (λ (i : ℕ). i ≤ 2 ^ 60) (pow-add 2 a b ∙ mul-comm (2 ^ a) (2 ^ b)) (pow-mono {j = 60} h) in
+    let m : 2 ^ b * 2 ^ a ≤ 2 ^ choicesWide = subst (λ (i : ℕ). i ≤ 2 ^ choicesWide) (pow-add 2 a b ∙ mul-comm (2 ^ a) (2 ^ b)) (pow-mono {j = choicesWide} h) in
     let n : p * y ≡ y * 2 ^ a = ap (λ (i : ℕ). i * y) e ∙ mul-comm (2 ^ a) y in
     (omega arith, omega arith)
 
 module _ (s : Fill) (c : Pick) (w : ℕ) where
-  pub refuses : (p : Pos) (r : Fill) → (c .why ≡ 0 → ⊥) → p ≡ refusedAt 10 (s .at .bit) → r ≡ movedTo s p
+  pub refuses : (p : Pos) (r : Fill) → (c .why ≡ 0 → ⊥) → p ≡ refusedAt 10 (s .at .bit) → r ≡ fillAt s p
       → ((c .why ≡ 0 → ⊥) → (r .at .why ≡ 10) × (r .at .bit ≡ s .at .bit)) × (c .why ≡ 0 → r ≡ chosen s c w)
   refuses p r z e i = ((λ _. (ap (λ (x : Fill). x .at .why) i ∙ ap (λ (x : Pos). x .why) e, ap (λ (x : Fill). x .at .bit) i ∙ ap (λ (x : Pos). x .bit) e)), λ o. absurd (z o))
 
@@ -78,7 +79,7 @@ pub steady-as : {bs : Bits} {lm lx lm' lx' : ℕ} {s : Fill} → Steady bs lm lx
 steady-as {bs} {lm} {lx} {lm'} {lx'} {s} h a b = subst₂ (λ (x y : ℕ). Steady bs x y s) (sym a) (sym b) h
 
 module _ (bs : Bits) (lm lx : ℕ) (Y : ℕ → State → Ran) where
-  pub went-none : (f : Form) (s : Fill) (N M X : List ℕ) → Steady bs lm lx s → Spans f (60 - s .shift) → Went bs lm lx Y f f s N M X s N M X
+  pub went-none : (f : Form) (s : Fill) (N M X : List ℕ) → Steady bs lm lx s → Spans f (choicesWide - s .shift) → Went bs lm lx Y f f s N M X s N M X
   went-none f s N M X h z =
       record {
         steady = h;
@@ -119,7 +120,7 @@ module _ (bs : Bits) (lm lx : ℕ) (Y : ℕ → State → Ran) where
 
   -- Names alone are a step.
   pub names-went : {f g : Form} (s : Fill) {M X : List ℕ} (q : Pos) {M' X' : List ℕ} → NamesIn bs lm lx f g (s .at) M X q M' X' → q .why ≡ 0 → Steady bs lm lx s
-      → Spans g (60 - s .shift) → (form n : ℕ) → form < 2 ^ 32 → n < 2 ^ 32 → (N : List ℕ) → Went bs lm lx Y f g s N M X (onward s q form n) N M' X'
+      → Spans g (choicesWide - s .shift) → (form n : ℕ) → form < tableMost → n < tableMost → (N : List ℕ) → Went bs lm lx Y f g s N M X (fillOn s q form n) N M' X'
   names-went s q d z h sp form n a b N =
       let l = d .left z in
       record {
@@ -137,9 +138,9 @@ module _ (bs : Bits) (lm lx : ℕ) (Y : ℕ → State → Ran) where
       }
 
   -- The walk may be told another form to come.
-  pub went-onward : {f g : Form} {s q : Fill} {N M X N' M' X' : List ℕ} → Went bs lm lx Y f g s N M X q N' M' X' → (form n : ℕ) → form < 2 ^ 32 → n < 2 ^ 32
-      → Went bs lm lx Y f g s N M X (onward q (q .at) form n) N' M' X'
-  went-onward d form n a b =
+  pub went-fillOn : {f g : Form} {s q : Fill} {N M X N' M' X' : List ℕ} → Went bs lm lx Y f g s N M X q N' M' X' → (form n : ℕ) → form < tableMost → n < tableMost
+      → Went bs lm lx Y f g s N M X (fillOn q (q .at) form n) N' M' X'
+  went-fillOn d form n a b =
       let h = d .steady in
       record {
         steady = record { ok = h .ok; inside = h .inside; small = h .small; narrow = h .narrow; in-table = a; few = b };
@@ -158,15 +159,15 @@ module _ (bs : Bits) (lm lx : ℕ) (Y : ℕ → State → Ran) where
 -- ---- A step that goes into no child
 
 module _ (bs : Bits) (lm lx : ℕ) (T : List ℕ) (steps : ℕ) (r : Row) (s : Fill) (h : Steady bs lm lx s) (z : Sized r)
-    (y : Spans (formBy T (formOf T steps) (s .n) (entryOf r) (r .op)) (60 - s .shift)) where
+    (y : Spans (formBy T (formOf T steps) (s .n) (entryOf r) (r .op)) (choicesWide - s .shift)) where
   abbrev F : Form
   F = formBy T (formOf T steps) (s .n) (entryOf r) (r .op)
 
   at-op : (o : ℕ) → r .op ≡ o → F ≡ formBy T (formOf T steps) (s .n) (entryOf r) o
   at-op o e = ap (formBy T (formOf T steps) (s .n) (entryOf r)) e
 
-  names-plain : (f : Form) (n : ℕ) → F ≡ f → n < 2 ^ 32 → Spans (formOf T steps n (r .b)) (60 - s .shift) → (M X : List ℕ) (q : Pos) (M' X' : List ℕ)
-      → NamesIn bs lm lx f (formOf T steps n (r .b)) (s .at) M X q M' X' → PlainIn bs lm lx T steps r s M X (onward s q (r .b) n) M' X'
+  names-plain : (f : Form) (n : ℕ) → F ≡ f → n < tableMost → Spans (formOf T steps n (r .b)) (choicesWide - s .shift) → (M X : List ℕ) (q : Pos) (M' X' : List ℕ)
+      → NamesIn bs lm lx f (formOf T steps n (r .b)) (s .at) M X q M' X' → PlainIn bs lm lx T steps r s M X (fillOn s q (r .b) n) M' X'
   names-plain f n e l sp M X q M' X' d =
       record {
         names-same = d .names-same;
@@ -174,42 +175,42 @@ module _ (bs : Bits) (lm lx : ℕ) (T : List ℕ) (steps : ℕ) (r : Row) (s : F
         in-key = d .in-key;
         stopped = λ o Y. ap (λ (x : Form). formRun lx Y x (stateAt bs lm lx (s .at))) e ∙ d .stopped o Y;
         went =
-            λ o Y N. subst (λ (x : Form). Went bs lm lx Y x (formOf T steps n (r .b)) s N M X (onward s q (r .b) n) N M' X') (sym e)
+            λ o Y N. subst (λ (x : Form). Went bs lm lx Y x (formOf T steps n (r .b)) s N M X (fillOn s q (r .b) n) N M' X') (sym e)
             (names-went bs lm lx Y s q d o h sp (r .b) n (z .b) l N);
       }
 
   pub plain-words : r .op ≡ 2 → (M X : List ℕ) (q : Pos) (M' X' : List ℕ) → SpellingsIn bs lm lx (r .w) (s .n) (s .at) M X q M' X'
-      → PlainIn bs lm lx T steps r s M X (onward s q (r .b) 1) M' X'
+      → PlainIn bs lm lx T steps r s M X (fillOn s q (r .b) 1) M' X'
   plain-words e M X q M' X' d =
       names-plain (spellingsThen (s .n) (r .w) (formOf T steps 1 (r .b))) 1 (at-op 2 e) (omega arith)
-      (spans-words (s .n) (r .w) (formOf T steps 1 (r .b)) (60 - s .shift) (subst (λ (x : Form). Spans x (60 - s .shift)) (at-op 2 e) y)) M X q M' X' (d (formOf T steps 1 (r .b)))
+      (spans-words (s .n) (r .w) (formOf T steps 1 (r .b)) (choicesWide - s .shift) (subst (λ (x : Form). Spans x (choicesWide - s .shift)) (at-op 2 e) y)) M X q M' X' (d (formOf T steps 1 (r .b)))
 
   pub plain-word : r .op ≡ 4 → (M X : List ℕ) (q : Pos) (M' X' : List ℕ) → SpellingIn bs lm lx (r .w) (s .at) M X q M' X'
-      → PlainIn bs lm lx T steps r s M X (onward s q (r .b) (s .n)) M' X'
+      → PlainIn bs lm lx T steps r s M X (fillOn s q (r .b) (s .n)) M' X'
   plain-word e M X q M' X' d =
       names-plain (both (word (r .w)) (formOf T steps (s .n) (r .b))) (s .n) (at-op 4 e) (h .few)
-      (subst (λ (x : Form). Spans x (60 - s .shift)) (at-op 4 e) y) M X q M' X' (d (formOf T steps (s .n) (r .b)))
+      (subst (λ (x : Form). Spans x (choicesWide - s .shift)) (at-op 4 e) y) M X q M' X' (d (formOf T steps (s .n) (r .b)))
 
   -- A choice.
   module _ (k : 5 ≤ r .op) where
     abbrev fs : ℕ → Form
     fs = leads T (formOf T steps) (entryOf r) (r .op - 5)
 
-    by-op : (o : ℕ) → 5 ≤ o → formBy T (formOf T steps) (s .n) (entryOf r) o ≡ choose (r .w) (leads T (formOf T steps) (entryOf r) (o - 5))
+    by-op : (o : ℕ) → 5 ≤ o → formBy T (formOf T steps) (s .n) (entryOf r) o ≡ choose (r .w) 0 (leads T (formOf T steps) (entryOf r) (o - 5))
     by-op zero l = absurd (omega arith)
     by-op (suc zero) l = absurd (omega arith)
     by-op (suc (suc zero)) l = absurd (omega arith)
     by-op (suc (suc (suc zero))) l = absurd (omega arith)
     by-op (suc (suc (suc (suc zero)))) l = absurd (omega arith)
-    by-op (suc (suc (suc (suc (suc o))))) l = let e : o ≡ suc (suc (suc (suc (suc o)))) - 5 = omega arith in ap (λ (x : ℕ). choose (r .w) (leads T (formOf T steps) (entryOf r) x)) e
+    by-op (suc (suc (suc (suc (suc o))))) l = let e : o ≡ suc (suc (suc (suc (suc o)))) - 5 = omega arith in ap (λ (x : ℕ). choose (r .w) 0 (leads T (formOf T steps) (entryOf r) x)) e
 
-    is-choice : F ≡ choose (r .w) fs
+    is-choice : F ≡ choose (r .w) 0 fs
     is-choice = by-op (r .op) k
 
-    spanned : Spans (choose (r .w) fs) (60 - s .shift)
-    spanned = subst (λ (x : Form). Spans x (60 - s .shift)) is-choice y
+    spanned : Spans (choose (r .w) 0 fs) (choicesWide - s .shift)
+    spanned = subst (λ (x : Form). Spans x (choicesWide - s .shift)) is-choice y
 
-    pub choice-fits : s .shift + r .w ≤ 60
+    pub choice-fits : s .shift + r .w ≤ choicesWide
     choice-fits = omega (arith, spanned .0, h .narrow)
 
     module _ (c : Pick) (d : Picked bs T steps (r .w) (leads T (formOf T steps) (entryOf r) (r .op - 5)) (s .at .bit) c) (M X : List ℕ) where
@@ -229,7 +230,7 @@ module _ (bs : Bits) (lm lx : ℕ) (T : List ℕ) (steps : ℕ) (r : Row) (s : F
         g : Form
         g = formOf T steps (c .n) (c .form)
 
-        less : (i j : ℕ) → 60 - i - j ≡ 60 - (i + j)
+        less : (i j : ℕ) → choicesWide - i - j ≡ choicesWide - (i + j)
         less i j = omega arith
 
         choice-went : Went bs lm lx Y F (formOf T steps (c .n) (c .form)) s N M X (chosen s c (r .w)) N M X
@@ -253,7 +254,7 @@ module _ (bs : Bits) (lm lx : ℕ) (T : List ℕ) (steps : ℕ) (r : Row) (s : F
                   };
               housed = λ x. record { above = x .above; nodes-fit = x .nodes-fit; in-nodes = x .in-nodes };
               spans =
-                  subst (λ (x : Form). Spans x (60 - (s .shift + r .w))) (d .to o)
+                  subst (λ (x : Form). Spans x (choicesWide - (s .shift + r .w))) (d .to o)
                   (subst (λ (x : ℕ). Spans (fs (c .number)) x) (less (s .shift) (r .w)) (spanned .1 (c .number)));
               base-same = refl;
               total = refl;
@@ -282,7 +283,7 @@ module _ (bs : Bits) (lm lx : ℕ) (T : List ℕ) (steps : ℕ) (r : Row) (s : F
           by (inl o) = subst (λ (x : Fill). PlainIn bs lm lx T steps r s M X x M X) (sym (b o)) (choice-good o)
           by (inr o) = choice-bad s' o (a o .0) (a o .1)
 
-  pub plain-never : r .op ≡ 0 → (p : Pos) (s' : Fill) → p ≡ refusedAt 10 (s .at .bit) → s' ≡ movedTo s p → (M X : List ℕ) → PlainIn bs lm lx T steps r s M X s' M X
+  pub plain-never : r .op ≡ 0 → (p : Pos) (s' : Fill) → p ≡ refusedAt 10 (s .at .bit) → s' ≡ fillAt s p → (M X : List ℕ) → PlainIn bs lm lx T steps r s M X s' M X
   plain-never e p s' a b M X =
       let why : s' .at .why ≡ 10 = ap (λ (x : Fill). x .at .why) b ∙ ap (λ (x : Pos). x .why) a in
       let bit : s' .at .bit ≡ s .at .bit = ap (λ (x : Fill). x .at .bit) b ∙ ap (λ (x : Pos). x .bit) a in
@@ -329,7 +330,7 @@ module _ (bs : Bits) (lm lx w : ℕ) (s : Fill) (M X : List ℕ) where
         names = λ g. subst (λ (x : ℕ). NamesIn bs lm lx (spellingIf x g) g (s .at) M X (s .at) M X) (sym e) (names-none bs lm lx g (s .at) M X z h);
       }
 
-  pub after-some : (w ≡ 0 → ⊥) → (p : Pos) (M' X' : List ℕ) → SpellingIn bs lm lx w (s .at) M X p M' X' → (q : Fill) → q ≡ movedTo s p → AfterIn bs lm lx w s M X q M' X'
+  pub after-some : (w ≡ 0 → ⊥) → (p : Pos) (M' X' : List ℕ) → SpellingIn bs lm lx w (s .at) M X p M' X' → (q : Fill) → q ≡ fillAt s p → AfterIn bs lm lx w s M X q M' X'
   after-some z p M' X' d q e =
       record { at = p; is = e; names = λ g. subst (λ (x : Form). NamesIn bs lm lx x g (s .at) M X p M' X') (if-spelled w g z) (d g) }
 

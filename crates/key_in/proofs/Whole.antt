@@ -4,19 +4,19 @@ use mathlib.Core.Bool.{Bool, true, false}
 use mathlib.Core.List.{List, [], _∷_, _++_, append-assoc, append-nil}
 use Prim.Native.Nat.{ℕ, zero, suc, _+_, _-_, _*_, _/_, _%_, _≤_, _<_}
 use native.Mathlib.Omega.{arith}
-use borrow.Author.Tests.{le-leb, lt-leb}
+use borrow.Author.Tests.{le-leb, lt-leb, ne-eqb}
 use lib.Dec.{leb, eqb}
 use lib.ListN.{length, take, drop}
 use Rattle.keys.specs.Bits.{Bits, Field, short, field, takeField, bitsOfBytes}
 use Rattle.keys.specs.Form.{Value, nothing, spelt, choice, pair, node, Form, never, choose, child, Grammar, isNever, nodes, names, letters, State, state, Result, got, stop, into, allowed, ifWhole, takeForm, takeNode}
-use Rattle.keys.specs.Limits.{longestKey, tallest, countWidth, recordWords, badKey, noSpace}
-use Rattle.keys.specs.Table.{oneOf, type, wholeKey}
+use Rattle.keys.specs.Limits.{longestKey, tallest, newest, countWidth, recordWords, badKey, noSpace}
+use Rattle.keys.specs.Table.{when, type, typeUnder, wholeKey}
 use Rattle.keys.specs.Placed.{bare, laid}
-use Rattle.keys.specs.Key.{padding, closed, taken, refused, placeOf, outcome, takeWhole, nodeTable, takeWithin, takeKey}
+use Rattle.keys.specs.Key.{padding, closed, taken, refused, refusalPlace, outcome, takeWhole, nodeTable, takeWithin, takeKey}
 use Rattle.keys.specs.Store.{Run, done, chose, name, kid, plant, under, called, records, namesIn, nodesOf, namesOf, textOf, filled, lent, takeBack}
 use Rattle.keys.specs.Store as store
-use Rattle.keys.specs.BitsLaws.{clash, length-bytes}
-use Rattle.keys.specs.StoreLaws.{under-plant, called-plant, length-textOf, bare-laid}
+use Rattle.keys.proofs.BitsLaws.{clash, length-bytes}
+use Rattle.keys.proofs.StoreLaws.{under-plant, called-plant, length-textOf, bare-laid}
 use Rattle.keys.specs.Words.{firstNodes, firstNames}
 use Rattle.keys.specs.Lines.{lined}
 use Rattle.keys.specs.Stored.{lettersIn, base, Stored}
@@ -24,7 +24,7 @@ use Rattle.fields.specs.Take.{answered}
 use Rattle.fields.specs.declared.take.TakenField.the-variants.{Number, Short}
 use Rattle.fields.proofs.Chunks.{Told, number-told, field-short}
 use Rattle.node_table.specs.Forms.{grammarOf, tableWords}
-use Rattle.node_table.specs.FormsLaws.{words-are}
+use Rattle.node_table.proofs.FormsLaws.{words-are}
 use Rattle.key_in.specs.Runs.{Ran, ran, halt, nodeRun}
 use Rattle.key_in.specs.Back.{stateAt, Inside, Slim, refusedAt, NodeIn, Asks, Grown, Ends, Held, WholeIn, Answers, told}
 use Rattle.key_in.specs.declared.back.Pos.{Pos}
@@ -74,19 +74,18 @@ node-is lm lx T e bs p z y h c =
     let d : lx ≡ lx - p .chars = omega arith in
     ap (λ (x : ℕ). runBy nodeTable (child c) x (takeNode nodeTable h c s)) (sym a) ∙ node-run lx nodeTable h c s (omega arith)
     ∙ sym (lined-run lx nodeTable 54 table-fine h c s)
-    ∙ ap (λ (G : Grammar). nodeRun lx G h c s) (sym (ap grammarOf e ∙ words-are countWidth))
+    ∙ ap (λ (G : Grammar). nodeRun lx G h c s) (sym (ap grammarOf e ∙ words-are newest))
     ∙ ap₂ (λ (i j : ℕ). nodeRun lx (grammarOf T) h c (state (p .nodes) i j (drop (p .bit) bs))) b d
 
 -- ---- The key
 
-place-zero : (b : Bool) → placeOf b 0 ≡ 0
+place-zero : (b : Bool) → refusalPlace b 0 ≡ 0
 place-zero true = refl
 place-zero false = refl
 
-other-edition : (e : ℕ) → (e ≡ 1 → ⊥) → isNever (oneOf (never ∷ type ∷ []) e) ≡ true
-other-edition zero h = refl
-other-edition (suc zero) h = absurd (h refl)
-other-edition (suc (suc e)) h = refl
+-- Another edition's number leads to nothing.
+other-edition : (e : ℕ) → (e ≡ 1 → ⊥) → isNever (typeUnder newest e) ≡ true
+other-edition e h = ap (λ (b : Bool). isNever (when b type)) (ne-eqb e 1 h)
 
 module _ (key : List ℕ) (n k m : ℕ) where
   abbrev bs : Bits
@@ -104,23 +103,23 @@ module _ (key : List ℕ) (n k m : ℕ) where
       (record { stopped = λ _. i ∙ ap (refused badKey) (sym (place-zero (eqb 10 noSpace))); held = λ z. absurd (omega arith) })
 
   pub whole-long : longestKey < length key → (q : Pos) → q ≡ refusedAt 10 0 → (N M Z : List ℕ) → WholeIn key n k m q N M Z
-  whole-long h q e N M Z = bad q e (ap (λ (b : Bool). takeWithin b n k m key) (lt-leb (length key) longestKey h)) N M Z
+  whole-long h q e N M Z = bad q e (ap (λ (b : Bool). takeWithin newest b n k m key) (lt-leb (length key) longestKey h)) N M Z
 
   module _ (h : length key ≤ longestKey) where
     within : takeKey n k m key ≡ outcome (length (bitsOfBytes key)) (closed (takeForm (takeNode nodeTable tallest) wholeKey (state n k m (bitsOfBytes key))))
-    within = ap (λ (b : Bool). takeWithin b n k m key) (le-leb (length key) longestKey h)
+    within = ap (λ (b : Bool). takeWithin newest b n k m key) (le-leb (length key) longestKey h)
 
     early : takeForm (takeNode nodeTable tallest) wholeKey (state n k m (bitsOfBytes key)) ≡ stop badKey (length (bitsOfBytes key)) → takeKey n k m key ≡ refused badKey 0
     early e =
         within ∙ ap (λ (y : Result). outcome (length (bitsOfBytes key)) (closed y)) e
-        ∙ ap (λ (x : ℕ). refused badKey (placeOf (eqb badKey noSpace) x)) (let z : length (bitsOfBytes key) - length (bitsOfBytes key) ≡ 0 = omega arith in z)
+        ∙ ap (λ (x : ℕ). refused badKey (refusalPlace (eqb badKey noSpace) x)) (let z : length (bitsOfBytes key) - length (bitsOfBytes key) ≡ 0 = omega arith in z)
         ∙ ap (refused badKey) (place-zero (eqb badKey noSpace))
 
     abbrev K : ℕ → Bits → Result
-    K t r = into (choice t) (takeForm (takeNode nodeTable tallest) (oneOf (never ∷ type ∷ []) t) (state n k m r))
+    K t r = into (choice t) (takeForm (takeNode nodeTable tallest) (typeUnder newest t) (state n k m r))
 
     pub whole-short : Short ≡ answered (takeField 4 (drop 0 (bitsOfBytes key))) → (q : Pos) → q ≡ refusedAt 10 0 → (N M Z : List ℕ) → WholeIn key n k m q N M Z
-    whole-short e q i N M Z = bad q i (early (ap (ifWhole S (oneOf (never ∷ type ∷ [])) K) (field-short (takeField 4 bs) e))) N M Z
+    whole-short e q i N M Z = bad q i (early (ap (ifWhole S (typeUnder newest) K) (field-short (takeField 4 bs) e))) N M Z
 
     module _ (e : ℕ) (i : Number e ≡ answered (takeField 4 (drop 0 (bitsOfBytes key)))) where
       t : Told (bitsOfBytes key) 0 4 e
@@ -130,8 +129,8 @@ module _ (key : List ℕ) (n k m : ℕ) where
       whole-four = omega (arith, t .within (omega arith), length-bytes key)
 
       in-edition : takeForm (takeNode nodeTable tallest) wholeKey (state n k m (bitsOfBytes key))
-          ≡ allowed (state n k m (bitsOfBytes key)) K e (drop (0 + 4) (bitsOfBytes key)) (isNever (oneOf (never ∷ type ∷ []) e))
-      in-edition = ap (ifWhole S (oneOf (never ∷ type ∷ [])) K) (t .is)
+          ≡ allowed (state n k m (bitsOfBytes key)) K e (drop (0 + 4) (bitsOfBytes key)) (isNever (typeUnder newest e))
+      in-edition = ap (ifWhole S (typeUnder newest) K) (t .is)
 
       pub whole-other : (e ≡ 1 → ⊥) → (q : Pos) → q ≡ refusedAt 10 0 → (N M Z : List ℕ) → WholeIn key n k m q N M Z
       whole-other z q j N M Z = bad q j (early (in-edition ∙ ap (allowed S K e (drop (0 + 4) bs)) (other-edition e z))) N M Z
@@ -141,7 +140,7 @@ module _ (key : List ℕ) (n k m : ℕ) where
         p = record { why = 0; bit = 4; nodes = n; used = 0; names = 0; chars = 0 }
 
         in-tree : takeForm (takeNode nodeTable tallest) wholeKey (state n k m (bitsOfBytes key)) ≡ into (choice 1) (takeNode nodeTable tallest 0 (state n k m (drop 4 (bitsOfBytes key))))
-        in-tree = in-edition ∙ ap (λ (x : ℕ). allowed S K x (drop (0 + 4) bs) (isNever (oneOf (never ∷ type ∷ []) x))) z
+        in-tree = in-edition ∙ ap (λ (x : ℕ). allowed S K x (drop (0 + 4) bs) (isNever (typeUnder newest x))) z
 
         pub whole-asks : n * 4 ≤ length N → Asks (bitsOfBytes key) (length N) (length M) (length Z) T 0 p
         whole-asks l =
@@ -169,7 +168,7 @@ module _ (key : List ℕ) (n k m : ℕ) where
                     λ _. within
                     ∙ ap (λ (y : Result). outcome (length bs) (closed y))
                     (in-tree ∙ ap (into (choice 1)) (was-stop nodeTable (child 0) (takeNode nodeTable tallest 0 (state n k m (drop 4 bs))) (q .why) (length bs - q .bit) (node-eq ∙ d .stopped o)))
-                    ∙ ap (λ (x : ℕ). refused (q .why) (placeOf (eqb (q .why) noSpace) x)) (back-to (q .bit) (d .in-key));
+                    ∙ ap (λ (x : ℕ). refused (q .why) (refusalPlace (eqb (q .why) noSpace) x)) (back-to (q .bit) (d .in-key));
                 held = λ j. absurd (o j);
               }
 
@@ -192,7 +191,7 @@ module _ (key : List ℕ) (n k m : ℕ) where
                 (record {
                   stopped =
                       λ _. in-padding ∙ ap (outcome (length bs)) (f .stopped (omega (arith, length-bytes key)) (choice 1 tree))
-                      ∙ ap (λ (x : ℕ). refused badKey (placeOf (eqb badKey noSpace) x)) (back-to r (f .inside));
+                      ∙ ap (λ (x : ℕ). refused badKey (refusalPlace (eqb badKey noSpace) x)) (back-to r (f .inside));
                   held = λ y. absurd (omega arith);
                 })
 
@@ -240,7 +239,7 @@ module _ (key : List ℕ) (n k m : ℕ) where
 
 module _ (key : List ℕ) (a b c : ℕ) (q : Pos) (N M X : List ℕ) (w : WholeIn key (a / recordWords) b c q N M X)
     (la : length N ≡ a) (lb : length M ≡ b) (lc : length X ≡ c) where
-  pub call-refused : (q .why ≡ 0 → ⊥) → (place : ℕ) → place ≡ placeOf (eqb (q .why) noSpace) (q .bit) → (N' M' X' : List ℕ)
+  pub call-refused : (q .why ≡ 0 → ⊥) → (place : ℕ) → place ≡ refusalPlace (eqb (q .why) noSpace) (q .bit) → (N' M' X' : List ℕ)
       → N' ≡ filled (length N) (take 0 N) → M' ≡ filled (length M) (take 0 M) → X' ≡ filled (length X) (take 0 X) → Answers (takeBack key a b c) (Refused (q .why) place) N' M' X'
   call-refused o place e N' M' X' i j k =
       let z = ap (lent a b c) (w .stopped o) in

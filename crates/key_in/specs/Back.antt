@@ -6,16 +6,15 @@ use Prim.Native.Nat.{ℕ, _+_, _-_, _*_, _%_, _^_, _≤_, _<_}
 use lib.Dec.{eqb}
 use lib.ListN.{length, take, drop}
 use Rattle.keys.specs.Bits.{Bits}
-use Rattle.keys.specs.Form.{Value, spelt, nodes, names, letters, Form, never, one, word, choose, both, child, Grammar, State, state, Result, got, stop, takeSpelling}
-use Rattle.keys.specs.Limits.{badKey, noSpace, widest}
+use Rattle.keys.specs.Form.{Value, spelt, nodes, names, letters, Form, never, one, word, choose, both, child, Grammar, State, state, Result, got, stop, takeSpelling, wider}
+use Rattle.keys.specs.Limits.{recordWords, badKey, noSpace, widest, choicesWide}
 use Rattle.keys.specs.Placed.{laid}
-use Rattle.keys.specs.Key.{padding, taken, refused, placeOf, takeKey}
-use Rattle.keys.specs.Store.{Run, done, chose, name, kid, under, called, packed, firstKid, records, nameOf, namesIn, nodesOf, namesOf, textOf, TakenBack}
+use Rattle.keys.specs.Key.{padding, taken, refused, refusalPlace, takeKey}
+use Rattle.keys.specs.Store.{Run, done, chose, name, kid, under, called, packed, firstKid, records, nameOf, namesIn, nodesOf, namesOf, textOf, TakenBack, _⊕_, span}
 use Rattle.keys.specs.Store as store
-use Rattle.keys.specs.StoreLaws.{_⊕_, span}
 use Rattle.keys.specs.Words.{firstNodes, firstNames}
 use Rattle.keys.specs.Stored.{Base, base, Stored, Own}
-use Rattle.node_table.specs.Forms.{formOf, formBy, leads, entryAt, classAt, grammarOf, entryOf, spellingsThen, nodesThen, spellingIf, Narrow}
+use Rattle.node_table.specs.Forms.{formOf, formBy, leads, entryAt, classAt, grammarOf, entryOf, spellingsThen, nodesThen, spellingIf, Narrow, tableMost}
 use Rattle.node_table.specs.declared.forms.Row.{Row}
 use Rattle.key_in.specs.Runs.{Ran, ran, halt, after, choiceRun, formRun, nodeRun}
 use Rattle.key_in.specs.declared.back.Pos.{Pos}
@@ -43,51 +42,51 @@ pub record Steady (bs : Bits) (lm lx : ℕ) (s : Fill) : Type 0 where
   pub ok : s .at .why ≡ 0
   pub inside : Inside bs lm lx (s .at)
   pub small : s .word < 2 ^ s .shift
-  pub narrow : s .shift ≤ 60
-  pub in-table : s .form < 2 ^ 32
-  pub few : s .n < 2 ^ 32
+  pub narrow : s .shift ≤ choicesWide
+  pub in-table : s .form < tableMost
+  pub few : s .n < tableMost
 
 -- The same of its nodes, of which there are ln words: one is kept for the node itself.
 pub record Housed (ln : ℕ) (s : Fill) : Type 0 where
   pub above : s .base ≤ s .at .used
-  pub nodes-fit : (s .at .used + s .at .nodes + 1) * 4 ≤ ln
-  pub in-nodes : s .child * 4 ≤ ln
+  pub nodes-fit : (s .at .used + s .at .nodes + 1) * recordWords ≤ ln
+  pub in-nodes : s .child * recordWords ≤ ln
 
 -- How many bits the choices of a form in line have: at most n.
 abbrev pub Spans : Form → ℕ → Type 0
 Spans never n = Unit {0}
 Spans one n = Unit {0}
 Spans (word w) n = Unit {0}
-Spans (choose w fs) n = (w ≤ n) × ((k : ℕ) → Spans (fs k) (n - w))
+Spans (choose w x fs) n = (wider w x ≤ n) × ((k : ℕ) → Spans (fs k) (n - wider w x))
 Spans (both f g) n = Spans g n
 Spans (child c) n = Unit {0}
 
 -- The table's choices fit: each in 24 bits, all of a node's in 60.
 pub record Slim (T : List ℕ) : Type 0 where
   pub narrow : Narrow T
-  pub rows : (c t : ℕ) → Spans (grammarOf T .row c t) (60 - classAt T c .w)
+  pub rows : (c t : ℕ) → Spans (grammarOf T .row c t) (choicesWide - classAt T c .w)
 
 -- What a row that was read has: widths to 24 bits, numbers that fit the table.
 pub record Sized (r : Row) : Type 0 where
   pub w : r .w ≤ widest
-  pub a : r .a < 2 ^ 32
-  pub b : r .b < 2 ^ 32
+  pub a : r .a < tableMost
+  pub b : r .b < tableMost
 
 -- A place that is refused.
 abbrev pub refusedAt : (why bit : ℕ) → Pos
 refusedAt why bit = record { why = why; bit = bit; nodes = 0; used = 0; names = 0; chars = 0 }
 
 -- The walk of a node at another place.
-abbrev pub movedTo : Fill → Pos → Fill
-movedTo s p = record { at = p; base = s .base; word = s .word; shift = s .shift; child = s .child; form = s .form; n = s .n }
+abbrev pub fillAt : Fill → Pos → Fill
+fillAt s p = record { at = p; base = s .base; word = s .word; shift = s .shift; child = s .child; form = s .form; n = s .n }
 
 -- The walk at another place, with another first child.
 abbrev pub withChild : Fill → Pos → ℕ → Fill
 withChild s p x = record { at = p; base = s .base; word = s .word; shift = s .shift; child = x; form = s .form; n = s .n }
 
 -- The walk at another place, with another form to come.
-abbrev pub onward : Fill → Pos → (form n : ℕ) → Fill
-onward s p f n = record { at = p; base = s .base; word = s .word; shift = s .shift; child = s .child; form = f; n = n }
+abbrev pub fillOn : Fill → Pos → (form n : ℕ) → Fill
+fillOn s p f n = record { at = p; base = s .base; word = s .word; shift = s .shift; child = s .child; form = f; n = n }
 
 -- A place further on in the key.
 abbrev pub atBit : Pos → ℕ → Pos
@@ -149,8 +148,8 @@ pub record Picked (bs : Bits) (T : List ℕ) (steps w : ℕ) (fs : ℕ → Form)
   pub next : c .why ≡ 0 → c .bit ≡ bit + w
   pub inside : c .bit ≤ length bs
   pub to : c .why ≡ 0 → fs (c .number) ≡ formOf T steps (c .n) (c .form)
-  pub in-table : c .form < 2 ^ 32
-  pub few : c .n < 2 ^ 32
+  pub in-table : c .form < tableMost
+  pub few : c .n < tableMost
 
 -- ---- Steps inside a node
 
@@ -158,7 +157,7 @@ pub record Picked (bs : Bits) (T : List ℕ) (steps w : ℕ) (fs : ℕ → Form)
 pub record Went (bs : Bits) (lm lx : ℕ) (Y : ℕ → State → Ran) (f f' : Form) (s : Fill) (N M X : List ℕ) (s' : Fill) (N' M' X' : List ℕ) : Type 0 where
   pub steady : Steady bs lm lx s'
   pub housed : Housed (length N) s → Housed (length N') s'
-  pub spans : Spans f' (60 - s' .shift)
+  pub spans : Spans f' (choicesWide - s' .shift)
   pub base-same : s' .base ≡ s .base
   pub total : s' .at .used + s' .at .nodes ≡ s .at .used + s .at .nodes
   pub nodes-same : length N' ≡ length N
@@ -201,8 +200,8 @@ pub record NodeIn (bs : Bits) (lm lx : ℕ) (G : Grammar) (left c : ℕ) (p : Po
 -- What a node asks.
 pub record Asks (bs : Bits) (ln lm lx : ℕ) (T : List ℕ) (class : ℕ) (p : Pos) : Type 0 where
   pub inside : Inside bs lm lx p
-  pub nodes-fit : (p .used + p .nodes) * 4 ≤ ln
-  pub in-table : class < 2 ^ 32
+  pub nodes-fit : (p .used + p .nodes) * recordWords ≤ ln
+  pub in-table : class < tableMost
   pub slim : Slim T
 
 -- The walk after a child that stands last in the nodes: x is the first child now.
@@ -210,7 +209,7 @@ pub record Linked (N : List ℕ) (s : Fill) (p : Pos) (q : Fill) (N' : List ℕ)
   pub same : length N' ≡ length N
   pub child : ℕ
   pub is : q ≡ withChild s p child
-  pub small : child * 4 ≤ length N
+  pub small : child * recordWords ≤ length N
   pub grew : (B : Base) (t a : Run) (N₀ M₀ X₀ M X : List ℕ) → B .used ≡ s .base → length N₀ ≡ length N
       → Stored B t N₀ M₀ X₀ (s .at .used) (s .at .names) (s .at .chars) → Own B t (s .word) (s .shift) (s .child)
       → Stored (base N₀ M₀ X₀ (s .at .used) (s .at .names) (s .at .chars)) (kid 0 0 a done) N M X (p .used) (p .names) (p .chars)
@@ -219,7 +218,7 @@ pub record Linked (N : List ℕ) (s : Fill) (p : Pos) (q : Fill) (N' : List ℕ)
 -- The walk after the spelling that may follow a child.
 pub record AfterIn (bs : Bits) (lm lx w : ℕ) (s : Fill) (M X : List ℕ) (q : Fill) (M' X' : List ℕ) : Type 0 where
   pub at : Pos
-  pub is : q ≡ movedTo s at
+  pub is : q ≡ fillAt s at
   pub names : (g : Form) → NamesIn bs lm lx (spellingIf w g) g (s .at) M X at M' X'
 
 -- n nodes, a spelling after each if w > 0: refused as s' says, or gone on to the next form.
@@ -228,8 +227,8 @@ pub record NodesIn (bs : Bits) (lm lx : ℕ) (G : Grammar) (left : ℕ) (r : Row
   pub names-same : length M' ≡ length M
   pub text-same : length X' ≡ length X
   pub in-key : s' .at .bit ≤ length bs
-  pub stopped : (s' .at .why ≡ 0 → ⊥) → (g : Form) → Spans g (60 - s .shift) → formRun lx (nodeRun lx G left) (nodesThen (s .n) (r .a) (r .w) g) (stateAt bs lm lx (s .at)) ≡ halt (s' .at .why) (length bs - s' .at .bit)
-  pub went : s' .at .why ≡ 0 → (g : Form) → Spans g (60 - s .shift)
+  pub stopped : (s' .at .why ≡ 0 → ⊥) → (g : Form) → Spans g (choicesWide - s .shift) → formRun lx (nodeRun lx G left) (nodesThen (s .n) (r .a) (r .w) g) (stateAt bs lm lx (s .at)) ≡ halt (s' .at .why) (length bs - s' .at .bit)
+  pub went : s' .at .why ≡ 0 → (g : Form) → Spans g (choicesWide - s .shift)
       → (s' .form ≡ r .b) × (s' .n ≡ 1) × Went bs lm lx (nodeRun lx G left) (nodesThen (s .n) (r .a) (r .w) g) g s N M X s' N' M' X'
 
 -- ---- The whole key
@@ -254,7 +253,7 @@ pub record Held (key : List ℕ) (n k m : ℕ) (q : Pos) (N M X : List ℕ) : Ty
 
 -- A whole key: refused as q says, or taken.
 pub record WholeIn (key : List ℕ) (n k m : ℕ) (q : Pos) (N M X : List ℕ) : Type 0 where
-  pub stopped : (q .why ≡ 0 → ⊥) → takeKey n k m key ≡ refused (q .why) (placeOf (eqb (q .why) noSpace) (q .bit))
+  pub stopped : (q .why ≡ 0 → ⊥) → takeKey n k m key ≡ refused (q .why) (refusalPlace (eqb (q .why) noSpace) (q .bit))
   pub held : q .why ≡ 0 → Held key n k m q N M X
 
 -- ---- The call

@@ -4,10 +4,9 @@ use mathlib.Core.List.{List, [], _++_}
 use Prim.Native.Nat.{ℕ, zero, suc, _-_}
 use lib.ListN.{length}
 use Rattle.keys.specs.Bits.{Bits, Field, short, field, takeField}
-use Rattle.keys.specs.Form.{Value, nothing, spelt, choice, pair, node, Form, never, one, word, choose, both, child, Grammar, isNever, State, state, Result, got, stop, takeSpelling}
+use Rattle.keys.specs.Form.{Value, nothing, spelt, choice, pair, node, Form, never, one, word, choose, both, child, Grammar, isNever, State, state, Result, got, stop, takeSpelling, wider}
 use Rattle.keys.specs.Limits.{tooTall, noRoom, badKey}
-use Rattle.keys.specs.Store.{Run, done, chose, name, kid}
-use Rattle.keys.specs.StoreLaws.{_⊕_}
+use Rattle.keys.specs.Store.{Run, done, chose, name, kid, _⊕_}
 
 -- What taking comes to in the store: a run and what is left; or a refusal, its number and how many bits were left at its place.
 pub data Ran : Type 0 where
@@ -72,8 +71,8 @@ module _ (lx : ℕ) where
   formRun X never s = haltAt badKey s
   formRun X one s = ran done s
   formRun X (word w) s = asName (lx - s .textLeft) (takeSpelling w s)
-  formRun X (choose w fs) s =
-      choiceRun w fs s λ k r. after (chose w k done) (formRun X (fs k) (state (s .nodesLeft) (s .namesLeft) (s .textLeft) r))
+  formRun X (choose w x fs) s =
+      choiceRun w fs s λ k r. after (chose (wider w x) k done) (formRun X (fs k) (state (s .nodesLeft) (s .namesLeft) (s .textLeft) r))
   formRun X (both f g) s = thenRun (formRun X f s) λ q. formRun X g q
   formRun X (child c) s = X c s
 

@@ -4,12 +4,12 @@ ghost use mathlib.Core.Bool.{Bool};
 ghost use Prim.Native.Nat.{ℕ, _+_, _-_, _*_, _/_, _^_, _<_, _≤_};
 ghost use lib.Dec.{eqb};
 ghost use lib.ListN.{length};
-ghost use Rattle.keys.specs.Limits.{longestKey, recordWords, noSpace, widest};
+ghost use Rattle.keys.specs.Limits.{longestKey, recordWords, noSpace, widest, choicesWide};
 ghost use Rattle.keys.specs.Bits.{bitsOfBytes};
 ghost use Rattle.keys.specs.Form.{isNever};
-ghost use Rattle.keys.specs.Key.{placeOf};
+ghost use Rattle.keys.specs.Key.{refusalPlace};
 ghost use Rattle.keys.specs.Store.{takeBack};
-ghost use Rattle.node_table.specs.Forms.{formBy, formOf, leads, grammarOf, entryOf};
+ghost use Rattle.node_table.specs.Forms.{formBy, formOf, leads, grammarOf, entryOf, tableMost};
 ghost use Rattle.key_in.specs.Back as back;
 use crate::refusal::Refusal;
 use fields::take;
@@ -52,7 +52,7 @@ pub struct Pick {
 }
 
 fn slim(x: u32) -> usize
-    ensures { λ r. ⌜ (r ≡ x) × (r < 2 ^ 32) ⌝ }
+    ensures { λ r. ⌜ (r ≡ x) × (r < tableMost) ⌝ }
 {
     x as usize
 }
@@ -135,7 +135,7 @@ fn take_spellings(key: &[u8], names: &mut [u64], text: &mut [u8], w: usize, n: u
 
 // Whether the table has no form there, of so many steps.
 fn is_none(forms: &[u16], steps: usize, form: usize) -> bool
-    requires { ⌜ form < 2 ^ 32 ⌝ }
+    requires { ⌜ form < tableMost ⌝ }
     ensures { λ r. ⌜ ((n : ℕ) → 1 ≤ n → r ≡ isNever (formOf (now (forms .entry)) steps n form)) ⌝ }
 {
     if steps == 0 {
@@ -147,7 +147,7 @@ fn is_none(forms: &[u16], steps: usize, form: usize) -> bool
 
 // The same where the form's first step is done n times: done 0 times it is the form after it.
 fn is_never(forms: &[u16], steps: usize, n: usize, form: usize) -> bool
-    requires { ⌜ form < 2 ^ 32 ⌝ }
+    requires { ⌜ form < tableMost ⌝ }
     ensures { λ r. ⌜ r ≡ isNever (formOf (now (forms .entry)) steps n form) ⌝ }
 {
     if n != 0 {
@@ -182,7 +182,7 @@ fn no_pick(bit: usize) -> Pick
 
 // A field that chooses: 10 where it is cut short or leads to no form.
 fn take_choice(forms: &[u16], key: &[u8], steps: usize, r: Row, bit: usize) -> Pick
-    requires { ⌜ (length (now key) ≤ longestKey) × (bit ≤ length (now key) * 8) × (r .w ≤ widest) × (r .a < 2 ^ 32) × (r .b < 2 ^ 32) × (5 ≤ r .op) ⌝ }
+    requires { ⌜ (length (now key) ≤ longestKey) × (bit ≤ length (now key) * 8) × (r .w ≤ widest) × (r .a < tableMost) × (r .b < tableMost) × (5 ≤ r .op) ⌝ }
     ensures { λ c. ⌜ back.Picked (bitsOfBytes (now (key .entry))) (now (forms .entry)) steps (r .w) (leads (now (forms .entry)) (formOf (now (forms .entry)) steps) (entryOf r) (r .op - 5)) bit c ⌝ }
 {
     let taken = take::take_field(key, bit, r.w);
@@ -205,7 +205,7 @@ fn take_choice(forms: &[u16], key: &[u8], steps: usize, r: Row, bit: usize) -> P
 
 // The tag of a class: 10 where it is cut short or there is no such row.
 fn take_tag(forms: &[u16], key: &[u8], steps: usize, tags: Row, bit: usize) -> Pick
-    requires { ⌜ (length (now key) ≤ longestKey) × (bit ≤ length (now key) * 8) × (tags .w ≤ widest) × (tags .a < 2 ^ 32) ⌝ }
+    requires { ⌜ (length (now key) ≤ longestKey) × (bit ≤ length (now key) * 8) × (tags .w ≤ widest) × (tags .a < tableMost) ⌝ }
     ensures { λ c. ⌜ back.Picked (bitsOfBytes (now (key .entry))) (now (forms .entry)) steps (tags .w) (leads (now (forms .entry)) (formOf (now (forms .entry)) steps) (entryOf tags) 0) bit c ⌝ }
 {
     let taken = take::take_field(key, bit, tags.w);
@@ -228,15 +228,15 @@ fn take_tag(forms: &[u16], key: &[u8], steps: usize, tags: Row, bit: usize) -> P
 
 // A power of two.
 fn power(k: usize) -> u64
-    requires { ⌜ k ≤ 60 ⌝ }
-    ensures { λ r. ⌜ (r ≡ 2 ^ k) × (r ≤ 2 ^ 60) ⌝ }
+    requires { ⌜ k ≤ choicesWide ⌝ }
+    ensures { λ r. ⌜ (r ≡ 2 ^ k) × (r ≤ 2 ^ choicesWide) ⌝ }
 {
     1 << k
 }
 
 // The walk at another place.
 fn moved(s: Fill, at: Pos) -> Fill
-    ensures { λ r. ⌜ r ≡ back.movedTo s at ⌝ }
+    ensures { λ r. ⌜ r ≡ back.fillAt s at ⌝ }
 {
     Fill {
         at,
@@ -251,7 +251,7 @@ fn moved(s: Fill, at: Pos) -> Fill
 
 // The walk after a choice of w bits: its number joins those before it.
 fn choose(s: Fill, w: usize, c: Pick) -> Fill
-    requires { ⌜ (s .word < 2 ^ s .shift) × (s .shift + w ≤ 60) × (c .why ≡ 0 → c .number < 2 ^ w) ⌝ }
+    requires { ⌜ (s .word < 2 ^ s .shift) × (s .shift + w ≤ choicesWide) × (c .why ≡ 0 → c .number < 2 ^ w) ⌝ }
     ensures { λ r. ⌜ ((c .why ≡ 0 → ⊥) → (r .at .why ≡ 10) × (r .at .bit ≡ s .at .bit)) × (c .why ≡ 0 → r ≡ back.chosen s c w) ⌝ }
 {
     let p = s.at;
@@ -288,7 +288,7 @@ fn take_plain(
     r: Row,
     s: Fill,
 ) -> Fill
-    requires { ⌜ (length (now key) ≤ longestKey) × back.Steady (bitsOfBytes (now key)) (length (now names)) (length (now text)) s × back.Sized r × (r .op ≡ 1 → ⊥) × (r .op ≡ 3 → ⊥) × back.Spans (formBy (now forms) (formOf (now forms) steps) (s .n) (entryOf r) (r .op)) (60 - s .shift) ⌝ }
+    requires { ⌜ (length (now key) ≤ longestKey) × back.Steady (bitsOfBytes (now key)) (length (now names)) (length (now text)) s × back.Sized r × (r .op ≡ 1 → ⊥) × (r .op ≡ 3 → ⊥) × back.Spans (formBy (now forms) (formOf (now forms) steps) (s .n) (entryOf r) (r .op)) (choicesWide - s .shift) ⌝ }
     ensures { λ q. ⌜ back.PlainIn (bitsOfBytes (now (key .entry))) (length (now (names .entry))) (length (now (text .entry))) (now (forms .entry)) steps r s (now (names .entry)) (now (text .entry)) q (now (names .exit)) (now (text .exit)) ⌝ }
 {
     let op = r.op;
@@ -327,7 +327,7 @@ fn take_plain(
 
 // The walk after a child: it is the first, or the next of the child before it.
 fn link_child(nodes: &mut [u64], s: Fill, at: Pos) -> Fill
-    requires { ⌜ (s .base ≤ s .at .used) × (s .at .used < at .used) × (at .used * 4 ≤ length (now nodes)) × (s .child * 4 ≤ length (now nodes)) ⌝ }
+    requires { ⌜ (s .base ≤ s .at .used) × (s .at .used < at .used) × (at .used * recordWords ≤ length (now nodes)) × (s .child * recordWords ≤ length (now nodes)) ⌝ }
     ensures { λ q. ⌜ back.Linked (now (nodes .entry)) s at q (now (nodes .exit)) ⌝ }
 {
     let p = s.at;
@@ -557,7 +557,7 @@ pub enum Answer {
 
 // A refusal's place is its bit; that of 11 is 0.
 fn place_of(why: u32, bit: usize) -> usize
-    ensures { λ r. ⌜ r ≡ placeOf (eqb why noSpace) bit ⌝ }
+    ensures { λ r. ⌜ r ≡ refusalPlace (eqb why noSpace) bit ⌝ }
 {
     if why == Refusal::NO_SPACE {
         return 0;

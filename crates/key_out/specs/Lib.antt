@@ -1,3 +1,1 @@
 pub mod Out
-pub mod OutLaws
-pub mod KeyedLaws

@@ -3,11 +3,11 @@ ghost use mathlib.Core.Path.{_≡_};
 ghost use mathlib.Core.List.{List};
 ghost use Prim.Native.Nat.{ℕ, _*_, _≤_, _<_, _^_};
 ghost use lib.ListN.{length};
-ghost use Rattle.keys.specs.Limits.{widest};
+ghost use Rattle.keys.specs.Limits.{widest, halfWord};
 ghost use Rattle.keys.specs.Holds.{Spells};
 ghost use Rattle.fields.specs.Put.{far};
-ghost use Rattle.node_table.specs.Forms.{entryAt, grammarOf, IsRow, Narrow};
-ghost use Rattle.node_table.specs.Moves.{Spelled, Ready, Own, After, Begun, Noded};
+ghost use Rattle.node_table.specs.Forms.{entryAt, grammarOf, IsRow, Narrow, tableMost};
+ghost use Rattle.node_table.specs.Moves.{Spelled, Ready, OwnStep, After, Begun, Noded};
 ghost use Rattle.key_out.specs.Out.{keyBits, Keyed};
 use fields::put;
 use keys::store;
@@ -42,7 +42,7 @@ fn put_spelling(names: &[u64], text: &[u8], key: &mut [u8], w: usize, o: Mark) -
 // A step that is a choice.
 fn put_chosen(forms: &[u16], names: &[u64], text: &[u8], key: &mut [u8], r: Row, s: Walk) -> Walk
     requires { ⌜ Ready (length (now names)) (now key) s × IsRow (entryAt (now forms) (s .form)) r × (r .w ≤ widest) × (0 < s .steps) × (5 ≤ r .op) ⌝ }
-    ensures { λ q. ⌜ Own keyBits (now (forms .entry)) (Spells (now (names .entry)) (now (text .entry))) (length (now (names .entry))) 0 s (now (key .entry)) q (now (key .exit)) ⌝ }
+    ensures { λ q. ⌜ OwnStep keyBits (now (forms .entry)) (Spells (now (names .entry)) (now (text .entry))) (length (now (names .entry))) 0 s (now (key .entry)) q (now (key .exit)) ⌝ }
 {
     let c = moves::choice_of(s.word, r.w);
     let to = put::put_number(key, s.to, r.w, c.number as u32);
@@ -61,7 +61,7 @@ fn put_chosen(forms: &[u16], names: &[u64], text: &[u8], key: &mut [u8], r: Row,
 // A step that is no choice and goes into no child: a spelling, or on to the next form.
 fn put_said(forms: &[u16], names: &[u64], text: &[u8], key: &mut [u8], r: Row, s: Walk) -> Walk
     requires { ⌜ Ready (length (now names)) (now key) s × IsRow (entryAt (now forms) (s .form)) r × (r .w ≤ widest) × (0 < s .steps) × (r .op < 5) × (r .op ≡ 1 → ⊥) × (r .op ≡ 3 → s .n ≡ 0) ⌝ }
-    ensures { λ q. ⌜ Own keyBits (now (forms .entry)) (Spells (now (names .entry)) (now (text .entry))) (length (now (names .entry))) 0 s (now (key .entry)) q (now (key .exit)) ⌝ }
+    ensures { λ q. ⌜ OwnStep keyBits (now (forms .entry)) (Spells (now (names .entry)) (now (text .entry))) (length (now (names .entry))) 0 s (now (key .entry)) q (now (key .exit)) ⌝ }
 {
     let op = r.op;
     let n = s.n;
@@ -86,7 +86,7 @@ fn put_said(forms: &[u16], names: &[u64], text: &[u8], key: &mut [u8], r: Row, s
 // A step of a node that goes into no child.
 fn put_own(forms: &[u16], names: &[u64], text: &[u8], key: &mut [u8], r: Row, s: Walk) -> Walk
     requires { ⌜ Ready (length (now names)) (now key) s × IsRow (entryAt (now forms) (s .form)) r × (r .w ≤ widest) × (0 < s .steps) × (r .op ≡ 1 → ⊥) × (r .op ≡ 3 → s .n ≡ 0) ⌝ }
-    ensures { λ q. ⌜ Own keyBits (now (forms .entry)) (Spells (now (names .entry)) (now (text .entry))) (length (now (names .entry))) 0 s (now (key .entry)) q (now (key .exit)) ⌝ }
+    ensures { λ q. ⌜ OwnStep keyBits (now (forms .entry)) (Spells (now (names .entry)) (now (text .entry))) (length (now (names .entry))) 0 s (now (key .entry)) q (now (key .exit)) ⌝ }
 {
     if forms::CHOICE <= r.op {
         return put_chosen(forms, names, text, key, r, s);
@@ -104,7 +104,7 @@ fn after_child(
     s: Walk,
     o: Mark,
 ) -> Walk
-    requires { ⌜ (length (now key) * 8 ≤ far) × (o .to ≤ far) × (o .name ≤ length (now names)) × (w ≤ widest) × (s .child < 2 ^ 32) × (s .form < 2 ^ 32) × (0 < s .n) × (s .n < 2 ^ 32) × (s .steps < 2 ^ 32) ⌝ }
+    requires { ⌜ (length (now key) * 8 ≤ far) × (o .to ≤ far) × (o .name ≤ length (now names)) × (w ≤ widest) × (s .child < halfWord) × (s .form < tableMost) × (0 < s .n) × (s .n < tableMost) × (s .steps < tableMost) ⌝ }
     ensures { λ q. ⌜ After keyBits (now (nodes .entry)) (Spells (now (names .entry)) (now (text .entry))) (length (now (names .entry))) w 0 s o (now (key .entry)) q (now (key .exit)) ⌝ }
 {
     let next = store::next_of(nodes, s.child);
@@ -117,7 +117,7 @@ fn after_child(
 
 // A node's tag, and the walk behind it.
 fn put_tag(forms: &[u16], nodes: &[u64], key: &mut [u8], class: usize, at: usize, o: Mark) -> Walk
-    requires { ⌜ (length (now key) * 8 ≤ far) × (o .to ≤ far) × (class < 2 ^ 32) × (at < 2 ^ 32) × Narrow (now forms) ⌝ }
+    requires { ⌜ (length (now key) * 8 ≤ far) × (o .to ≤ far) × (class < tableMost) × (at < halfWord) × Narrow (now forms) ⌝ }
     ensures { λ q. ⌜ ((M X : List ℕ) → Begun keyBits (now (forms .entry)) (now (nodes .entry)) (Spells M X) 0 class at o (now (key .entry)) q (now (key .exit))) ⌝ }
 {
     let own = store::node_at(nodes, at);
@@ -148,7 +148,7 @@ fn put_node(
     at: usize,
     o: Mark,
 ) -> Mark
-    requires { ⌜ (length (now key) * 8 ≤ far) × (o .to ≤ far) × (o .name ≤ length (now names)) × (class < 2 ^ 32) × (at < 2 ^ 32) × Narrow (now forms) ⌝ }
+    requires { ⌜ (length (now key) * 8 ≤ far) × (o .to ≤ far) × (o .name ≤ length (now names)) × (class < tableMost) × (at < halfWord) × Narrow (now forms) ⌝ }
     ensures { λ r. ⌜ Noded keyBits (grammarOf (now (forms .entry))) (now (nodes .entry)) (Spells (now (names .entry)) (now (text .entry))) left 0 (length (now (names .entry))) class at (o .name) (o .to) (now (key .entry)) (r .name) (r .to) (now (key .exit)) ⌝ }
 {
     if left == 0 {
@@ -199,7 +199,7 @@ pub fn put_key(
     tall: usize,
     key: &mut [u8],
 ) -> usize
-    requires { ⌜ (length (now key) * 8 ≤ far) × (root < 2 ^ 32) ⌝ }
+    requires { ⌜ (length (now key) * 8 ≤ far) × (root < halfWord) ⌝ }
     ensures { λ r. ⌜ Keyed (now (nodes .entry)) (now (names .entry)) (now (text .entry)) root tall (length (now (key .entry))) r (now (key .exit)) ⌝ }
 {
     let forms = forms::words();

@@ -6,7 +6,7 @@ use native.Mathlib.Numerals.{add-one}
 use native.Mathlib.Omega.{arith}
 use lib.ListN.{length, take, drop, set, replicate, length-set, length-append, length-take, take-append-drop}
 use lib.Seq.{take-suc-set, take-all, take-set-le, length-take-le, set-out, take-length}
-use Rattle.keys.specs.Limits.{recordWords}
+use Rattle.keys.specs.Limits.{recordWords, halfWord}
 use Rattle.keys.specs.Store.{filled}
 use Rattle.keys.specs.Words.{firstNodes, firstNames}
 
@@ -53,8 +53,8 @@ pub four-words : (old now : List ℕ) (i a : ℕ) {b b' c c' : ℕ} → b ≡ b'
     → firstNodes now (i + 1) ≡ firstNodes old i ++ (a ∷ b' ∷ c' ∷ 0 ∷ [])
 four-words old now i a p q e = e ∙ ap₂ (λ (x y : ℕ). firstNodes old i ++ (a ∷ x ∷ y ∷ 0 ∷ [])) p q
 
-pub name-word : (old now : List ℕ) (i start count : ℕ) {v : ℕ} → v ≡ count + 2 ^ 32 * start → firstNames now (i + 1) ≡ take (length old) (firstNames old i ++ (v ∷ []))
-    → firstNames now (i + 1) ≡ take (length old) (firstNames old i ++ ((start * 2 ^ 32 + count) ∷ []))
+pub name-word : (old now : List ℕ) (i start count : ℕ) {v : ℕ} → v ≡ count + halfWord * start → firstNames now (i + 1) ≡ take (length old) (firstNames old i ++ (v ∷ []))
+    → firstNames now (i + 1) ≡ take (length old) (firstNames old i ++ ((start * halfWord + count) ∷ []))
 name-word old now i start count p e = e ∙ ap (λ (x : ℕ). take (length old) (firstNames old i ++ (x ∷ []))) (omega arith)
 
 -- ---- Clearing

@@ -1,1 +1,13 @@
+pub mod Fitting
+pub mod BitsLaws
+pub mod FormLaws
+pub mod KeyLaws
+pub mod RefusalLaws
+pub mod StoreLaws
+pub mod StoredLaws
+pub mod TakeLaws
+pub mod Makers
+pub mod HoldsLaws
+pub mod OneTree
+pub mod Theorems
 pub mod Cells

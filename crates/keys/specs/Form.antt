@@ -15,12 +15,12 @@ pub data Value : Type 0 where
   pair : Value → Value → Value
   node : ℕ → Value → Value
 
--- A form: no value at all; nothing; a spelling whose length has w bits; w bits that choose the form after them; two forms; a node of a class.
+-- A form: no value at all; nothing; a spelling whose length has w bits; w bits that choose the form after them, with some to spare in the store; two forms; a node of a class.
 pub data Form : Type 0 where
   never : Form
   one : Form
   word : ℕ → Form
-  choose : ℕ → (ℕ → Form) → Form
+  choose : (wide spare : ℕ) → (ℕ → Form) → Form
   both : Form → Form → Form
   child : ℕ → Form
 
@@ -31,21 +31,35 @@ pub record Grammar : Type 0 where
 
 -- ---- The parts of a form
 
--- The width of a form's own field: of a spelling's length, or of a choice.
+-- The width of a form's own field in the key: of a spelling's length, or of a choice.
 abbrev pub width : Form → ℕ
 width never = 0
 width one = 0
 width (word w) = w
-width (choose w fs) = w
+width (choose w x fs) = w
 width (both f g) = 0
 width (child c) = 0
+
+-- A width and so many bits more.
+abbrev pub wider : ℕ → ℕ → ℕ
+wider w zero = w
+wider w (suc x) = suc (wider w x)
+
+-- The width of a choice in the store.
+abbrev pub storeWidth : Form → ℕ
+storeWidth never = 0
+storeWidth one = 0
+storeWidth (word w) = 0
+storeWidth (choose w x fs) = wider w x
+storeWidth (both f g) = 0
+storeWidth (child c) = 0
 
 -- The form that a choice leads to.
 abbrev pub branch : Form → ℕ → Form
 branch never k = never
 branch one k = never
 branch (word w) k = never
-branch (choose w fs) k = fs k
+branch (choose w x fs) k = fs k
 branch (both f g) k = never
 branch (child c) k = never
 
@@ -54,7 +68,7 @@ abbrev pub left : Form → Form
 left never = never
 left one = never
 left (word w) = never
-left (choose w fs) = never
+left (choose w x fs) = never
 left (both f g) = f
 left (child c) = never
 
@@ -63,7 +77,7 @@ abbrev pub right : Form → Form
 right never = never
 right one = never
 right (word w) = never
-right (choose w fs) = never
+right (choose w x fs) = never
 right (both f g) = g
 right (child c) = never
 
@@ -72,7 +86,7 @@ abbrev pub class : Form → ℕ
 class never = 0
 class one = 0
 class (word w) = 0
-class (choose w fs) = 0
+class (choose w x fs) = 0
 class (both f g) = 0
 class (child c) = c
 
@@ -81,7 +95,7 @@ abbrev pub isNever : Form → Bool
 isNever never = true
 isNever one = false
 isNever (word w) = false
-isNever (choose w fs) = false
+isNever (choose w x fs) = false
 isNever (both f g) = false
 isNever (child c) = false
 
@@ -138,7 +152,7 @@ module _ (G : Grammar) where
   pub data Fits : Form → Value → Type 0 where
     fits-one : Fits one nothing
     fits-word : {w : ℕ} {s : List ℕ} → 1 ≤ length s → length s < 2 ^ w → Bytes s → Fits (word w) (spelt s)
-    fits-choose : {w : ℕ} {fs : ℕ → Form} {k : ℕ} {v : Value} → k < 2 ^ w → Fits (fs k) v → Fits (choose w fs) (choice k v)
+    fits-choose : {w x : ℕ} {fs : ℕ → Form} {k : ℕ} {v : Value} → k < 2 ^ w → Fits (fs k) v → Fits (choose w x fs) (choice k v)
     fits-both : {f g : Form} {a b : Value} → Fits f a → Fits g b → Fits (both f g) (pair a b)
     fits-child : {c t : ℕ} {v : Value} → t < 2 ^ G .tagWidth c → Fits (G .row c t) v → Fits (child c) (node t v)
 
@@ -219,7 +233,7 @@ abbrev pub takeForm : (ℕ → State → Result) → Form → State → Result
 takeForm X never s = stopAt badKey s
 takeForm X one s = got nothing s
 takeForm X (word w) s = takeSpelling w s
-takeForm X (choose w fs) s =
+takeForm X (choose w x fs) s =
     takeChoice w fs s λ k r. into (choice k) (takeForm X (fs k) (state (s .nodesLeft) (s .namesLeft) (s .textLeft) r))
 takeForm X (both f g) s = andThen (takeForm X f s) λ a q. into (pair a) (takeForm X g q)
 takeForm X (child c) s = X c s

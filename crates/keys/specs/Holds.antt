@@ -3,6 +3,7 @@ use mathlib.Core.Path.{_≡_}
 use mathlib.Core.List.{List}
 use Prim.Native.Nat.{ℕ, _+_, _*_, _/_, _%_, _^_, _≤_, _<_}
 use lib.ListN.{length, getD, take}
+use Rattle.keys.specs.Limits.{tagWide, recordWords, halfWord}
 use Rattle.keys.specs.Form.{Fits, nodes, names}
 use Rattle.keys.specs.Table.{type}
 use Rattle.keys.specs.Placed.{Placed, bare}
@@ -13,23 +14,43 @@ use Rattle.keys.specs.Store.{Run, done, chose, name, kid, called, nodesO
 
 -- The choices of node i.
 abbrev pub wordAt : List ℕ → ℕ → ℕ
-wordAt N i = getD N (i * 4) 0
+wordAt N i = getD N (i * recordWords) 0
+
+-- The tag among a node's choices: it stands lowest.
+abbrev pub tagIn : ℕ → ℕ
+tagIn word = word % 2 ^ tagWide
+
+-- The choices after the tag.
+abbrev pub afterTag : ℕ → ℕ
+afterTag word = word / 2 ^ tagWide
+
+-- The same choices under another tag.
+abbrev pub retagged : ℕ → ℕ → ℕ
+retagged word tag = tag + 2 ^ tagWide * afterTag word
+
+-- The first byte of node i.
+abbrev pub firstAt : List ℕ → ℕ → ℕ
+firstAt N i = getD N (i * recordWords + 1) 0 % halfWord
+
+-- The end byte of node i.
+abbrev pub endAt : List ℕ → ℕ → ℕ
+endAt N i = getD N (i * recordWords + 1) 0 / halfWord
 
 -- The first child of node i.
 abbrev pub childAt : List ℕ → ℕ → ℕ
-childAt N i = getD N (i * 4 + 2) 0 % 2 ^ 32
+childAt N i = getD N (i * recordWords + 2) 0 % halfWord
 
 -- The next sibling of node i.
 abbrev pub nextAt : List ℕ → ℕ → ℕ
-nextAt N i = getD N (i * 4 + 3) 0 % 2 ^ 32
+nextAt N i = getD N (i * recordWords + 3) 0 % halfWord
 
 -- Where the spelling of name m starts.
 abbrev pub startAt : List ℕ → ℕ → ℕ
-startAt M m = getD M m 0 / 2 ^ 32
+startAt M m = getD M m 0 / halfWord
 
 -- How long it is.
 abbrev pub sizeAt : List ℕ → ℕ → ℕ
-sizeAt M m = getD M m 0 % 2 ^ 32
+sizeAt M m = getD M m 0 % halfWord
 
 -- Name m stands there, and spells s in the text.
 pub record Spells (M X : List ℕ) (m : ℕ) (s : List ℕ) : Type 0 where
@@ -66,7 +87,7 @@ Holds N M X = HoldsBy N (Spells M X)
 -- A tree of the node table stands in the words of a store, its spellings in a text.
 pub record Stands (N M X : List ℕ) (p : Placed) : Type 0 where
   pub fits : Fits nodeTable type (bare p)
-  pub few : nodes (bare p) < 2 ^ 32
+  pub few : nodes (bare p) < halfWord
   pub nodesThere : take (length (nodesOf p)) N ≡ nodesOf p
   pub namesThere : take (length (namesOf p)) M ≡ namesOf p
   pub spelled : allPointed X (namesOf p) ≡ names (bare p)

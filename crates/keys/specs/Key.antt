@@ -7,8 +7,8 @@ use lib.Dec.{leb, eqb}
 use lib.ListN.{length, replicate}
 use Rattle.keys.specs.Bits.{Bits, bitsOfBytes, Row, cut, row, takeBytes}
 use Rattle.keys.specs.Form.{Value, nothing, spelt, choice, pair, node, Form, Grammar, height, nodes, names, letters, write, Fits, State, state, Result, got, stop, takeForm, takeNode}
-use Rattle.keys.specs.Limits.{longestKey, tallest, countWidth, edition, tooTall, noRoom, badKey, noSpace}
-use Rattle.keys.specs.Table.{table, wholeKey, type}
+use Rattle.keys.specs.Limits.{longestKey, tallest, Edition, numbered, newest, tooTall, noRoom, badKey, noSpace}
+use Rattle.keys.specs.Table.{table, keyForm, type}
 
 -- ---- A key's last bits
 
@@ -49,9 +49,9 @@ pub data Taken : Type 0 where
   refused : ℕ → ℕ → Taken
 
 -- A refusal's place is its bit; that of 11 is 0 (Refusal numbers).
-abbrev pub placeOf : Bool → ℕ → ℕ
-placeOf true bit = 0
-placeOf false bit = bit
+abbrev pub refusalPlace : Bool → ℕ → ℕ
+refusalPlace true bit = 0
+refusalPlace false bit = bit
 
 -- The tree of a whole key, which is its edition and a tree.
 abbrev pub treeIn : Value → Value
@@ -64,7 +64,7 @@ treeIn (node t v) = nothing
 -- The outcome, where a key has so many bits in all.
 abbrev pub outcome : ℕ → Result → Taken
 outcome all (got v s) = taken (treeIn v)
-outcome all (stop n l) = refused n (placeOf (eqb n noSpace) (all - l))
+outcome all (stop n l) = refused n (refusalPlace (eqb n noSpace) (all - l))
 
 -- ---- Keys by any node table, form of the whole and greatest height
 
@@ -76,32 +76,46 @@ bytesBy G K v = bytesOf (write G K v)
 abbrev pub takeWhole : Grammar → Form → ℕ → State → Result
 takeWhole G K high s = closed (takeForm (takeNode G high) K s)
 
--- ---- Our keys
+-- ---- Keys of an edition
+module _ (e : Edition) where
+  -- The key of a tree: the edition, then the tree, then zeros to a whole byte (The key).
+  abbrev pub keyUnder : Value → List ℕ
+  keyUnder t = bytesBy (table e) (keyForm e) (choice (numbered e) t)
 
--- The node table with its counts of 12 bits.
+  -- Taking back by whether the key is short enough: too long is 10 at 0 (Refusal numbers).
+  abbrev pub takeWithin : Bool → ℕ → ℕ → ℕ → List ℕ → Taken
+  takeWithin false n k m key = refused badKey 0
+  takeWithin true n k m key = outcome (length (bitsOfBytes key)) (takeWhole (table e) (keyForm e) tallest (state n k m (bitsOfBytes key)))
+
+  -- Taking a key back, where there is room for n nodes, k names and m bytes of text (The two calls).
+  abbrev pub takeUnder : ℕ → ℕ → ℕ → List ℕ → Taken
+  takeUnder n k m key = takeWithin (leb (length key) longestKey) n k m key
+
+-- ---- Our keys, of the newest edition
+
+-- The node table.
 abbrev pub nodeTable : Grammar
-nodeTable = table countWidth
+nodeTable = table newest
 
--- The key of a tree: the edition, then the tree, then zeros to a whole byte (The key).
+-- The key of a tree.
 abbrev pub keyOf : Value → List ℕ
-keyOf t = bytesBy nodeTable wholeKey (choice edition t)
+keyOf = keyUnder newest
 
--- Taking back by whether the key is short enough: too long is 10 at 0 (Refusal numbers).
-abbrev pub takeWithin : Bool → ℕ → ℕ → ℕ → List ℕ → Taken
-takeWithin false n k m key = refused badKey 0
-takeWithin true n k m key = outcome (length (bitsOfBytes key)) (takeWhole nodeTable wholeKey tallest (state n k m (bitsOfBytes key)))
-
--- Taking a key back, where there is room for n nodes, k names and m bytes of text (The two calls).
+-- Taking a key back.
 abbrev pub takeKey : ℕ → ℕ → ℕ → List ℕ → Taken
-takeKey n k m key = takeWithin (leb (length key) longestKey) n k m key
+takeKey = takeUnder newest
 
 -- ---- What the theorems speak of
 
--- A tree of the node table within the limits.
-pub record IsTree (t : Value) : Type 0 where
-  pub fits : Fits nodeTable type t
+-- A tree of an edition's node table within the limits.
+pub record IsTreeUnder (e : Edition) (t : Value) : Type 0 where
+  pub fits : Fits (table e) type t
   pub tall : height t ≤ tallest
-  pub short : length (keyOf t) ≤ longestKey
+  pub short : length (keyUnder e t) ≤ longestKey
+
+-- A tree of our node table within the limits.
+abbrev pub IsTree : Value → Type 0
+IsTree = IsTreeUnder newest
 
 -- Room for the nodes, the names and the spellings of a tree.
 pub record HasRoom (n k m : ℕ) (t : Value) : Type 0 where
@@ -109,11 +123,15 @@ pub record HasRoom (n k m : ℕ) (t : Value) : Type 0 where
   pub forNames : length (names t) ≤ k
   pub forText : letters t ≤ m
 
--- The bytes are the key of a tree for which there is room.
-pub record IsKey (n k m : ℕ) (t : Value) (key : List ℕ) : Type 0 where
-  pub isTree : IsTree t
+-- The bytes are the key, in an edition, of a tree for which there is room.
+pub record IsKeyUnder (e : Edition) (n k m : ℕ) (t : Value) (key : List ℕ) : Type 0 where
+  pub isTree : IsTreeUnder e t
   pub hasRoom : HasRoom n k m t
-  pub is : key ≡ keyOf t
+  pub is : key ≡ keyUnder e t
+
+-- The same of our keys.
+abbrev pub IsKey : ℕ → ℕ → ℕ → Value → List ℕ → Type 0
+IsKey = IsKeyUnder newest
 
 -- A refusal that taking back may meet, where the key has so many bits: 6, 8 or 10 at one of them or at their end, 11 at 0.
 pub data IsRefusal (all : ℕ) : ℕ → ℕ → Type 0 where

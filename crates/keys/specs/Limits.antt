@@ -11,13 +11,37 @@ longestKey = most.mostKey
 abbrev pub tallest : ℕ
 tallest = most.tallest
 
--- The width of a list's count.
+-- ---- The editions of the key
+
+-- The editions that are known.
+pub data Edition : Type 0 where
+  edition1 : Edition
+
+-- The number that the keys of an edition begin with.
+abbrev pub numbered : Edition → ℕ
+numbered edition1 = 1
+
+-- The width of a list's count, by edition.
+abbrev pub countWide : Edition → ℕ
+countWide edition1 = 12
+
+-- The edition of the keys we write.
+abbrev pub newest : Edition
+newest = edition1
+
+-- Its number.
+abbrev pub edition : ℕ
+edition = numbered newest
+
+-- The width of a list's count in the keys we write.
 abbrev pub countWidth : ℕ
-countWidth = 12
+countWidth = countWide newest
 
 -- A count holds every length that a list may have, and no more.
 pub count-holds : 2 ^ countWidth ≡ suc most.longest
 count-holds = refl
+
+-- ---- The widths of other fields, in every edition
 
 -- The width of a spelling's length.
 abbrev pub lengthWidth : ℕ
@@ -35,13 +59,23 @@ widest = 24
 abbrev pub editionWidth : ℕ
 editionWidth = 4
 
--- The edition of the keys we write.
-abbrev pub edition : ℕ
-edition = 1
+-- ---- The store
 
 -- The words of a node's record in the store.
 abbrev pub recordWords : ℕ
 recordWords = 4
+
+-- The words of a visit.
+abbrev pub visitWide : ℕ
+visitWide = 3
+
+-- A word holds two numbers, each below this.
+abbrev pub halfWord : ℕ
+halfWord = 2 ^ 32
+
+-- A node's own choices have at most so many bits together.
+abbrev pub choicesWide : ℕ
+choicesWide = 60
 
 -- ---- The refusals that taking back meets, by their names (Refusal numbers)
 

@@ -3,27 +3,35 @@ use mathlib.Core.Path.{_≡_}
 use mathlib.Core.List.{List, [], _∷_, _++_}
 use Prim.Native.Nat.{ℕ, _+_, _-_, _*_, _/_, _%_, _^_}
 use lib.ListN.{length, take, drop, replicate}
-use Rattle.keys.specs.Form.{Value, nothing, spelt, choice, pair, node, Form, Grammar, width, branch, left, right, class, nodes, names, letters}
-use Rattle.keys.specs.Limits.{recordWords}
+use Rattle.keys.specs.Form.{Value, nothing, spelt, choice, pair, node, Form, Grammar, storeWidth, branch, left, right, class, nodes, names, letters}
+use Rattle.keys.specs.Limits.{recordWords, halfWord}
 use Rattle.keys.specs.Table.{type}
 use Rattle.keys.specs.Placed.{Placed, void, said, pick, join, tree, laid}
 use Rattle.keys.specs.Key.{Taken, taken, refused, takeKey, nodeTable, IsKey}
 
 -- ---- A node as the run of what it holds
 
--- What a node holds in the key's order: a choice and its width, a name with its start and bytes, a child with its first and end byte.
+-- What a node holds in the key's order: a choice and its width there, a name with its start and bytes, a child with its first and end byte.
 pub data Run : Type 0 where
   done : Run
   chose : (wide number : ℕ) → Run → Run
   name : (start : ℕ) → List ℕ → Run → Run
   kid : (first end : ℕ) → Run → Run → Run
 
+infixr 5 _⊕_
+-- A run and then another.
+abbrev pub _⊕_ : Run → Run → Run
+done ⊕ r = r
+chose w k a ⊕ r = chose w k (a ⊕ r)
+name x s a ⊕ r = name x s (a ⊕ r)
+kid first end b a ⊕ r = kid first end b (a ⊕ r)
+
 module _ (G : Grammar) where
   -- What a value of a form puts into its node, before the run r; a node's first choice is its tag.
   abbrev pub plant : Form → Placed → Run → Run
   plant f void r = r
   plant f (said x s) r = name x s r
-  plant f (pick k p) r = chose (width f) k (plant (branch f k) p r)
+  plant f (pick k p) r = chose (storeWidth f) k (plant (branch f k) p r)
   plant f (join a b) r = plant (left f) a (plant (right f) b r)
   plant f (tree t first end p) r = kid first end (chose (G .tagWidth (class f)) t (plant (G .row (class f) t) p done)) r
 
@@ -43,6 +51,13 @@ called (kid first end a r) = called a + called r
 
 -- ---- A node's record of four words
 
+-- How many bits a node's own choices have.
+abbrev pub span : Run → ℕ
+span done = 0
+span (chose w k a) = w + span a
+span (name x s a) = span a
+span (kid first end b a) = span a
+
 -- A node's own choices in one word, the first lowest.
 abbrev pub packed : Run → ℕ
 packed done = 0
@@ -59,7 +74,7 @@ firstKid (kid first end a r) b none = b + under a
 
 -- A node's record: its choices; its first and end byte; its first child and its first name m; its next sibling.
 abbrev pub recordOf : (first end : ℕ) → Run → (b m next : ℕ) → List ℕ
-recordOf first end a b m next = packed a ∷ (first + 2 ^ 32 * end) ∷ (firstKid a b 0 + 2 ^ 32 * m) ∷ next ∷ []
+recordOf first end a b m next = packed a ∷ (first + halfWord * end) ∷ (firstKid a b 0 + halfWord * m) ∷ next ∷ []
 
 -- The records under a node in postorder, numbered from b, their names from m; next is the last child's next sibling.
 abbrev pub records : Run → (b m next : ℕ) → List ℕ
@@ -71,7 +86,7 @@ records (kid first end a r) b m next =
 
 -- A name's word: the start and the length of a spelling.
 abbrev pub nameOf : ℕ → List ℕ → ℕ
-nameOf start s = start * 2 ^ 32 + length s
+nameOf start s = start * halfWord + length s
 
 -- The names in a node and under it.
 abbrev pub namesIn : Run → List ℕ
@@ -108,7 +123,7 @@ part text start n = take n (drop start text)
 
 -- The bytes of a text at which a name's word points.
 abbrev pub pointed : List ℕ → ℕ → List ℕ
-pointed text w = take (w % 2 ^ 32) (drop (w / 2 ^ 32) text)
+pointed text w = take (w % halfWord) (drop (w / halfWord) text)
 
 -- The spellings at which name words point.
 abbrev pub allPointed : List ℕ → List ℕ → List (List ℕ)

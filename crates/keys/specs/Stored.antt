@@ -3,8 +3,7 @@ use mathlib.Core.Path.{_≡_}
 use mathlib.Core.List.{List, [], _++_}
 use Prim.Native.Nat.{ℕ, _+_}
 use lib.ListN.{length, take}
-use Rattle.keys.specs.Store.{Run, done, chose, name, kid, under, called, packed, firstKid, records, namesIn}
-use Rattle.keys.specs.StoreLaws.{span}
+use Rattle.keys.specs.Store.{Run, done, chose, name, kid, under, called, packed, firstKid, records, namesIn, span}
 use Rattle.keys.specs.Words.{firstNodes, firstNames}
 
 -- The letters in a node and under it.

@@ -1,11 +1,11 @@
--- The node table as data: a form for each tag of each class, over the width c of a count (01, The key).
+-- The node table as data: a form for each tag of each class, over an edition (01, The key).
 use mathlib.Core.Bool.{Bool, true, false}
 use mathlib.Core.List.{List, [], _∷_}
 use Prim.Native.Nat.{ℕ, zero, suc}
-use lib.Dec.{leb, ltb}
+use lib.Dec.{leb, ltb, eqb}
 use lib.ListN.{getD}
 use Rattle.keys.specs.Form.{Form, never, one, word, choose, both, child, Grammar}
-use Rattle.keys.specs.Limits.{lengthWidth, tagWide, editionWidth}
+use Rattle.keys.specs.Limits.{lengthWidth, tagWide, editionWidth, Edition, numbered, countWide, newest}
 
 infixr 5 _⊗_
 -- One field and then the others.
@@ -26,21 +26,25 @@ abbrev pub times : ℕ → Form → Form
 times zero f = one
 times (suc n) f = let r = times n f in both f r
 
+-- w bits that choose, in the key and in the store.
+abbrev pub select : ℕ → (ℕ → Form) → Form
+select w fs = choose w 0 fs
+
 -- One bit.
 abbrev pub flag : Form
-flag = choose 1 (λ k. one)
+flag = select 1 (λ k. one)
 
 -- w bits, a number below n.
 abbrev pub below : ℕ → ℕ → Form
-below w n = choose w (λ k. when (ltb k n) one)
+below w n = select w (λ k. when (ltb k n) one)
 
 -- An opt: a bit says whether the part is there (The key).
 abbrev pub opt : Form → Form
-opt f = choose 1 (oneOf (one ∷ f ∷ []))
+opt f = select 1 (oneOf (one ∷ f ∷ []))
 
 -- An opt that is needed, as a predicate's type is unless it asserts: its bit is 1.
 abbrev pub needed : Form → Form
-needed f = choose 1 (oneOf (never ∷ f ∷ []))
+needed f = select 1 (oneOf (never ∷ f ∷ []))
 
 -- A spelling: length 16, at least 1, and any bytes (The key).
 abbrev pub spelling : Form
@@ -78,7 +82,7 @@ literals = spelling ∷ spelling ∷ spelling ∷ one ∷ one ∷ spelling ∷ s
 
 -- Whose predicate it is: a bit for this, or a spelling.
 abbrev pub subject : Form
-subject = choose 1 (oneOf (spelling ∷ one ∷ []))
+subject = select 1 (oneOf (spelling ∷ one ∷ []))
 
 -- 22 named: spelling, `?` bit, type, 20 or 21.
 abbrev pub namedRow : Form
@@ -92,10 +96,15 @@ typeParamRow = spelling ⊗ opt type ⊗ opt type
 abbrev pub paramRow : Form
 paramRow = flag ⊗ spelling ⊗ flag ⊗ opt type
 
+-- ---- The rows, over the width c of a count
 module _ (c : ℕ) where
+  -- A count and what it leads to; it has as many bits in the store as in the key.
+  abbrev pub counted : (ℕ → Form) → Form
+  counted fs = choose c 0 fs
+
   -- A list: its count, at least so many, and its entries (The key).
   abbrev pub list : ℕ → Form → Form
-  list least f = choose c (λ n. when (leb least n) (times n f))
+  list least f = counted (λ n. when (leb least n) (times n f))
 
   -- Arguments: a list of types.
   abbrev pub args : Form
@@ -107,7 +116,7 @@ module _ (c : ℕ) where
       never  -- 0 is no tag
       ∷ (list 1 spelling ⊗ opt args)  -- 1 reference
       ∷ below 4 13  -- 2 keyword
-      ∷ choose 3 (oneOf literals)  -- 3 literal
+      ∷ select 3 (oneOf literals)  -- 3 literal
       ∷ type  -- 4 parens
       ∷ list 1 type  -- 5 union
       ∷ list 1 type  -- 6 intersection
@@ -119,8 +128,8 @@ module _ (c : ℕ) where
       ∷ (opt (list 0 typeParam) ⊗ opt (opt type) ⊗ list 0 param ⊗ type)  -- 12 function
       ∷ (flag ⊗ opt (list 0 typeParam) ⊗ list 0 param ⊗ type)  -- 13 constructor
       ∷ (below 2 4 ⊗ spelling ⊗ type ⊗ opt type ⊗ below 2 4 ⊗ opt type)  -- 14 mapped
-      ∷ choose c (λ n. spelling ⊗ times n (type ⊗ spelling))  -- 15 template
-      ∷ choose 1 (oneOf ((subject ⊗ needed type) ∷ (subject ⊗ opt type) ∷ []))  -- 16 predicate
+      ∷ counted (λ n. spelling ⊗ times n (type ⊗ spelling))  -- 15 template
+      ∷ select 1 (oneOf ((subject ⊗ needed type) ∷ (subject ⊗ opt type) ∷ []))  -- 16 predicate
       ∷ (list 1 spelling ⊗ opt args)  -- 17 typeof
       ∷ (flag ⊗ spelling ⊗ list 0 spelling ⊗ opt args)  -- 18 import
       ∷ list 0 element  -- 19 tuple
@@ -141,10 +150,24 @@ module _ (c : ℕ) where
   rowsOf (suc (suc (suc (suc (suc zero))))) = paramRow ∷ []
   rowsOf (suc (suc (suc (suc (suc (suc k)))))) = []
 
-  -- The node table: four classes with a tag of 6 bits and two with none.
-  abbrev pub table : Grammar
-  table = record { tagWidth = λ k. getD (tagWide ∷ tagWide ∷ tagWide ∷ tagWide ∷ []) k 0; row = λ k t. oneOf (rowsOf k) t }
+-- The width of a class's tag: four classes have one of 6 bits, two have none.
+abbrev pub tagWidthOf : ℕ → ℕ
+tagWidthOf k = getD (tagWide ∷ tagWide ∷ tagWide ∷ tagWide ∷ []) k 0
 
--- A whole key but for its last bits: the edition, which is 1, then a type.
+-- ---- The table of an edition
+
+-- The node table.
+abbrev pub table : Edition → Grammar
+table e = record { tagWidth = tagWidthOf; row = λ k t. oneOf (rowsOf (countWide e) k) t }
+
+-- What the number that a key begins with leads to: a type, if it is the edition's.
+abbrev pub typeUnder : Edition → ℕ → Form
+typeUnder e k = when (eqb k (numbered e)) type
+
+-- A whole key but for its last bits: the edition's number, then a type.
+abbrev pub keyForm : Edition → Form
+keyForm e = select editionWidth (typeUnder e)
+
+-- The form of the keys we write.
 abbrev pub wholeKey : Form
-wholeKey = choose editionWidth (oneOf (never ∷ type ∷ []))
+wholeKey = keyForm newest

@@ -30,6 +30,14 @@ nodesThen (suc n) c w g = let r = nodesThen n c w g in both (child c) (spellingI
 
 -- ---- What words say
 
+-- The words of an entry.
+abbrev pub entryWords : ℕ
+entryWords = 4
+
+-- Numbers of the table, and counts by it, stay below this: no sum of them wraps.
+abbrev pub tableMost : ℕ
+tableMost = 2 ^ 32
+
 -- The four words of a form: its operation, a width, and two numbers.
 pub record Entry : Type 0 where
   pub op : ℕ
@@ -47,7 +55,7 @@ entryFrom T p = entry (getD T p 0) (getD T (p + 1) 0) (getD T (p + 2) 0) (getD T
 
 -- The words of form f where there is such a form, else zeros.
 abbrev pub entryBy : List ℕ → ℕ → Bool → Entry
-entryBy T f true = entryFrom T (f * 4)
+entryBy T f true = entryFrom T (f * entryWords)
 entryBy T f false = entry 0 0 0 0
 
 -- How many steps the longest form has.
@@ -88,7 +96,7 @@ formBy T go n e (suc zero) = one
 formBy T go n e (suc (suc zero)) = spellingsThen n (e .w) (go 1 (e .b))
 formBy T go n e (suc (suc (suc zero))) = nodesThen n (e .a) (e .w) (go 1 (e .b))
 formBy T go n e (suc (suc (suc (suc zero)))) = both (word (e .w)) (go n (e .b))
-formBy T go n e (suc (suc (suc (suc (suc k))))) = choose (e .w) (leads T go e k)
+formBy T go n e (suc (suc (suc (suc (suc k))))) = choose (e .w) 0 (leads T go e k)
 
 -- Form f to so many steps, its first done n times.
 abbrev pub formOf : List ℕ → (steps n f : ℕ) → Form
@@ -117,21 +125,21 @@ entryOf r = entry (r .op) (r .w) (r .a) (r .b)
 -- The code has read an entry.
 pub record IsRow (e : Entry) (r : Row) : Type 0 where
   pub is : entryOf r ≡ e
-  pub wide : r .w < 2 ^ 32
-  pub from : r .a < 2 ^ 32
-  pub next : r .b < 2 ^ 32
+  pub wide : r .w < tableMost
+  pub from : r .a < tableMost
+  pub next : r .b < tableMost
 
 -- Where the number t leads among the forms that a row lists.
 pub record Lists (T : List ℕ) (r : Row) (t : ℕ) (j : Jump) : Type 0 where
   pub is : (d : ℕ) → oneOf (listed T (λ g. formOf T d 1 g) (r .a) (r .b)) t ≡ formOf T d (j .n) (j .form)
-  pub form : j .form < 2 ^ 32
+  pub form : j .form < tableMost
   pub once : j .n ≡ 1
 
 -- Where the number t of a choice leads.
 pub record Jumps (T : List ℕ) (r : Row) (t : ℕ) (j : Jump) : Type 0 where
   pub is : (d : ℕ) → leads T (λ m g. formOf T d m g) (entryOf r) (r .op - 5) t ≡ formOf T d (j .n) (j .form)
-  pub form : j .form < 2 ^ 32
-  pub few : j .n < 2 ^ 32
+  pub form : j .form < tableMost
+  pub few : j .n < tableMost
 
 -- ---- The words of our node table, over the width c of a count
 

@@ -1,4 +1,2 @@
 pub mod Forms
 pub mod Moves
-pub mod FormsLaws
-pub mod MovesLaws

@@ -3,12 +3,13 @@ use mathlib.Core.Path.{_≡_}
 use mathlib.Core.List.{List, [], _++_}
 use Prim.Native.Nat.{ℕ, _+_, _-_, _*_, _/_, _^_, _≤_, _<_}
 use lib.ListN.{length}
+use Rattle.keys.specs.Limits.{halfWord}
 use Rattle.keys.specs.Form.{Form, one, word, child, Grammar, width, branch, left, right, class}
 use Rattle.keys.specs.Store.{Run, done, chose, name, kid, called}
 use Rattle.keys.specs.Lines.{tagged, Of, levels}
 use Rattle.keys.specs.Holds.{wordAt, childAt, nextAt, Cursor, cursor, HoldsBy}
 use Rattle.fields.specs.Put.{far}
-use Rattle.node_table.specs.Forms.{spellingIf, formOf, grammarOf}
+use Rattle.node_table.specs.Forms.{spellingIf, formOf, grammarOf, tableMost}
 use Rattle.node_table.specs.declared.moves.Mark.{Mark}
 use Rattle.node_table.specs.declared.moves.Walk.{Walk}
 
@@ -27,7 +28,7 @@ module _ (O : Output) (G : Grammar) (N : List ℕ) where
   -- The items of a run of a form in line, which the store holds from a place on.
   abbrev pub items : Form → Run → Cursor → ℕ → List (O .Item)
   items f done s d = []
-  items f (chose w k r) s d = O .choice w k d ++ items (branch f k) r (cursor (s .word / 2 ^ w) (s .child) (s .name)) d
+  items f (chose w k r) s d = O .choice (width f) k d ++ items (branch f k) r (cursor (s .word / 2 ^ w) (s .child) (s .name)) d
   items f (name x u r) s d = O .said (width (left f)) (s .name) u d ++ items (right f) r (cursor (s .word) (s .child) (s .name + 1)) d
   items f (kid first end a r) s d =
       (O .node (s .child) d ++ items (tagged G (class (left f))) a (cursor (wordAt N (s .child)) (childAt N (s .child)) (s .name)) (O .under d))
@@ -78,8 +79,8 @@ abbrev pub formAt : List ℕ → Walk → Form
 formAt T s = formOf T (s .steps) (s .n) (s .form)
 
 -- The place in the store at which it is.
-abbrev pub placeOf : Walk → Cursor
-placeOf s = cursor (s .word) (s .child) (s .name)
+abbrev pub cursorOf : Walk → Cursor
+cursorOf s = cursor (s .word) (s .child) (s .name)
 
 -- A position by its parts.
 abbrev pub mark : (to next : ℕ) → Mark
@@ -102,21 +103,21 @@ pub record Ready (most : ℕ) (k : List ℕ) (s : Walk) : Type 0 where
   pub short : length k * 8 ≤ far
   pub near : s .to ≤ far
   pub inNames : s .name ≤ most
-  pub inNodes : s .child < 2 ^ 32
-  pub inTable : s .form < 2 ^ 32
-  pub few : s .n < 2 ^ 32
-  pub steps : s .steps < 2 ^ 32
+  pub inNodes : s .child < halfWord
+  pub inTable : s .form < tableMost
+  pub few : s .n < tableMost
+  pub steps : s .steps < tableMost
 
 -- How much of a node is left to do at most.
 abbrev pub toDo : Walk → ℕ
-toDo s = s .steps * 2 ^ 32 + s .n
+toDo s = s .steps * tableMost + s .n
 
 -- A step that goes into no child.
-pub record Own (O : Output) (T : List ℕ) (P : ℕ → List ℕ → Type 0) (most d : ℕ) (s : Walk) (k : List ℕ) (q : Walk) (k' : List ℕ) : Type 0 where
+pub record OwnStep (O : Output) (T : List ℕ) (P : ℕ → List ℕ → Type 0) (most d : ℕ) (s : Walk) (k : List ℕ) (q : Walk) (k' : List ℕ) : Type 0 where
   pub ready : Ready most k' q
   pub same : length k' ≡ length k
   pub less : toDo q < toDo s
-  pub on : (G : Grammar) (N : List ℕ) (high : ℕ) → Moves O G N P high d (formAt T s) (placeOf s) (s .to) k (formAt T q) (placeOf q) (q .to) k'
+  pub on : (G : Grammar) (N : List ℕ) (high : ℕ) → Moves O G N P high d (formAt T s) (cursorOf s) (s .to) k (formAt T q) (cursorOf q) (q .to) k'
 
 -- What follows a child: a spelling if its length has any bits.
 pub record After (O : Output) (N : List ℕ) (P : ℕ → List ℕ → Type 0) (most w d : ℕ) (s : Walk) (o : Mark) (k : List ℕ) (q : Walk) (k' : List ℕ) : Type 0 where
@@ -126,7 +127,7 @@ pub record After (O : Output) (N : List ℕ) (P : ℕ → List ℕ → Type 0) (
   pub few : q .n ≡ s .n - 1
   pub steps : q .steps ≡ s .steps
   pub on : (G : Grammar) (high : ℕ) (g : Form)
-      → Moves O G N P high d (spellingIf w g) (cursor (s .word) (nextAt N (s .child)) (o .name)) (o .to) k g (placeOf q) (q .to) k'
+      → Moves O G N P high d (spellingIf w g) (cursor (s .word) (nextAt N (s .child)) (o .name)) (o .to) k g (cursorOf q) (q .to) k'
 
 -- What stands before a node's run is put out, and its tag; the walk stands behind it.
 pub record Begun (O : Output) (T N : List ℕ) (P : ℕ → List ℕ → Type 0) (d c i : ℕ) (o : Mark) (k : List ℕ) (q : Walk) (k' : List ℕ) : Type 0 where
@@ -136,4 +137,4 @@ pub record Begun (O : Output) (T N : List ℕ) (P : ℕ → List ℕ → Type 0)
   pub k₀ : List ℕ
   pub first : O .Puts (o .to) (O .node i d) to₀ k k₀
   pub on : (high : ℕ)
-      → Moves O (grammarOf T) N P high (O .under d) (tagged (grammarOf T) c) (cursor (wordAt N i) (childAt N i) (o .name)) to₀ k₀ (formAt T q) (placeOf q) (q .to) k'
+      → Moves O (grammarOf T) N P high (O .under d) (tagged (grammarOf T) c) (cursor (wordAt N i) (childAt N i) (o .name)) to₀ k₀ (formAt T q) (cursorOf q) (q .to) k'

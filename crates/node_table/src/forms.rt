@@ -3,7 +3,7 @@ ghost use mathlib.Core.Path.{_≡_};
 ghost use Prim.Native.Nat.{_+_, _-_, _*_, _≤_, _<_, _^_};
 ghost use lib.ListN.{getD};
 ghost use Rattle.keys.specs.Limits.{countWidth};
-ghost use Rattle.node_table.specs.Forms.{entryFrom, entryAt, classAt, IsRow, Lists, Jumps, tableWords};
+ghost use Rattle.node_table.specs.Forms.{entryFrom, entryAt, classAt, IsRow, Lists, Jumps, tableWords, tableMost};
 use crate::tables;
 
 // The edition of our keys.
@@ -11,6 +11,9 @@ pub const EDITION: u32 = 1;
 
 // Its width.
 pub const EDITION_WIDTH: usize = 4;
+
+// The words of a form.
+const ENTRY: usize = 4;
 
 // The class of a type.
 pub const TYPE: usize = 0;
@@ -44,14 +47,14 @@ pub struct Row {
 }
 
 fn slim(x: u16) -> usize
-    ensures { λ r. ⌜ (r ≡ x) × (r < 2 ^ 32) ⌝ }
+    ensures { λ r. ⌜ (r ≡ x) × (r < tableMost) ⌝ }
 {
     x as usize
 }
 
 // A word of the table, 0 past its end.
 pub fn word_at(forms: &[u16], at: usize) -> usize
-    ensures { λ r. ⌜ (r ≡ getD (now (forms .entry)) at 0) × (r < 2 ^ 32) ⌝ }
+    ensures { λ r. ⌜ (r ≡ getD (now (forms .entry)) at 0) × (r < tableMost) ⌝ }
 {
     if at < forms.len() { slim(forms[at]) } else { 0 }
 }
@@ -79,11 +82,11 @@ fn row_from(forms: &[u16], at: usize) -> Row
 
 // A form of the table, never past the last.
 pub fn row_at(forms: &[u16], form: usize) -> Row
-    requires { ⌜ form < 2 ^ 32 ⌝ }
+    requires { ⌜ form < tableMost ⌝ }
     ensures { λ r. ⌜ IsRow (entryAt (now (forms .entry)) form) r ⌝ }
 {
     if form < word_at(forms, 3) {
-        return row_from(forms, form * 4);
+        return row_from(forms, form * ENTRY);
     }
     Row {
         op: 0,
@@ -95,11 +98,11 @@ pub fn row_at(forms: &[u16], form: usize) -> Row
 
 // The choice of a class's tag, none past the last class.
 pub fn class_at(forms: &[u16], class: usize) -> Row
-    requires { ⌜ class < 2 ^ 32 ⌝ }
+    requires { ⌜ class < tableMost ⌝ }
     ensures { λ r. ⌜ IsRow (classAt (now (forms .entry)) class) r ⌝ }
 {
     if class < word_at(forms, 2) {
-        return row_from(forms, (class + 1) * 4);
+        return row_from(forms, (class + 1) * ENTRY);
     }
     Row {
         op: 0,
@@ -117,7 +120,7 @@ pub struct Jump {
 
 // One of the forms that a row lists; past the last form where the number is too large.
 pub fn listed_at(forms: &[u16], r: Row, t: usize) -> Jump
-    requires { ⌜ (r .a < 2 ^ 32) × (t < 2 ^ 32) ⌝ }
+    requires { ⌜ (r .a < tableMost) × (t < tableMost) ⌝ }
     ensures { λ j. ⌜ Lists (now (forms .entry)) r t j ⌝ }
 {
     if t < r.b {
@@ -134,7 +137,7 @@ pub fn listed_at(forms: &[u16], r: Row, t: usize) -> Jump
 
 // What the number t of a choice leads to.
 pub fn jump_at(forms: &[u16], r: Row, t: usize) -> Jump
-    requires { ⌜ (r .a < 2 ^ 32) × (r .b < 2 ^ 32) × (t < 2 ^ 32) × (5 ≤ r .op) ⌝ }
+    requires { ⌜ (r .a < tableMost) × (r .b < tableMost) × (t < tableMost) × (5 ≤ r .op) ⌝ }
     ensures { λ j. ⌜ Jumps (now (forms .entry)) r t j ⌝ }
 {
     let op = r.op;

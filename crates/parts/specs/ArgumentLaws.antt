@@ -14,7 +14,7 @@ use Rattle.words.specs.Kind.{LParen, RParen, Str, Comma, LAngle, ShiftLeft, LtE
 use Rattle.words.specs.Cursor.{sameLine, kindAt}
 use Rattle.keys.specs.Bits.{unit}
 use Rattle.keys.specs.Placed.{Placed, Spelling, Opt}
-use Rattle.keys.specs.StoreLaws.{_⊕_}
+use Rattle.keys.specs.Store.{_⊕_}
 use Rattle.rules.specs.Refusal.{unexpected, unsupported, tooLong}
 use Rattle.rules.specs.State as rule
 use Rattle.rules.specs.State.{State, Result, read, refuse, refused, then, next, halved, stands, end, spelling, make, turns}

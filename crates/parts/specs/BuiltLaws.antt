@@ -7,11 +7,11 @@ use lib.ListN.{length, take, set, replicate, length-append, length-replicate}
 use lib.Seq.{take-all}
 use Rattle.keys.specs.Key.{nodeTable}
 use Rattle.keys.specs.Placed.{Placed, tree, Spelling}
-use Rattle.keys.specs.Store.{Run, done, chose, name, kid, plant, under, firstKid, records, nameOf, namesIn}
-use Rattle.keys.specs.StoreLaws.{_⊕_, join-done, join-join, under-join, called-join, firstKid-join, namesIn-join, length-namesIn}
+use Rattle.keys.specs.Store.{Run, done, chose, name, kid, plant, under, firstKid, records, nameOf, namesIn, _⊕_}
+use Rattle.keys.proofs.StoreLaws.{join-done, join-join, under-join, called-join, firstKid-join, namesIn-join, length-namesIn}
 use Rattle.keys.specs.Words.{firstNodes, firstNames}
 use Rattle.keys.specs.Stored.{lettersIn, Base, base, Stored}
-use Rattle.keys.specs.StoredLaws.{kid-first, kid-next, own-first, own-next, stored-node}
+use Rattle.keys.proofs.StoredLaws.{kid-first, kid-next, own-first, own-next, stored-node}
 use Rattle.parts.specs.Marks.{usedMark}
 use Rattle.parts.specs.Laid.{heights, runIn, namesRun, IsNode, node, Was, wasAt, Laid, Built, Stands, Spoken, Shape}
 use Rattle.parts.specs.RunLaws.{heights-skeleton, firstKid-skeleton, heights-join, names-join, heights-names, first-names, no-nodes, some-nodes}

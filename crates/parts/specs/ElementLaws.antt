@@ -17,8 +17,8 @@ use Rattle.keys.specs.Key.{nodeTable}
 use Rattle.keys.specs.Table.{rows, type, underRest, namedRow}
 use Rattle.keys.specs.Placed as node
 use Rattle.keys.specs.Placed.{Placed, tree, join, spell, bit, Spelling, second, isSet, optionalIf, asElement, isAsked}
-use Rattle.keys.specs.Store.{Run, done, chose, name, kid, plant, packed, firstKid, records, recordOf}
-use Rattle.keys.specs.StoreLaws.{_⊕_, under-join, called-join, namesIn-join}
+use Rattle.keys.specs.Store.{Run, done, chose, name, kid, plant, packed, firstKid, records, recordOf, _⊕_}
+use Rattle.keys.proofs.StoreLaws.{under-join, called-join, namesIn-join}
 use Rattle.keys.specs.Words.{firstNodes}
 use Rattle.rules.specs.Tuple as tuple
 use Rattle.parts.specs.Laid.{heights, skeleton, runIn, namesRun, showsAsked, allowed, IsNode, node as is-node, Was, Laid, Stands, Shape}

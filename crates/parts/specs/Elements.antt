@@ -12,7 +12,7 @@ use Rattle.words.specs.Cursor.{wholeKind, kindAt, firstByte}
 use Rattle.keys.specs.Bits.{unit}
 use Rattle.keys.specs.Placed as node
 use Rattle.keys.specs.Placed.{Placed, tree, Spelling}
-use Rattle.keys.specs.StoreLaws.{_⊕_}
+use Rattle.keys.specs.Store.{_⊕_}
 use Rattle.rules.specs.Notes.{note, requiredAfterOptional, restAfterLabel, askedAfterLabel, optionalAndRest}
 use Rattle.rules.specs.State as rule
 use Rattle.rules.specs.State.{State, Result, Reader, read, then, next, stands, first, end, spelling, past, make, reportIf}

@@ -16,8 +16,8 @@ use Rattle.keys.specs.Key.{nodeTable}
 use Rattle.keys.specs.Table.{list, opt}
 use Rattle.keys.specs.Placed as node
 use Rattle.keys.specs.Placed.{Placed, join, Opt, absent, present, bit, listed, maybe, maybeList, maybeThis}
-use Rattle.keys.specs.Store.{Run, done, plant, packed}
-use Rattle.keys.specs.StoreLaws.{_⊕_, join-join}
+use Rattle.keys.specs.Store.{Run, done, plant, packed, _⊕_}
+use Rattle.keys.proofs.StoreLaws.{join-join}
 use Rattle.rules.specs.Refusal.{tooLong}
 use Rattle.rules.specs.Notes.{Note, note, thisOnConstructor}
 use Rattle.rules.specs.State as rule

@@ -9,8 +9,7 @@ use Rattle.words.specs.Test.{_and_, test}
 use Rattle.words.specs.Cursor.{firstByte}
 use Rattle.keys.specs.Bits.{unit}
 use Rattle.keys.specs.Placed.{Placed, Spelling, Opt, absent, present}
-use Rattle.keys.specs.Store.{Run, done}
-use Rattle.keys.specs.StoreLaws.{_⊕_}
+use Rattle.keys.specs.Store.{Run, done, _⊕_}
 use Rattle.rules.specs.Refusal.{unexpected, unsupported}
 use Rattle.rules.specs.State as rule
 use Rattle.rules.specs.State.{State, Result, Reader, read, refuse, refused, then, stands, past}

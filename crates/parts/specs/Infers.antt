@@ -5,7 +5,7 @@ use mathlib.Core.List.{List, []}
 use Prim.Native.Nat.{ℕ}
 use Rattle.keys.specs.Placed as node
 use Rattle.keys.specs.Placed.{Placed, Spelling, absent, present}
-use Rattle.keys.specs.StoreLaws.{_⊕_}
+use Rattle.keys.specs.Store.{_⊕_}
 use Rattle.rules.specs.State.{end, make}
 use Rattle.parts.specs.Marks.{view, givenOf}
 use Rattle.parts.specs.Laid.{heights, runIn, nameRun, IsNode, Was, Laid}

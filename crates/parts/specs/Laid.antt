@@ -11,8 +11,7 @@ use Rattle.keys.specs.Form.{child}
 use Rattle.keys.specs.Key.{nodeTable}
 use Rattle.keys.specs.Table.{namedRow}
 use Rattle.keys.specs.Placed.{Placed, tree, second, isSet, Spelling, Opt, absent, present}
-use Rattle.keys.specs.Store.{Run, done, chose, name, kid, plant, under, called, packed, firstKid, records, namesIn}
-use Rattle.keys.specs.StoreLaws.{_⊕_}
+use Rattle.keys.specs.Store.{Run, done, chose, name, kid, plant, under, called, packed, firstKid, records, namesIn, _⊕_}
 use Rattle.keys.specs.Words.{firstNodes, firstNames}
 use Rattle.rules.specs.Notes.{Note}
 use Rattle.parts.specs.Marks.{notesOf}

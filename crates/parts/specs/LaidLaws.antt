@@ -8,8 +8,8 @@ use native.Mathlib.Decide.{decLt}
 use lib.ListN.{length, take, set, getD, length-append}
 use lib.Seq.{length-take-le, take-take, take-at, take-all, take-append-le, take-append-seam, getD-set-same, getD-set-other}
 use Rattle.keys.specs.Placed.{Spelling}
-use Rattle.keys.specs.Store.{Run, done, name, under, called, firstKid, records, nameOf, namesIn}
-use Rattle.keys.specs.StoreLaws.{_⊕_, under-join, called-join, records-join, namesIn-join}
+use Rattle.keys.specs.Store.{Run, done, name, under, called, firstKid, records, nameOf, namesIn, _⊕_}
+use Rattle.keys.proofs.StoreLaws.{under-join, called-join, records-join, namesIn-join}
 use Rattle.keys.specs.Words.{firstNodes, firstNames}
 use Rattle.rules.specs.Notes.{Note, note}
 use Rattle.parts.specs.Marks.{noteAt, notesOf}

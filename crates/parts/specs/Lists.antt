@@ -8,8 +8,7 @@ use lib.ListN.{length}
 use Rattle.words.specs.Kind.{Comma, Eq, RParen}
 use Rattle.words.specs.Cursor.{kindAt}
 use Rattle.keys.specs.Placed.{Placed, Opt, present}
-use Rattle.keys.specs.Store.{Run}
-use Rattle.keys.specs.StoreLaws.{_⊕_}
+use Rattle.keys.specs.Store.{Run, _⊕_}
 use Rattle.rules.specs.Notes.{note}
 use Rattle.rules.specs.Refusal.{unexpected, unsupported}
 use Rattle.rules.specs.State as rule

@@ -9,7 +9,7 @@ use Rattle.words.specs.Kind.{LCurly, RCurly, LBrack, RBrack, Question, Colon, S
 use Rattle.words.specs.Test.{test}
 use Rattle.keys.specs.Placed as node
 use Rattle.keys.specs.Placed.{Placed, Spelling, Opt, absent, present, number, spell, maybe, join}
-use Rattle.keys.specs.StoreLaws.{_⊕_}
+use Rattle.keys.specs.Store.{_⊕_}
 use Rattle.rules.specs.Refusal.{unexpected}
 use Rattle.rules.specs.State.{Given, State, Result, Reader, read, refuse, refused, then, next, kind, stands, first, end, expect, optional, make}
 use Rattle.rules.specs.Names.{bindingWord}

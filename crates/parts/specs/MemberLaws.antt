@@ -14,7 +14,7 @@ use Rattle.keys.specs.Limits.{tooTall, noRoom}
 use Rattle.keys.specs.Form.{height}
 use Rattle.keys.specs.Placed as node
 use Rattle.keys.specs.Placed.{Placed, tree, bare, join, spell, bit, Spelling, asElement}
-use Rattle.keys.specs.StoreLaws.{_⊕_}
+use Rattle.keys.specs.Store.{_⊕_}
 use Rattle.rules.specs.Notes.{Note, note, requiredAfterOptional, restAfterLabel, askedAfterLabel, optionalAndRest}
 use Rattle.rules.specs.Refusal.{tooLong}
 use Rattle.rules.specs.State as rule

@@ -14,8 +14,8 @@ use Rattle.keys.specs.Key.{nodeTable}
 use Rattle.keys.specs.Limits.{countWidth}
 use Rattle.keys.specs.Table.{opt, args, when, times, spelling as spellingForm}
 use Rattle.keys.specs.Placed.{Placed, tree, join, bit, spell, spellings, entries, listedNames, maybeList, Spelling, Opt}
-use Rattle.keys.specs.Store.{Run, done, name, plant, packed}
-use Rattle.keys.specs.StoreLaws.{_⊕_, join-done}
+use Rattle.keys.specs.Store.{Run, done, name, plant, packed, _⊕_}
+use Rattle.keys.proofs.StoreLaws.{join-done}
 use Rattle.rules.specs.Refusal.{unexpected, unsupported}
 use Rattle.rules.specs.State.{Given, State, Result, Reader, read, refuse, refused, then, next, stands, first, end, spelling, make, turns}
 use Rattle.rules.specs.List.{count}

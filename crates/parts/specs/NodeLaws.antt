@@ -13,7 +13,7 @@ use Rattle.keys.specs.Placed.{Placed, tree, bare, absent, present}
 use Rattle.keys.specs.Store.{Run, done, plant, firstKid}
 use Rattle.rules.specs.Refusal.{tooLong}
 use Rattle.rules.specs.State.{Given, State, read, refuse, make, end}
-use Rattle.keys.specs.StoreLaws.{join-done}
+use Rattle.keys.proofs.StoreLaws.{join-done}
 use Rattle.parts.specs.Laid.{heights, Was, Laid, Built, Shape}
 use Rattle.parts.specs.Nodes.{Put, Makes, MakesList, Links}
 use Rattle.parts.specs.Reported.{refusedAt}

@@ -6,8 +6,7 @@ use Prim.Native.Nat.{ℕ, _+_, _*_, _≤_, _<_}
 use lib.ListN.{length}
 use Rattle.words.specs.Limits.{tallest}
 use Rattle.keys.specs.Placed.{Placed, tree}
-use Rattle.keys.specs.Store.{Run}
-use Rattle.keys.specs.StoreLaws.{_⊕_}
+use Rattle.keys.specs.Store.{Run, _⊕_}
 use Rattle.rules.specs.State.{make, end}
 use Rattle.parts.specs.Marks.{view, givenOf}
 use Rattle.parts.specs.Laid.{heights, runIn, IsNode, Was, wasAt, Laid, Built, BuiltAt, Shape}

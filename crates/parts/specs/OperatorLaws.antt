@@ -12,7 +12,7 @@ use Rattle.words.specs.Test.{test, among}
 use Rattle.words.specs.Kind.{KeyOf, Unique, Readonly, Eof, LAngle, Eq, LtEq, ShiftLeft, ShiftLeftEq}
 use Rattle.words.specs.Word.{start}
 use Rattle.words.specs.Cursor.{wordAt, wholeKind, secondHalf, kindAt, firstByte}
-use Rattle.keys.specs.BitsLaws.{clash}
+use Rattle.keys.proofs.BitsLaws.{clash}
 use Rattle.keys.specs.Placed as node
 use Rattle.keys.specs.Placed.{Placed, join, number}
 use Rattle.rules.specs.State.{Given, State, Result, Reader, read, refuse, then, next, kind, end, make}

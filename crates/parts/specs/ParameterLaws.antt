@@ -9,8 +9,8 @@ use Rattle.keys.specs.Form.{child}
 use Rattle.keys.specs.Key.{nodeTable}
 use Rattle.keys.specs.Table.{opt}
 use Rattle.keys.specs.Placed.{Placed, join, Spelling, Opt, absent, present, spell, bit, maybe}
-use Rattle.keys.specs.Store.{Run, done, name, plant}
-use Rattle.keys.specs.StoreLaws.{_⊕_, join-done}
+use Rattle.keys.specs.Store.{Run, done, name, plant, _⊕_}
+use Rattle.keys.proofs.StoreLaws.{join-done}
 use Rattle.parts.specs.Laid.{skeleton, runIn, runOpt, namesRun, IsOpt, Shape, optBit}
 use Rattle.parts.specs.Functions.{typeBits}
 use Rattle.parts.specs.RunLaws.{skeleton-join}

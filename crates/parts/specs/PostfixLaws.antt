@@ -9,8 +9,7 @@ use Rattle.words.specs.Ahead.{starter}
 use Rattle.words.specs.Kind.{Bang, Question, Extends}
 use Rattle.keys.specs.Placed as node
 use Rattle.keys.specs.Placed.{Placed, Spelling, spell, join, maybe, absent, present}
-use Rattle.keys.specs.Store.{done}
-use Rattle.keys.specs.StoreLaws.{_⊕_}
+use Rattle.keys.specs.Store.{done, _⊕_}
 use Rattle.rules.specs.State.{Given, State, Result, read, refuse, Reader, then, next, stands, first, end, make}
 use Rattle.rules.specs.Names.{bindingWord}
 use Rattle.rules.specs.Infer.{constraintOf, kept, dropped, trial, infer}

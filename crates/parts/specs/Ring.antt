@@ -4,8 +4,7 @@ use mathlib.Core.List.{List}
 use Prim.Native.Nat.{ℕ}
 use lib.ListN.{length}
 use Rattle.keys.specs.Placed.{Placed, Opt}
-use Rattle.keys.specs.Store.{Run}
-use Rattle.keys.specs.StoreLaws.{_⊕_}
+use Rattle.keys.specs.Store.{Run, _⊕_}
 use Rattle.rules.specs.State as rule
 use Rattle.rules.specs.State.{Result, Reader, read, refuse}
 use Rattle.rules.specs.Function.{ThisParameter, Parameters, parametersOf}

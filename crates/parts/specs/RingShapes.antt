@@ -9,8 +9,8 @@ use Rattle.keys.specs.Bits.{unit}
 use Rattle.keys.specs.Key.{nodeTable}
 use Rattle.keys.specs.Table.{times, type, spelling, _⊗_}
 use Rattle.keys.specs.Placed.{Placed, join, pick, spell, maybe, subjectOf, listed, entries, pieces, Spelling, Opt, absent, present}
-use Rattle.keys.specs.Store.{Run, done, name, plant, packed}
-use Rattle.keys.specs.StoreLaws.{_⊕_, join-join}
+use Rattle.keys.specs.Store.{Run, done, name, plant, packed, _⊕_}
+use Rattle.keys.proofs.StoreLaws.{join-join}
 use Rattle.parts.specs.Laid.{skeleton, runIn, runOpt, runs, nameRun, namesRun, IsNode, node, IsOpt, AllNodes, Shape, optBit}
 use borrow.Author.Tests.{le-leb}
 use Rattle.parts.specs.Says.{optNames}

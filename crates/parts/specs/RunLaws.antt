@@ -8,8 +8,8 @@ use Rattle.keys.specs.Form.{Form, child, Grammar, height, branch, left, right, 
 use Rattle.keys.specs.Key.{nodeTable}
 use Rattle.keys.specs.Table.{times}
 use Rattle.keys.specs.Placed.{Placed, void, said, pick, join, tree, bare, Spelling, entries}
-use Rattle.keys.specs.Store.{Run, done, chose, name, kid, plant, under, called, firstKid, records, namesIn}
-use Rattle.keys.specs.StoreLaws.{_⊕_, join-done, join-join, plant-join}
+use Rattle.keys.specs.Store.{Run, done, chose, name, kid, plant, under, called, firstKid, records, namesIn, _⊕_}
+use Rattle.keys.proofs.StoreLaws.{join-done, join-join, plant-join}
 use Rattle.parts.specs.Laid.{heights, skeleton, runIn, runs, namesRun, IsNode, node}
 
 -- ---- Without choices

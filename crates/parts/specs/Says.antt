@@ -5,8 +5,7 @@ use mathlib.Core.List.{List, [], _∷_}
 use Prim.Native.Nat.{ℕ}
 use Rattle.keys.specs.Bits.{unit}
 use Rattle.keys.specs.Placed.{Placed, Spelling, Opt, absent, present}
-use Rattle.keys.specs.Store.{Run}
-use Rattle.keys.specs.StoreLaws.{_⊕_}
+use Rattle.keys.specs.Store.{Run, _⊕_}
 use Rattle.rules.specs.State as rule
 use Rattle.rules.specs.State.{State, Result, read, refuse}
 use Rattle.rules.specs.List.{count}

@@ -11,8 +11,8 @@ use Rattle.keys.specs.Form.{Form, child}
 use Rattle.keys.specs.Key.{nodeTable}
 use Rattle.keys.specs.Table.{list, opt, times, when}
 use Rattle.keys.specs.Placed.{Placed, Opt, absent, present, entries, listed, maybe, maybeList}
-use Rattle.keys.specs.Store.{Run, done, chose, plant, packed}
-use Rattle.keys.specs.StoreLaws.{_⊕_, join-done, join-join, plant-join}
+use Rattle.keys.specs.Store.{Run, done, chose, plant, packed, _⊕_}
+use Rattle.keys.proofs.StoreLaws.{join-done, join-join, plant-join}
 use Rattle.rules.specs.List.{count}
 use Rattle.parts.specs.Laid.{skeleton, runIn, runOpt, runs, runsOpt, IsNode, node, IsOpt, AllNodes, AllOpt, allowed, Shape, optBit}
 use Rattle.parts.specs.Says.{isThere}

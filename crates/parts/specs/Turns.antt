@@ -6,8 +6,8 @@ use Prim.Native.Nat.{ℕ, suc, _+_, _-_, _≤_, _<_}
 use native.Mathlib.Omega.{arith}
 use lib.ListN.{length, length-append}
 use Rattle.keys.specs.Placed.{Placed, Spelling}
-use Rattle.keys.specs.Store.{Run}
-use Rattle.keys.specs.StoreLaws.{_⊕_, join-join}
+use Rattle.keys.specs.Store.{Run, _⊕_}
+use Rattle.keys.proofs.StoreLaws.{join-join}
 use Rattle.rules.specs.State.{Given, State, Result, read, then, stands}
 use Rattle.rules.specs.List.{listFrom}
 use Rattle.parts.specs.Marks.{view}

@@ -7,8 +7,8 @@ use native.Mathlib.Omega.{arith}
 use lib.ListN.{length}
 use Rattle.keys.specs.Bits.{unit}
 use Rattle.keys.specs.Placed.{Placed, tree, Spelling, absent, present}
-use Rattle.keys.specs.Store.{Run, firstKid, under}
-use Rattle.keys.specs.StoreLaws.{_⊕_, firstKid-join, join-done}
+use Rattle.keys.specs.Store.{Run, firstKid, under, _⊕_}
+use Rattle.keys.proofs.StoreLaws.{firstKid-join, join-done}
 use Rattle.rules.specs.State as rule
 use Rattle.rules.specs.State.{Given, State, Result, refuse, next, stands, optional, make}
 use Rattle.parts.specs.Marks.{view}

@@ -6,8 +6,7 @@ use Prim.Native.Nat.{ℕ, suc, _+_, _≤_, _<_}
 use native.Mathlib.Omega.{arith}
 use lib.ListN.{length}
 use Rattle.keys.specs.Placed.{Placed, Opt, absent, present}
-use Rattle.keys.specs.Store.{Run, done}
-use Rattle.keys.specs.StoreLaws.{_⊕_}
+use Rattle.keys.specs.Store.{Run, done, _⊕_}
 use Rattle.rules.specs.Notes.{note}
 use Rattle.rules.specs.State as rule
 use Rattle.rules.specs.State.{State, Result, read, refuse, stands, end, reportIf}

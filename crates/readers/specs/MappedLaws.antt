@@ -6,7 +6,7 @@ use Prim.Native.Nat.{ℕ}
 use Rattle.words.specs.Kind.{LCurly, Colon, As}
 use Rattle.keys.specs.Placed as node
 use Rattle.keys.specs.Placed.{Placed, Spelling, Opt}
-use Rattle.keys.specs.StoreLaws.{_⊕_}
+use Rattle.keys.specs.Store.{_⊕_}
 use Rattle.rules.specs.State.{Given, State, Result, Reader, read, then, next, kind, first, end, optional, make}
 use Rattle.rules.specs.Mapped.{mapped}
 use Rattle.parts.specs.Laid.{runIn, runOpt, nameRun, IsNode, IsOpt, Shape, optBit}

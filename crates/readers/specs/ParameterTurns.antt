@@ -9,8 +9,8 @@ use lib.ListN.{length, length-append}
 use Rattle.words.specs.Kind.{RParen, Dot3, This}
 use Rattle.words.specs.Test.{_or_}
 use Rattle.keys.specs.Placed.{Placed, Opt}
-use Rattle.keys.specs.Store.{Run}
-use Rattle.keys.specs.StoreLaws.{_⊕_, join-done}
+use Rattle.keys.specs.Store.{Run, _⊕_}
+use Rattle.keys.proofs.StoreLaws.{join-done}
 use Rattle.rules.specs.Refusal.{unexpected, unsupported}
 use Rattle.rules.specs.State.{Given, State, Result, Reader, read, refuse, stands, turns}
 use Rattle.rules.specs.Function.{ThisParameter, Parameters, modified, parameter, parametersFrom}

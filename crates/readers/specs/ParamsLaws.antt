@@ -9,8 +9,8 @@ use Rattle.words.specs.Kind.{Colon}
 use Rattle.words.specs.Cursor.{firstByte, endByte}
 use Rattle.keys.specs.Bits.{unit}
 use Rattle.keys.specs.Placed.{Placed, Opt, absent, present}
-use Rattle.keys.specs.Store.{Run, done}
-use Rattle.keys.specs.StoreLaws.{_⊕_, join-done}
+use Rattle.keys.specs.Store.{Run, done, _⊕_}
+use Rattle.keys.proofs.StoreLaws.{join-done}
 use Rattle.rules.specs.State as rule
 use Rattle.rules.specs.State.{Result, Reader, refuse, optional, turns}
 use Rattle.rules.specs.Function.{ThisParameter, Parameters, parametersOf, parametersFrom, thisFirst, parameters}

@@ -10,8 +10,7 @@ use Rattle.words.specs.Kind.{TemplateHead, TemplateMiddle, TemplateTail}
 use Rattle.words.specs.Cursor.{kindAt}
 use Rattle.keys.specs.Placed as node
 use Rattle.keys.specs.Placed.{Placed, Spelling}
-use Rattle.keys.specs.Store.{Run, name}
-use Rattle.keys.specs.StoreLaws.{_⊕_}
+use Rattle.keys.specs.Store.{Run, name, _⊕_}
 use Rattle.rules.specs.Refusal.{unexpected}
 use Rattle.rules.specs.State as rule
 use Rattle.rules.specs.State.{State, Result, Reader, refuse, then, next, first, end, spelling, turns, make}

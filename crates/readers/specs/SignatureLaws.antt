@@ -6,7 +6,7 @@ use Prim.Native.Nat.{ℕ}
 use lib.ListN.{length}
 use Rattle.words.specs.Kind.{Arrow, Abstract, New}
 use Rattle.keys.specs.Placed.{Placed, Opt}
-use Rattle.keys.specs.StoreLaws.{_⊕_}
+use Rattle.keys.specs.Store.{_⊕_}
 use Rattle.rules.specs.State as rule
 use Rattle.rules.specs.Refusal.{unexpected}
 use Rattle.rules.specs.State.{State, Result, Reader, read, refuse, then, next, stands, past}

@@ -17,8 +17,8 @@ use Rattle.keys.specs.Form.{nodes, Bytes}
 use Rattle.keys.specs.Placed.{Placed, bare}
 use Rattle.keys.specs.Key.{nodeTable, keyOf}
 use Rattle.keys.specs.Store.{nodesOf, namesOf, runOf, done, filled}
-use Rattle.keys.specs.StoreLaws.{length-records, under-plant, length-filled}
-use Rattle.keys.specs.BitsLaws.{clash}
+use Rattle.keys.proofs.StoreLaws.{length-records, under-plant, length-filled}
+use Rattle.keys.proofs.BitsLaws.{clash}
 use Rattle.rules.specs.Notes.{Note, noteWords}
 use Rattle.rules.specs.State.{Given, State, Result, read as got, refuse}
 use Rattle.rules.specs.Read.{refuses, Lent, given, granted, denied, fits, checked, outcome, Called, written, read}

@@ -17,9 +17,9 @@ use Rattle.keys.specs.Form.{Value, nothing, pair, Form, height, nodes}
 use Rattle.keys.specs.Limits.{countWidth}
 use Rattle.keys.specs.Table.{type}
 use Rattle.keys.specs.Placed.{Placed, void, pick, join, tree, bare, Spelling, Opt, absent, present, entries}
-use Rattle.keys.specs.Fitting.{Is, IsSpelling, Each, IfAny, Few, IsList, IsNames}
-use Rattle.keys.specs.Makers.{each-more}
-use Rattle.keys.specs.BitsLaws.{clash}
+use Rattle.keys.proofs.Fitting.{Is, IsSpelling, Each, IfAny, Few, IsList, IsNames}
+use Rattle.keys.proofs.Makers.{each-more}
+use Rattle.keys.proofs.BitsLaws.{clash}
 use Rattle.rules.specs.Notes.{Note}
 use Rattle.rules.specs.State.{Given, State, Result, Reader, read, refuse, then, next, past, stands, kind, first, end, spelling, overlong, make, report, reportIf}
 use Rattle.rules.specs.List.{count}

@@ -16,8 +16,8 @@ use Rattle.keys.specs.Table.{type, element, underName}
 use Rattle.keys.specs.Placed as node
 use Rattle.keys.specs.Placed.{Placed, void, said, pick, join, tree, bare, Spelling, Opt, absent, present, optionalIf, asElement}
 use Rattle.keys.specs.Key.{nodeTable}
-use Rattle.keys.specs.Fitting.{Is, IsSpelling, Each, IfAny}
-use Rattle.keys.specs.Makers as makers
+use Rattle.keys.proofs.Fitting.{Is, IsSpelling, Each, IfAny}
+use Rattle.keys.proofs.Makers as makers
 use Rattle.rules.specs.State.{Given, State, kind, kindAfter, stands, first, end, spelling}
 use Rattle.rules.specs.List.{position}
 use Rattle.rules.specs.Function.{subject}

@@ -15,8 +15,8 @@ use Rattle.keys.specs.Form.{Form, height, nodes}
 use Rattle.keys.specs.Table.{type, element, underRest, typeParam, param}
 use Rattle.keys.specs.Placed as node
 use Rattle.keys.specs.Placed.{Placed, void, join, tree, entries, maybe, maybeList, Spelling, Opt, absent, present, maybeThis, isRest, isAsked, asElement}
-use Rattle.keys.specs.Fitting.{Is, IsSpelling, Each, IfAny, IsList, IsNames, IsPiece}
-use Rattle.keys.specs.Makers as makers
+use Rattle.keys.proofs.Fitting.{Is, IsSpelling, Each, IfAny, IsList, IsNames, IsPiece}
+use Rattle.keys.proofs.Makers as makers
 use Rattle.rules.specs.Refusal.{unexpected}
 use Rattle.rules.specs.Notes.{note, askedAfterLabel}
 use Rattle.rules.specs.State.{Given, State, Result, Reader, read, refused, begin, next, halved, kind, kindAfter, stands, onLine, first, end, spelling, turns, past, expect, optional, make, reportIf}

@@ -9,14 +9,14 @@ use lib.ListN.{length}
 use lib.Seq.{take-append-seam}
 use Rattle.words.specs.Limits.{tallest, mostNotes, mostKey}
 use Rattle.words.specs.Check.{sound, check}
-use Rattle.keys.specs.Limits.{recordWords}
+use Rattle.keys.specs.Limits.{newest, recordWords}
 use Rattle.keys.specs.Table.{type}
 use Rattle.keys.specs.Form.{height, nodes, names, Bytes, Fits}
 use Rattle.keys.specs.Placed.{Placed, bare}
 use Rattle.keys.specs.Key.{taken, nodeTable, keyOf, IsTree, HasRoom}
 use Rattle.keys.specs.Store.{namesOf, allPointed, lent, takeBack}
-use Rattle.keys.specs.Theorems.{same-key, taken-back}
-use Rattle.keys.specs.BitsLaws.{clash}
+use Rattle.keys.proofs.Theorems.{same-key, taken-back}
+use Rattle.keys.proofs.BitsLaws.{clash}
 use Rattle.rules.specs.State.{Given, State, end, read as got}
 use Rattle.rules.specs.Reading.{reading}
 use Rattle.rules.specs.Read.{granted, denied, Outcome, outcome, refuses, written, read}
@@ -122,12 +122,12 @@ module _ {c : Call} {t : Placed} {s : State} (x : Granted c t s) where
 
   -- That key is taken back as its tree where there is room for it.
   pub call-back : (a b d : ℕ) → HasRoom (a / recordWords) b d (bare t) → takeBack (keyLeft (left c)) a b d ≡ lent a b d (taken (bare t))
-  call-back a b d room = ap (λ (key : List ℕ). takeBack key a b d) call-key ∙ ap (lent a b d) (taken-back call-tree room)
+  call-back a b d room = ap (λ (key : List ℕ). takeBack key a b d) call-key ∙ ap (lent a b d) (taken-back newest call-tree room)
 
 -- Two granted calls, under either option, leave the same key exactly when the rules read the same tree.
 pub same-keys : {c d : Call} {t u : Placed} {p q : State} → Granted c t p → Granted d u q → (keyLeft (left c) ≡ keyLeft (left d)) ↔ (bare t ≡ bare u)
 same-keys x y =
-    let same = same-key (call-tree x .fits) (call-tree y .fits) in
+    let same = same-key newest (call-tree x .fits) (call-tree y .fits) in
     (λ e. same .0 (sym (call-key x) ∙ e ∙ call-key y), λ e. call-key x ∙ same .1 e ∙ sym (call-key y))
 
 -- ---- Every call

@@ -17,8 +17,8 @@ use Rattle.words.specs.Cursor.{secondHalf, left, wordAt, wholeKind, firstByte, 
 use Rattle.words.specs.Spelling.{spelledRight, spelling as fixedSpelling}
 use Rattle.words.specs.Check.{Verdict, sound, refused, part, none, endsWell, placed, goodWord, judged, wordsFrom, goodList, check}
 use Rattle.keys.specs.Form.{Bytes}
-use Rattle.keys.specs.Fitting.{IsSpelling, Each}
-use Rattle.keys.specs.BitsLaws.{clash}
+use Rattle.keys.proofs.Fitting.{IsSpelling, Each}
+use Rattle.keys.proofs.BitsLaws.{clash}
 use Rattle.rules.specs.State.{Given, State, spelling, kind as kindHere}
 
 -- ---- Tests

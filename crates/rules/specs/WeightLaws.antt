@@ -7,12 +7,12 @@ use native.Mathlib.Omega.{arith}
 use lib.Dec.{leb, ltb}
 use lib.ListN.{length, length-append}
 use Rattle.keys.specs.Bits.{Bits, bitsOf, bitsOfBytes}
-use Rattle.keys.specs.BitsLaws.{length-bits, length-bytes}
+use Rattle.keys.proofs.BitsLaws.{length-bits, length-bytes}
 use Rattle.keys.specs.Form.{Value, choice, Form, never, one, word, choose, both, child, write, Fits, fits-one, fits-word, fits-choose, fits-both, fits-child}
 use Rattle.keys.specs.Limits.{countWidth, lengthWidth, editionWidth, edition}
 use Rattle.keys.specs.Table.{when, oneOf, times, flag, below, spelling, type, namedRow, list, rows, rowsOf, wholeKey}
 use Rattle.keys.specs.Key.{nodeTable, keyOf}
-use Rattle.keys.specs.KeyLaws.{length-packed}
+use Rattle.keys.proofs.KeyLaws.{length-packed}
 use Rattle.rules.specs.Weight.{weight}
 
 -- ---- Narrow fields
@@ -22,7 +22,7 @@ data Narrow : Form → Type 0 where
   is-never : Narrow never
   is-one : Narrow one
   is-word : (w : ℕ) → w ≤ 16 → Narrow (word w)
-  is-choice : (w : ℕ) {fs : ℕ → Form} → w ≤ 16 → ((k : ℕ) → Narrow (fs k)) → Narrow (choose w fs)
+  is-choice : (w : ℕ) {x : ℕ} {fs : ℕ → Form} → w ≤ 16 → ((k : ℕ) → Narrow (fs k)) → Narrow (choose w x fs)
   is-both : {f g : Form} → Narrow f → Narrow g → Narrow (both f g)
   is-child : {c : ℕ} → Narrow (child c)
 
@@ -61,7 +61,7 @@ spelling-narrow : Narrow spelling
 spelling-narrow = is-word lengthWidth (omega arith)
 
 -- A bit that chooses among two forms, as an opt's does.
-bit-narrow : {a b : Form} → Narrow a → Narrow b → Narrow (choose 1 (oneOf (a ∷ b ∷ [])))
+bit-narrow : {a b : Form} → Narrow a → Narrow b → Narrow (choose 1 0 (oneOf (a ∷ b ∷ [])))
 bit-narrow a b = is-choice 1 (omega arith) (one-narrow (a also b also none))
 
 -- One bit.

@@ -9,15 +9,15 @@ use lib.ListN.{length, take}
 use lib.Seq.{take-append-seam}
 use Rattle.keys.specs.Bits.{bitsOfBytes}
 use Rattle.keys.specs.Form.{Value, Bytes, nodes}
-use Rattle.keys.specs.Limits.{recordWords}
+use Rattle.keys.specs.Limits.{newest, recordWords}
 use Rattle.keys.specs.Placed.{Placed, bare}
 use Rattle.keys.specs.Key as table
 use Rattle.keys.specs.Key.{taken, refused, keyOf, HasRoom, IsKey}
 use Rattle.keys.specs.Store.{TakenBack, back, no, lent, takeBack, nodesOf, namesOf, Left}
 use Rattle.keys.specs.Holds.{Stands}
-use Rattle.keys.specs.BitsLaws.{clash}
-use Rattle.keys.specs.Theorems as keys
-use Rattle.keys.specs.Theorems.{one-standing}
+use Rattle.keys.proofs.BitsLaws.{clash}
+use Rattle.keys.proofs.Theorems as keys
+use Rattle.keys.proofs.Theorems.{one-standing}
 use Rattle.rules.specs.State.{State}
 use Rattle.rules.specs.Read.{granted, refuses, Called, written}
 use Rattle.rules.specs.Call.{Call, left, grants, keyLeft, Granted, Kept, AllZero, IsRefusal}
@@ -96,7 +96,7 @@ module _ (key : List ℕ) (bytes : Bytes key) (a b d : ℕ) {z : TakenBack} (see
 
 -- .. and they are the key of no other.
 pub one-tree : {n k m n' k' m' : ℕ} {key : List ℕ} {t u : Value} → IsKey n k m t key → IsKey n' k' m' u key → t ≡ u
-one-tree x y = keys.one-tree x y
+one-tree x y = keys.one-tree newest x y
 
 -- ---- Two readings, under either option
 module _ {c c' : Call} {t t' : Placed} {s s' : State} (x : Granted c t s) (x' : Granted c' t' s') {z z' : Called} (seen : z ≡ left c) (seen' : z' ≡ left c') where

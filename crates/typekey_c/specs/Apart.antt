@@ -6,11 +6,11 @@ use native.Mathlib.Omega.{arith}
 use Rattle.keys.specs.Form.{Bytes}
 use Rattle.keys.specs.Key as key
 use Rattle.keys.specs.Key.{Taken, taken, refused, takeKey}
-use Rattle.keys.specs.Limits.{recordWords}
+use Rattle.keys.specs.Limits.{newest, recordWords}
 use Rattle.keys.specs.Store as store
 use Rattle.keys.specs.Store.{back, no, lent, takeBack}
-use Rattle.keys.specs.BitsLaws.{clash}
-use Rattle.keys.specs.Theorems as keys
+use Rattle.keys.proofs.BitsLaws.{clash}
+use Rattle.keys.proofs.Theorems as keys
 use Rattle.rules.specs.Read as rules
 use Rattle.rules.specs.Read.{reads, refuses}
 use Rattle.rules.specs.Call as call
@@ -79,7 +79,7 @@ numbered-back k a b c n p e = by (takeKey (a / recordWords) b c k) refl e
     by (taken t) i j = clash (cc)
     by (refused w x) i j =
         let same : w ≡ n = cc in
-        let l = above-zero-back (keys.refusals (a / recordWords) b c k i) in omega arith
+        let l = above-zero-back (keys.refusals newest (a / recordWords) b c k i) in omega arith
 
 -- Two keys taken back that are told by the same words have the same answer.
 pub told-back-apart : (k k' : List ℕ) (a b c a' b' c' : ℕ) → toldBack (takeBack k a b c .answer) ≡ toldBack (takeBack k' a' b' c' .answer)

@@ -4,6 +4,7 @@ use mathlib.Core.List.{List}
 use Prim.Native.Nat.{ℕ, _+_, _*_, _/_, _≤_, _<_, min}
 use lib.ListN.{length, getD}
 use lib.Seq.{sets}
+use Rattle.keys.specs.Limits.{visitWide}
 use Rattle.keys.specs.Form.{height, nodes}
 use Rattle.keys.specs.Placed.{Placed, bare}
 use Rattle.keys.specs.Store.{nodeVisit, choiceVisit, nameVisit, visit, visitsOf}
@@ -18,8 +19,8 @@ pub record Visited (N M : List ℕ) (root tall n r : ℕ) (k : List ℕ) : Type 
 
 -- The visit of a number among words: three words where they are all there, zeros past the last.
 pub record VisitAt (ws : List ℕ) (at kind number depth : ℕ) : Type 0 where
-  pub there : at < length ws / 3 → (kind ≡ getD ws (at * 3) 0) × (number ≡ getD ws (at * 3 + 1) 0) × (depth ≡ getD ws (at * 3 + 2) 0)
-  pub past : length ws / 3 ≤ at → (kind ≡ 0) × (number ≡ 0) × (depth ≡ 0)
+  pub there : at < length ws / visitWide → (kind ≡ getD ws (at * visitWide) 0) × (number ≡ getD ws (at * visitWide + 1) 0) × (depth ≡ getD ws (at * visitWide + 2) 0)
+  pub past : length ws / visitWide ≤ at → (kind ≡ 0) × (number ≡ 0) × (depth ≡ 0)
 
 -- ---- Visits as an output of a walk
 

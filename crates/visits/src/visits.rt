@@ -3,11 +3,11 @@ ghost use mathlib.Core.Path.{_≡_};
 ghost use mathlib.Core.List.{List};
 ghost use Prim.Native.Nat.{ℕ, _+_, _*_, _≤_, _<_, _^_};
 ghost use lib.ListN.{length, set};
-ghost use Rattle.keys.specs.Limits.{widest};
+ghost use Rattle.keys.specs.Limits.{widest, halfWord};
 ghost use Rattle.keys.specs.Store.{visit};
 ghost use Rattle.fields.specs.Put.{far};
-ghost use Rattle.node_table.specs.Forms.{entryAt, grammarOf, IsRow, Narrow};
-ghost use Rattle.node_table.specs.Moves.{Spelled, Ready, Own, After, Begun, Noded};
+ghost use Rattle.node_table.specs.Forms.{entryAt, grammarOf, IsRow, Narrow, tableMost};
+ghost use Rattle.node_table.specs.Moves.{Spelled, Ready, OwnStep, After, Begun, Noded};
 ghost use Rattle.visits.specs.Visits.{VisitAt, Listed, visitWords, Named, Visited};
 use fields::put;
 use keys::store;
@@ -75,7 +75,7 @@ fn visit_chosen(
     s: Walk,
 ) -> Walk
     requires { ⌜ Ready (length (now names)) (now visits) s × IsRow (entryAt (now forms) (s .form)) r × (r .w ≤ widest) × (0 < s .steps) × (5 ≤ r .op) ⌝ }
-    ensures { λ q. ⌜ Own visitWords (now (forms .entry)) (Named (now (names .entry))) (length (now (names .entry))) depth s (now (visits .entry)) q (now (visits .exit)) ⌝ }
+    ensures { λ q. ⌜ OwnStep visitWords (now (forms .entry)) (Named (now (names .entry))) (length (now (names .entry))) depth s (now (visits .entry)) q (now (visits .exit)) ⌝ }
 {
     let c = moves::choice_of(s.word, r.w);
     let to = put_visit(visits, s.to, CHOICE, c.number as u64, depth);
@@ -101,7 +101,7 @@ fn visit_said(
     s: Walk,
 ) -> Walk
     requires { ⌜ Ready (length (now names)) (now visits) s × IsRow (entryAt (now forms) (s .form)) r × (0 < s .steps) × (r .op < 5) × (r .op ≡ 1 → ⊥) × (r .op ≡ 3 → s .n ≡ 0) ⌝ }
-    ensures { λ q. ⌜ Own visitWords (now (forms .entry)) (Named (now (names .entry))) (length (now (names .entry))) depth s (now (visits .entry)) q (now (visits .exit)) ⌝ }
+    ensures { λ q. ⌜ OwnStep visitWords (now (forms .entry)) (Named (now (names .entry))) (length (now (names .entry))) depth s (now (visits .entry)) q (now (visits .exit)) ⌝ }
 {
     let op = r.op;
     let n = s.n;
@@ -133,7 +133,7 @@ fn visit_own(
     s: Walk,
 ) -> Walk
     requires { ⌜ Ready (length (now names)) (now visits) s × IsRow (entryAt (now forms) (s .form)) r × (r .w ≤ widest) × (0 < s .steps) × (r .op ≡ 1 → ⊥) × (r .op ≡ 3 → s .n ≡ 0) ⌝ }
-    ensures { λ q. ⌜ Own visitWords (now (forms .entry)) (Named (now (names .entry))) (length (now (names .entry))) depth s (now (visits .entry)) q (now (visits .exit)) ⌝ }
+    ensures { λ q. ⌜ OwnStep visitWords (now (forms .entry)) (Named (now (names .entry))) (length (now (names .entry))) depth s (now (visits .entry)) q (now (visits .exit)) ⌝ }
 {
     if forms::CHOICE <= r.op {
         return visit_chosen(forms, names, visits, depth, r, s);
@@ -151,7 +151,7 @@ fn after_child(
     s: Walk,
     o: Mark,
 ) -> Walk
-    requires { ⌜ (length (now visits) * 8 ≤ far) × (o .to ≤ far) × (o .name ≤ length (now names)) × (s .child < 2 ^ 32) × (s .form < 2 ^ 32) × (0 < s .n) × (s .n < 2 ^ 32) × (s .steps < 2 ^ 32) ⌝ }
+    requires { ⌜ (length (now visits) * 8 ≤ far) × (o .to ≤ far) × (o .name ≤ length (now names)) × (s .child < halfWord) × (s .form < tableMost) × (0 < s .n) × (s .n < tableMost) × (s .steps < tableMost) ⌝ }
     ensures { λ q. ⌜ After visitWords (now (nodes .entry)) (Named (now (names .entry))) (length (now (names .entry))) w depth s o (now (visits .entry)) q (now (visits .exit)) ⌝ }
 {
     let next = store::next_of(nodes, s.child);
@@ -172,7 +172,7 @@ fn visit_tag(
     at: usize,
     o: Mark,
 ) -> Walk
-    requires { ⌜ (length (now visits) * 8 ≤ far) × (o .to ≤ far) × (class < 2 ^ 32) × (depth + 1 < 2 ^ 64) × (at < 2 ^ 32) × Narrow (now forms) ⌝ }
+    requires { ⌜ (length (now visits) * 8 ≤ far) × (o .to ≤ far) × (class < tableMost) × (depth + 1 < 2 ^ 64) × (at < halfWord) × Narrow (now forms) ⌝ }
     ensures { λ q. ⌜ ((M : List ℕ) → Begun visitWords (now (forms .entry)) (now (nodes .entry)) (Named M) depth class at o (now (visits .entry)) q (now (visits .exit))) ⌝ }
 {
     let own = store::node_at(nodes, at);
@@ -204,7 +204,7 @@ fn visit_node(
     at: usize,
     o: Mark,
 ) -> Mark
-    requires { ⌜ (length (now visits) * 8 ≤ far) × (o .to ≤ far) × (o .name ≤ length (now names)) × (class < 2 ^ 32) × (depth + left < 2 ^ 64) × (at < 2 ^ 32) × Narrow (now forms) ⌝ }
+    requires { ⌜ (length (now visits) * 8 ≤ far) × (o .to ≤ far) × (o .name ≤ length (now names)) × (class < tableMost) × (depth + left < 2 ^ 64) × (at < halfWord) × Narrow (now forms) ⌝ }
     ensures { λ r. ⌜ Noded visitWords (grammarOf (now (forms .entry))) (now (nodes .entry)) (Named (now (names .entry))) left depth (length (now (names .entry))) class at (o .name) (o .to) (now (visits .entry)) (r .name) (r .to) (now (visits .exit)) ⌝ }
 {
     if left == 0 {
@@ -247,7 +247,7 @@ fn visit_node(
 
 // The visits of the type whose root is the node `root` and which is at most `tall` high, as many of their words as fit, and zeros; how many words they have.
 pub fn walk(nodes: &[u64], names: &[u64], root: usize, tall: usize, visits: &mut [u64]) -> usize
-    requires { ⌜ (length (now visits) * 8 ≤ far) × (root < 2 ^ 32) ⌝ }
+    requires { ⌜ (length (now visits) * 8 ≤ far) × (root < halfWord) ⌝ }
     ensures { λ r. ⌜ Visited (now (nodes .entry)) (now (names .entry)) root tall (length (now (visits .entry))) r (now (visits .exit)) ⌝ }
 {
     let forms = forms::words();

@@ -3,7 +3,7 @@ use mathlib.Core.Path.{sym}
 use native.Mathlib.Omega.{arith}
 use lib.ListN.{take}
 use lib.Seq.{length-take-le}
-use Rattle.keys.specs.StoreLaws.{zeros}
+use Rattle.keys.proofs.StoreLaws.{zeros}
 use Rattle.calls.proofs.Fronts.{wrote-all, wrote-front, short-front}
 use borrow.Author.Needs.{needs}
 use Rattle.calls.proofs.reading.put.Statement.{statement}

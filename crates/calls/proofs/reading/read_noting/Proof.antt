@@ -2,7 +2,7 @@
 use mathlib.Core.Path.{_∙_}
 use native.Mathlib.Omega.{arith}
 use lib.ListN.{length}
-use Rattle.key_out.specs.KeyedLaws.{bytes-of}
+use Rattle.key_out.proofs.KeyedLaws.{bytes-of}
 use Rattle.rules.specs.Read.{lend}
 use Rattle.rules.specs.TokenLaws.{start-there}
 use Rattle.calls.proofs.Ruled.{sound-list, spelt-list, reading-from, same-lent, few-used, noted-in, held, reads-read, reads-refused}

@@ -1,5 +1,5 @@
 use native.Mathlib.Omega.{arith}
-use Rattle.fields.specs.PutLaws.{lowest-fits, lowest-is}
+use Rattle.fields.proofs.PutLaws.{lowest-fits, lowest-is}
 use borrow.Author.Needs.{needs}
 use Rattle.fields.proofs.put.lowest_of.Statement.{statement}
 use Rattle.fields.proofs.put.lowest_of.Tie as tie

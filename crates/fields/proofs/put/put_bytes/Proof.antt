@@ -4,7 +4,7 @@ use Prim.Native.Nat.{_-_, _≤_}
 use Rattle.keys.specs.Bits.{bitsOfBytes}
 use Rattle.keys.specs.Store.{part}
 use Rattle.fields.specs.Put.{Put}
-use Rattle.fields.specs.PutLaws.{put-none, text-more, text-all}
+use Rattle.fields.proofs.PutLaws.{put-none, text-more, text-all}
 use Rattle.fields.proofs.put.put_bytes.Statement.{statement}
 use Rattle.fields.proofs.put.put_bytes.Tie as tie
 

@@ -1,4 +1,4 @@
-use Rattle.fields.specs.PutLaws.{number-put}
+use Rattle.fields.proofs.PutLaws.{number-put}
 use borrow.Author.Needs.{needs}
 use Rattle.fields.proofs.put.put_number.Statement.{statement}
 use Rattle.fields.proofs.put.put_number.Tie as tie

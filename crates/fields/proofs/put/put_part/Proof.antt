@@ -1,5 +1,5 @@
 use Rattle.keys.specs.Bits.{bitsOf}
-use Rattle.fields.specs.PutLaws.{part-put, part-past}
+use Rattle.fields.proofs.PutLaws.{part-put, part-past}
 use borrow.Author.Needs.{needs}
 use Rattle.fields.proofs.put.put_part.Statement.{statement}
 use Rattle.fields.proofs.put.put_part.Tie as tie

@@ -6,7 +6,7 @@ use Prim.Native.Nat.{ℕ, _^_, _<_}
 use lib.Pow.{pow-pos}
 use lib.ListN.{length}
 use Rattle.keys.specs.Bits.{bitsOfBytes}
-use Rattle.fields.specs.PutLaws.{Putting, putting-none, putting-more, putting-all}
+use Rattle.fields.proofs.PutLaws.{Putting, putting-none, putting-more, putting-all}
 use Rattle.fields.proofs.put.put_parts.Statement.{statement}
 use Rattle.fields.proofs.put.put_parts.Tie as tie
 

@@ -1,7 +1,7 @@
 use native.Mathlib.Omega.{arith}
 use Prim.Native.Nat.{_-_}
 use lib.Pow.{shr-le}
-use Rattle.fields.specs.PutLaws.{code-upper, code-byte, code-bits}
+use Rattle.fields.proofs.PutLaws.{code-upper, code-byte, code-bits}
 use borrow.Author.Needs.{needs}
 use Rattle.fields.proofs.put.with_part.Statement.{statement}
 use Rattle.fields.proofs.put.with_part.Tie as tie

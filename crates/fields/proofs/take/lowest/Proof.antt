@@ -1,5 +1,5 @@
 use native.Mathlib.Omega.{arith}
-use Rattle.fields.specs.PutLaws.{lowest-fits, lowest-is, lowest-small}
+use Rattle.fields.proofs.PutLaws.{lowest-fits, lowest-is, lowest-small}
 use borrow.Author.Needs.{needs}
 use Rattle.fields.proofs.take.lowest.Statement.{statement}
 use Rattle.fields.proofs.take.lowest.Tie as tie

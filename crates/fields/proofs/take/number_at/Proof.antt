@@ -2,7 +2,7 @@
 use native.Mathlib.Omega.{arith}
 use mathlib.Core.Path.{sym, _∙_}
 use Rattle.keys.specs.Bits.{bitsOfBytes}
-use Rattle.keys.specs.BitsLaws.{length-bytes}
+use Rattle.keys.proofs.BitsLaws.{length-bytes}
 use Rattle.fields.proofs.Chunks.{not-short}
 use borrow.Author.Needs.{needs}
 use Rattle.fields.proofs.take.number_at.Statement.{statement}

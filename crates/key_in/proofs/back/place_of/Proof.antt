@@ -2,7 +2,7 @@
 use mathlib.Core.Path.{sym, ap}
 use mathlib.Core.Bool.{Bool}
 use borrow.Author.Tests.{eq-eqb, ne-eqb}
-use Rattle.keys.specs.Key.{placeOf}
+use Rattle.keys.specs.Key.{refusalPlace}
 use Rattle.key_in.proofs.back.place_of.Statement.{statement}
 use Rattle.key_in.proofs.back.place_of.Tie as tie
 use Rattle.key_in.proofs.back.place_of.Reads as reads
@@ -12,13 +12,13 @@ returns : tie.Need-returns
 returns c =
     let args = c .before .args in
     let if1 = c .if1 in
-    sym (ap (λ (b : Bool). placeOf b (args .bit)) (eq-eqb (args .why) 11 (if1 .taken)))
+    sym (ap (λ (b : Bool). refusalPlace b (args .bit)) (eq-eqb (args .why) 11 (if1 .taken)))
 
 returns-2 : tie.Need-returns-2
 returns-2 c =
     let args = c .before .args in
     let if1 = c .if1 in
-    sym (ap (λ (b : Bool). placeOf b (args .bit)) (ne-eqb (args .why) 11 (if1 .left)))
+    sym (ap (λ (b : Bool). refusalPlace b (args .bit)) (ne-eqb (args .why) 11 (if1 .left)))
 
 pub place-of-spec : {M : Type 1} → statement M
 place-of-spec = tie.close (tie.spec returns returns-2)

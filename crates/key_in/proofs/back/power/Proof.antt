@@ -5,6 +5,7 @@ use native.Mathlib.Nat.{one-mul, mod-eq-of-lt}
 use native.Mathlib.Omega.{arith}
 use lib.Pow.{pow-lt, pow-mono}
 use borrow.Author.Needs.{needs}
+use Rattle.keys.specs.Limits.{choicesWide}
 use Rattle.key_in.proofs.back.power.Statement.{statement}
 use Rattle.key_in.proofs.back.power.Tie as tie
 use Rattle.key_in.proofs.back.power.Reads as reads
@@ -16,7 +17,7 @@ shl-result c = search needs
 returns : tie.Need-returns
 returns c =
     let e : 1 * 2 ^ c .args .k % 2 ^ 64 ≡ 2 ^ c .args .k = ap (λ (x : ℕ). x % 2 ^ 64) (one-mul _) ∙ mod-eq-of-lt (pow-lt {j = 64} (omega arith)) in
-    let m : 2 ^ c .args .k ≤ 2 ^ 60 = pow-mono {j = 60} (omega arith) in
+    let m : 2 ^ c .args .k ≤ 2 ^ choicesWide = pow-mono {j = choicesWide} (omega arith) in
     (e, omega (arith, e))
 
 pub power-spec : {M : Type 1} → statement M

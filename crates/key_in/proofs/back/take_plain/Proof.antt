@@ -2,7 +2,7 @@
 use native.Mathlib.Omega.{arith}
 use lib.ListN.{length}
 use Rattle.keys.specs.Bits.{bitsOfBytes}
-use Rattle.keys.specs.BitsLaws.{length-bytes}
+use Rattle.keys.proofs.BitsLaws.{length-bytes}
 use Rattle.key_in.proofs.Walk.{plain-words, plain-word, choice-fits, plain-choice, plain-never, nothing-else}
 use borrow.Author.Needs.{needs}
 use Rattle.key_in.proofs.back.take_plain.Statement.{statement}

@@ -3,7 +3,7 @@ use native.Mathlib.Omega.{arith}
 use mathlib.Core.Path.{sym, ap, _∙_}
 use lib.ListN.{length}
 use Rattle.keys.specs.Bits.{bitsOfBytes}
-use Rattle.keys.specs.BitsLaws.{length-bytes}
+use Rattle.keys.proofs.BitsLaws.{length-bytes}
 use Rattle.fields.specs.declared.take.TakenField.the-variants.{Number}
 use Rattle.key_in.proofs.Spelling.{spell-short, spell-within, spell-zero, spell-cut, spell-full, spell-crowded, spell-ends, spell-done}
 use borrow.Author.Needs.{needs}

@@ -3,7 +3,7 @@ use native.Mathlib.Omega.{arith}
 use mathlib.Core.Path.{refl, sym, _∙_}
 use Prim.Native.Nat.{_/_}
 use lib.ListN.{length}
-use Rattle.keys.specs.BitsLaws.{length-bytes}
+use Rattle.keys.proofs.BitsLaws.{length-bytes}
 use Rattle.key_in.proofs.Whole.{whole-long, whole-short, whole-other, whole-asks, whole-stop, whole-left, whole-done}
 use borrow.Author.Needs.{needs}
 use Rattle.fields.proofs.take.take_field.Reads as take-field-reads

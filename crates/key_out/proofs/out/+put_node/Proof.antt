@@ -7,9 +7,9 @@ use Rattle.keys.specs.Limits.{widest}
 use Rattle.keys.specs.Holds.{Spells}
 use Rattle.node_table.specs.Forms.{Entry, entryAt, IsRow, grammarOf}
 use Rattle.node_table.specs.Moves.{toDo}
-use Rattle.node_table.specs.MovesLaws.{noded-none, Along, along-none, along-own, along-child, along-past, past-less, walked, walked-out, one-less}
+use Rattle.node_table.proofs.MovesLaws.{noded-none, Along, along-none, along-own, along-child, along-past, past-less, walked, walked-out, one-less}
 use Rattle.key_out.specs.Out.{keyBits}
-use Rattle.key_out.specs.OutLaws.{bits-sound}
+use Rattle.key_out.proofs.OutLaws.{bits-sound}
 use borrow.Fn.Kinds.{In}
 use borrow.Fn.PlainCycle.{Measures, is, falls, and}
 use Rattle.node_table.proofs.forms.row_at.Reads as row-at-reads

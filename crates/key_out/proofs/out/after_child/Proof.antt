@@ -1,8 +1,8 @@
 use lib.ListN.{length}
 use Rattle.keys.specs.Holds.{Spells}
-use Rattle.node_table.specs.MovesLaws.{after-plain, after-spelling, after-as}
+use Rattle.node_table.proofs.MovesLaws.{after-plain, after-spelling, after-as}
 use Rattle.key_out.specs.Out.{keyBits}
-use Rattle.key_out.specs.OutLaws.{bits-sound}
+use Rattle.key_out.proofs.OutLaws.{bits-sound}
 use borrow.Author.Needs.{needs}
 use Rattle.key_out.proofs.out.after_child.Statement.{statement}
 use Rattle.key_out.proofs.out.after_child.Tie as tie

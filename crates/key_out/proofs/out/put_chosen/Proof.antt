@@ -1,8 +1,8 @@
 use lib.ListN.{length}
 use Rattle.keys.specs.Holds.{Spells}
-use Rattle.node_table.specs.MovesLaws.{own-choice}
+use Rattle.node_table.proofs.MovesLaws.{own-choice}
 use Rattle.key_out.specs.Out.{keyBits}
-use Rattle.key_out.specs.OutLaws.{bits-sound}
+use Rattle.key_out.proofs.OutLaws.{bits-sound}
 use borrow.Author.Needs.{needs}
 use Rattle.key_out.proofs.out.put_chosen.Statement.{statement}
 use Rattle.key_out.proofs.out.put_chosen.Tie as tie

@@ -4,12 +4,12 @@ use mathlib.Core.List.{List}
 use Prim.Native.Nat.{ℕ}
 use lib.ListN.{length}
 use Rattle.keys.specs.Holds.{Spells}
-use Rattle.keys.specs.StoreLaws.{zeros}
+use Rattle.keys.proofs.StoreLaws.{zeros}
 use Rattle.node_table.specs.Forms.{grammarOf, Narrow}
-use Rattle.node_table.specs.FormsLaws.{words-narrow}
+use Rattle.node_table.proofs.FormsLaws.{words-narrow}
 use Rattle.node_table.specs.Moves.{Noded}
 use Rattle.key_out.specs.Out.{keyBits}
-use Rattle.key_out.specs.KeyedLaws.{keyed, bytes-of}
+use Rattle.key_out.proofs.KeyedLaws.{keyed, bytes-of}
 use borrow.Author.Needs.{needs}
 use Rattle.key_out.proofs.out.put_key.Statement.{statement}
 use Rattle.key_out.proofs.out.put_key.Tie as tie

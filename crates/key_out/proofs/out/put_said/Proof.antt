@@ -1,8 +1,8 @@
 use lib.ListN.{length}
 use Rattle.keys.specs.Holds.{Spells}
-use Rattle.node_table.specs.MovesLaws.{own-spelling, own-spellings, own-next, own-stop, own-as, no-other}
+use Rattle.node_table.proofs.MovesLaws.{own-spelling, own-spellings, own-next, own-stop, own-as, no-other}
 use Rattle.key_out.specs.Out.{keyBits}
-use Rattle.key_out.specs.OutLaws.{bits-sound}
+use Rattle.key_out.proofs.OutLaws.{bits-sound}
 use borrow.Author.Needs.{needs}
 use Rattle.key_out.proofs.out.put_said.Statement.{statement}
 use Rattle.key_out.proofs.out.put_said.Tie as tie

@@ -1,4 +1,4 @@
-use Rattle.key_out.specs.OutLaws.{spelled-past, spelled-out, spelled-put}
+use Rattle.key_out.proofs.OutLaws.{spelled-past, spelled-out, spelled-put}
 use borrow.Author.Needs.{needs}
 use Rattle.key_out.proofs.out.put_spelling.Statement.{statement}
 use Rattle.key_out.proofs.out.put_spelling.Tie as tie

@@ -2,11 +2,11 @@ use Prim.Native.Nat.{_≤_}
 use mathlib.Core.Path.{sym, subst}
 use Rattle.keys.specs.Limits.{widest}
 use Rattle.keys.specs.Holds.{Spells}
-use Rattle.fields.specs.PutLaws.{put-none}
+use Rattle.fields.proofs.PutLaws.{put-none}
 use Rattle.node_table.specs.Forms.{Entry}
-use Rattle.node_table.specs.MovesLaws.{begun}
+use Rattle.node_table.proofs.MovesLaws.{begun}
 use Rattle.key_out.specs.Out.{keyBits}
-use Rattle.key_out.specs.OutLaws.{bits-sound}
+use Rattle.key_out.proofs.OutLaws.{bits-sound}
 use borrow.Author.Needs.{needs}
 use Rattle.key_out.proofs.out.put_tag.Statement.{statement}
 use Rattle.key_out.proofs.out.put_tag.Tie as tie

@@ -1,5 +1,5 @@
 use native.Mathlib.Omega.{arith}
-use Rattle.node_table.specs.FormsLaws.{class-in, class-out}
+use Rattle.node_table.proofs.FormsLaws.{class-in, class-out}
 use mathlib.Core.Path.{refl}
 use borrow.Author.Needs.{needs}
 use Rattle.node_table.proofs.forms.class_at.Statement.{statement}

@@ -1,4 +1,4 @@
-use Rattle.node_table.specs.FormsLaws.{jumps-listed, jumps-times, jumps-few, jumps-on}
+use Rattle.node_table.proofs.FormsLaws.{jumps-listed, jumps-times, jumps-few, jumps-on}
 use borrow.Author.Needs.{needs}
 use Rattle.node_table.proofs.forms.jump_at.Statement.{statement}
 use Rattle.node_table.proofs.forms.jump_at.Tie as tie

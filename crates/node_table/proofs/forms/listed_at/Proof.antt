@@ -1,4 +1,4 @@
-use Rattle.node_table.specs.FormsLaws.{lists-in, lists-out}
+use Rattle.node_table.proofs.FormsLaws.{lists-in, lists-out}
 use borrow.Author.Needs.{needs}
 use Rattle.node_table.proofs.forms.listed_at.Statement.{statement}
 use Rattle.node_table.proofs.forms.listed_at.Tie as tie

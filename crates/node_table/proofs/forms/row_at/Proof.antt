@@ -1,5 +1,5 @@
 use native.Mathlib.Omega.{arith}
-use Rattle.node_table.specs.FormsLaws.{row-in, row-out}
+use Rattle.node_table.proofs.FormsLaws.{row-in, row-out}
 use mathlib.Core.Path.{refl}
 use borrow.Author.Needs.{needs}
 use Rattle.node_table.proofs.forms.row_at.Statement.{statement}

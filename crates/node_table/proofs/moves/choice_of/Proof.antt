@@ -1,6 +1,6 @@
 use native.Mathlib.Omega.{arith}
 use mathlib.Core.Path.{refl}
-use Rattle.fields.specs.PutLaws.{lowest-fits, lowest-is, lowest-small}
+use Rattle.fields.proofs.PutLaws.{lowest-fits, lowest-is, lowest-small}
 use borrow.Author.Needs.{needs}
 use Rattle.node_table.proofs.moves.choice_of.Statement.{statement}
 use Rattle.node_table.proofs.moves.choice_of.Tie as tie

@@ -1,5 +1,5 @@
 use borrow.Author.Needs.{needs}
-use Rattle.keys.specs.BitsLaws.{clash}
+use Rattle.keys.proofs.BitsLaws.{clash}
 use Rattle.node_table.proofs.moves.into_child.Statement.{statement}
 use Rattle.node_table.proofs.moves.into_child.Tie as tie
 

@@ -3,7 +3,7 @@ use mathlib.Core.Path.{refl, sym, subst}
 use mathlib.Core.Bool.{Bool}
 use mathlib.Core.List.{[], _∷_}
 use native.Mathlib.Omega.{arith}
-use Rattle.keys.specs.StoreLaws.{_⊕_}
+use Rattle.keys.specs.Store.{_⊕_}
 use Rattle.keys.specs.Placed.{present, absent, join, spell, maybe}
 use Rattle.parts.specs.Laid.{nameRun, runIn}
 use Rattle.parts.specs.BuiltLaws.{built-names, built-one}

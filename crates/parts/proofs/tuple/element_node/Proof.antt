@@ -3,7 +3,7 @@ use mathlib.Core.Path.{refl, sym, _∙_, subst}
 use mathlib.Core.List.{List, []}
 use native.Mathlib.Omega.{arith}
 use Rattle.keys.specs.Placed.{Spelling}
-use Rattle.keys.specs.StoreLaws.{_⊕_}
+use Rattle.keys.specs.Store.{_⊕_}
 use Rattle.parts.specs.Marks.{view}
 use Rattle.parts.specs.Laid.{runIn, namesRun, Laid}
 use Rattle.parts.specs.Answers.{says-same}

@@ -6,9 +6,9 @@ use borrow.Author.Needs.{needs}
 use Rattle.keys.specs.Limits.{widest}
 use Rattle.node_table.specs.Forms.{Entry, grammarOf}
 use Rattle.node_table.specs.Moves.{toDo}
-use Rattle.node_table.specs.MovesLaws.{noded-none, Along, along-none, along-own, along-child, walked, walked-out, one-less}
+use Rattle.node_table.proofs.MovesLaws.{noded-none, Along, along-none, along-own, along-child, walked, walked-out, one-less}
 use Rattle.visits.specs.Visits.{visitWords, Named}
-use Rattle.visits.specs.VisitsLaws.{visits-sound}
+use Rattle.visits.proofs.VisitsLaws.{visits-sound}
 use borrow.Fn.Kinds.{In}
 use borrow.Fn.PlainCycle.{Measures, is, falls, and}
 use Rattle.node_table.proofs.forms.row_at.Reads as row-at-reads

@@ -1,7 +1,7 @@
 use lib.ListN.{length}
-use Rattle.node_table.specs.MovesLaws.{after-plain, after-spelling, after-as}
+use Rattle.node_table.proofs.MovesLaws.{after-plain, after-spelling, after-as}
 use Rattle.visits.specs.Visits.{visitWords, Named}
-use Rattle.visits.specs.VisitsLaws.{visits-sound}
+use Rattle.visits.proofs.VisitsLaws.{visits-sound}
 use borrow.Author.Needs.{needs}
 use Rattle.visits.proofs.visits.after_child.Statement.{statement}
 use Rattle.visits.proofs.visits.after_child.Tie as tie

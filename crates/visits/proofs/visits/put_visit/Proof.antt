@@ -1,4 +1,4 @@
-use Rattle.visits.specs.VisitsLaws.{listed-visit}
+use Rattle.visits.proofs.VisitsLaws.{listed-visit}
 use borrow.Author.Needs.{needs}
 use Rattle.visits.proofs.visits.put_visit.Statement.{statement}
 use Rattle.visits.proofs.visits.put_visit.Tie as tie

@@ -1,5 +1,5 @@
 use native.Mathlib.Omega.{arith}
-use Rattle.visits.specs.VisitsLaws.{named-past, named-put}
+use Rattle.visits.proofs.VisitsLaws.{named-past, named-put}
 use borrow.Author.Needs.{needs}
 use Rattle.visits.proofs.visits.visit_name.Statement.{statement}
 use Rattle.visits.proofs.visits.visit_name.Tie as tie

@@ -1,7 +1,7 @@
 use lib.ListN.{length}
-use Rattle.node_table.specs.MovesLaws.{own-spelling, own-spellings, own-next, own-stop, own-as, no-other}
+use Rattle.node_table.proofs.MovesLaws.{own-spelling, own-spellings, own-next, own-stop, own-as, no-other}
 use Rattle.visits.specs.Visits.{visitWords, Named}
-use Rattle.visits.specs.VisitsLaws.{visits-sound}
+use Rattle.visits.proofs.VisitsLaws.{visits-sound}
 use borrow.Author.Needs.{needs}
 use Rattle.visits.proofs.visits.visit_said.Statement.{statement}
 use Rattle.visits.proofs.visits.visit_said.Tie as tie

@@ -2,9 +2,9 @@ use Prim.Native.Nat.{_≤_}
 use mathlib.Core.Path.{sym, subst}
 use Rattle.keys.specs.Limits.{widest}
 use Rattle.node_table.specs.Forms.{Entry}
-use Rattle.node_table.specs.MovesLaws.{begun}
+use Rattle.node_table.proofs.MovesLaws.{begun}
 use Rattle.visits.specs.Visits.{visitWords, Named}
-use Rattle.visits.specs.VisitsLaws.{visits-sound}
+use Rattle.visits.proofs.VisitsLaws.{visits-sound}
 use borrow.Author.Needs.{needs}
 use Rattle.visits.proofs.visits.visit_tag.Statement.{statement}
 use Rattle.visits.proofs.visits.visit_tag.Tie as tie

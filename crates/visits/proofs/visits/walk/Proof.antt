@@ -2,12 +2,12 @@ use mathlib.Core.Path.{sym, subst}
 use mathlib.Core.List.{List}
 use Prim.Native.Nat.{ℕ}
 use lib.ListN.{length}
-use Rattle.keys.specs.StoreLaws.{zeros}
+use Rattle.keys.proofs.StoreLaws.{zeros}
 use Rattle.node_table.specs.Forms.{grammarOf, Narrow}
-use Rattle.node_table.specs.FormsLaws.{words-narrow}
+use Rattle.node_table.proofs.FormsLaws.{words-narrow}
 use Rattle.node_table.specs.Moves.{Noded}
 use Rattle.visits.specs.Visits.{visitWords, Named}
-use Rattle.visits.specs.VisitsLaws.{visited}
+use Rattle.visits.proofs.VisitsLaws.{visited}
 use borrow.Author.Needs.{needs}
 use Rattle.visits.proofs.visits.walk.Statement.{statement}
 use Rattle.visits.proofs.visits.walk.Tie as tie

@@ -6,7 +6,7 @@ use borrow.Author.Needs.{needs}
 use lib.ListN.{length}
 use Rattle.keys.specs.Limits.{widest}
 use Rattle.keys.specs.Bits.{bitsOfBytes}
-use Rattle.keys.specs.BitsLaws.{length-bytes}
+use Rattle.keys.proofs.BitsLaws.{length-bytes}
 use Rattle.keys.proofs.store.append_node.Reads as append-node-reads
 use Rattle.node_table.specs.Forms.{Entry, formOf, grammarOf}
 use Rattle.node_table.proofs.forms.class_at.Reads as class-at-reads

@@ -10,7 +10,7 @@ use lib.Dec.{leb}
 use lib.ListN.{length, length-append}
 use Rattle.keys.specs.Bits.{Bits, bitsOf, Field, short, field, takeField, bitsOfBytes, Row, cut, row, takeBytes}
 use Rattle.keys.specs.Form.{Value, nothing, spelt, choice, pair, node, Form, never, one, word, choose, both, child, Grammar, isNever, height, nodes, names, letters, Bytes, write, Fits, fits-one, fits-word, fits-choose, fits-both, fits-child, State, state, Result, got, stop, into, andThen, allowed, ifWhole, takeChoice, keep, takeLetters, takeLength, takeSpelling, takeRoom, takeForm, takeNode}
-use Rattle.keys.specs.BitsLaws.{clash, take-written, take-back, Written, take-bytes, bytes-back, Spelled, length-bytes}
+use Rattle.keys.proofs.BitsLaws.{clash, take-written, take-back, Written, take-bytes, bytes-back, Spelled, length-bytes}
 
 -- ---- What was written is taken
 
@@ -171,10 +171,10 @@ module _ (G : Grammar) where
         subst₂ (λ (x : Value) (z : State). Back h one x s z) value after
         (record { fits = fits-one; tall = omega arith; bits = refl; nodesLeft = omega arith; namesLeft = omega arith; textLeft = omega arith })
 
-    choose-back : (w : ℕ) (fs : ℕ → Form) (t : ℕ) (r : Bits) (u v : Value) → Written w t (s .bits) r → v ≡ choice t u
-        → Back h (fs t) u (state (s .nodesLeft) (s .namesLeft) (s .textLeft) r) s' → Back h (choose w fs) v s s'
-    choose-back w fs t r u v a e d =
-        subst (λ (x : Value). Back h (choose w fs) x s s') (sym e)
+    choose-back : (w x : ℕ) (fs : ℕ → Form) (t : ℕ) (r : Bits) (u v : Value) → Written w t (s .bits) r → v ≡ choice t u
+        → Back h (fs t) u (state (s .nodesLeft) (s .namesLeft) (s .textLeft) r) s' → Back h (choose w x fs) v s s'
+    choose-back w x fs t r u v a e d =
+        subst (λ (y : Value). Back h (choose w x fs) y s s') (sym e)
         (record {
           fits = fits-choose (a .small) (d .fits);
           tall = d .tall;
@@ -216,10 +216,10 @@ module _ (G : Grammar) where
     fields-back never s v s' e = clash (cc)
     fields-back one s v s' e = one-back h s s' v e
     fields-back (word w) s v s' e = spelling-back h w s v s' e
-    fields-back (choose w fs) s v s' e =
+    fields-back (choose w x fs) s v s' e =
         let c = choice-back w fs s _ v s' e in
         let g = into-back (choice (c .number)) _ v s' (c .went) in
-        choose-back h s s' w fs (c .number) (c .rest) (g .inner) v (c .was) (g .made)
+        choose-back h s s' w x fs (c .number) (c .rest) (g .inner) v (c .was) (g .made)
         (fields-back (fs (c .number)) (state (s .nodesLeft) (s .namesLeft) (s .textLeft) (c .rest)) (g .inner) s' (g .came))
     fields-back (both f g) s v s' e =
         let c = then-back (takeForm (takeNode G h) f s) _ v s' e in

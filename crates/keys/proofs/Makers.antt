@@ -13,9 +13,9 @@ use Rattle.keys.specs.Limits.{countWidth}
 use Rattle.keys.specs.Table.{_⊗_, when, oneOf, times, flag, below, opt, spelling, type, element, underRest, underName, typeParam, param, literals, subject, namedRow, list, rows, rowsOf}
 use Rattle.keys.specs.Placed.{Placed, void, said, pick, join, tree, bare, Spelling, Opt, absent, present, spell, bit, number, entries, listed, spellings, listedNames, maybe, maybeList, maybeThis, subjectOf, pieces, reference, keyword, literal, parens, union, intersection, array, indexed, conditional, infer, operator, function, constructor, mapped, template, predicate, typeof, importType, tuple, optional, rest, named, nonNull, asked, typeParameter, parameter, tagOf, isAsked, optionalIf, asElement}
 use Rattle.keys.specs.Key.{nodeTable}
-use Rattle.keys.specs.Fitting.{Is, IsSpelling, Each, IfAny, Few, IsList, IsNames, IsPiece}
-use Rattle.keys.specs.BitsLaws.{clash}
-use Rattle.keys.specs.FormLaws.{some}
+use Rattle.keys.proofs.Fitting.{Is, IsSpelling, Each, IfAny, Few, IsList, IsNames, IsPiece}
+use Rattle.keys.proofs.BitsLaws.{clash}
+use Rattle.keys.proofs.FormLaws.{some}
 
 -- ---- What makers keep apart
 

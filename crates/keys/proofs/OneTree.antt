@@ -5,16 +5,17 @@ use Prim.Native.Nat.{ℕ, _+_, _*_, _/_, _^_, _<_}
 use native.Mathlib.Omega.{arith}
 use lib.ListN.{length}
 use lib.Seq.{take-all}
+use Rattle.keys.specs.Limits.{halfWord}
 use Rattle.keys.specs.Bits.{Bits, bitsOf, bitsOfBytes}
-use Rattle.keys.specs.Form.{Form, one, both, child, Grammar, nodes, names, write, Fits}
+use Rattle.keys.specs.Form.{Form, one, both, child, Grammar, wider, nodes, names, write, Fits}
 use Rattle.keys.specs.Table.{type}
 use Rattle.keys.specs.Placed.{Placed, bare}
 use Rattle.keys.specs.Key.{nodeTable}
 use Rattle.keys.specs.Store.{Run, done, called, firstKid, nodesOf, namesOf, allPointed, runOf}
-use Rattle.keys.specs.StoreLaws.{length-records, under-plant}
+use Rattle.keys.proofs.StoreLaws.{length-records, under-plant}
 use Rattle.keys.specs.Lines.{lined, Of, of-one, of-word, of-choose, of-child, written}
 use Rattle.keys.specs.Holds.{wordAt, childAt, nextAt, Cursor, cursor, HoldsBy, Stands}
-use Rattle.keys.specs.HoldsLaws.{of-type, root-is, stands-holds, stands-written}
+use Rattle.keys.proofs.HoldsLaws.{of-type, root-is, stands-holds, stands-written}
 
 -- Two runs of a form have one count of names and one row of bits.
 record Alike (G : Grammar) (f : Form) (a b : Run) : Type 0 where
@@ -31,9 +32,9 @@ one-run N k (of-word {w = w} {s = u} o) (of-word {s = v} q) s h j =
       count = ap (λ (n : ℕ). 1 + n) (d .count);
       bits = ap₂ (λ (x : List ℕ) (y : Bits). (bitsOf w (length x) ++ bitsOfBytes x) ++ y) (k (s .name) u v (h .0) (j .0)) (d .bits);
     }
-one-run {G} N k (of-choose {w = w} {k = m} {fs = fs} o) (of-choose {k = n} {r = b} q) s h j =
+one-run {G} N k (of-choose {w = w} {x = x} {k = m} {fs = fs} o) (of-choose {k = n} {r = b} q) s h j =
     let e : n ≡ m = sym (j .0) ∙ h .0 in
-    let d = one-run N k o (subst (λ (x : ℕ). Of G (fs x) b) e q) (cursor (s .word / 2 ^ w) (s .child) (s .name)) (h .1) (j .1) in
+    let d = one-run N k o (subst (λ (y : ℕ). Of G (fs y) b) e q) (cursor (s .word / 2 ^ wider w x) (s .child) (s .name)) (h .1) (j .1) in
     record {
       count = d .count;
       bits = ap (λ (x : Bits). bitsOf w m ++ x) (d .bits) ∙ ap (λ (x : ℕ). bitsOf w x ++ written G (fs x) b) (sym e);
@@ -61,7 +62,7 @@ one-written {N} {M} {X} {p} {q} a b e = sym (stands-written N M X p a) ∙ same 
         (stands-holds N M X p a root (root-is p (a .fits))) (stands-holds N M X q b root (root-is p (a .fits) ∙ e))
 
 -- A tree whose names point at its spellings stands in its own words.
-pub own-words : (X : List ℕ) (p : Placed) → Fits nodeTable type (bare p) → nodes (bare p) < 2 ^ 32 → allPointed X (namesOf p) ≡ names (bare p) → Stands (nodesOf p) (namesOf p) X p
+pub own-words : (X : List ℕ) (p : Placed) → Fits nodeTable type (bare p) → nodes (bare p) < halfWord → allPointed X (namesOf p) ≡ names (bare p) → Stands (nodesOf p) (namesOf p) X p
 own-words X p f h s =
     record {
       fits = f;

@@ -1,19 +1,21 @@
 -- A store in which a tree stands holds the tree's run, and the run is of the tree's form in line and written as the tree is.
 use mathlib.Core.Path.{_≡_, refl, sym, ap, ap₂, _∙_, subst}
 use mathlib.Core.List.{List, [], _∷_, _++_, append-assoc, append-nil}
-use Prim.Native.Nat.{ℕ, suc, _+_, _-_, _*_, _/_, _%_, _^_, _≤_, _<_, max, min}
+use Prim.Native.Nat.{ℕ, zero, suc, _+_, _-_, _*_, _/_, _%_, _^_, _≤_, _<_, max, min}
 use native.Mathlib.Nat.{add-comm, add-zero, mul-comm, mod-eq-of-lt}
 use native.Mathlib.Omega.{arith}
 use lib.Arith.{digits-div, digits-mod}
+use lib.Pow.{pow-mono}
 use lib.ListN.{length, getD, take, drop, replicate, length-append, take-append-drop, length-take, length-drop, List·getD-append}
 use lib.Seq.{getD-append-add, take-append-seam}
+use Rattle.keys.specs.Limits.{halfWord}
 use Rattle.keys.specs.Bits.{Bits, bitsOf}
-use Rattle.keys.specs.Form.{Value, Form, one, both, child, Grammar, branch, left, right, class, height, nodes, names, letters, write, Fits, fits-one, fits-word, fits-choose, fits-both, fits-child}
+use Rattle.keys.specs.Form.{Value, Form, one, both, child, Grammar, wider, branch, left, right, class, height, nodes, names, letters, write, Fits, fits-one, fits-word, fits-choose, fits-both, fits-child}
 use Rattle.keys.specs.Table.{type}
 use Rattle.keys.specs.Placed.{Placed, void, said, pick, join, tree, bare, laid}
 use Rattle.keys.specs.Key.{nodeTable}
 use Rattle.keys.specs.Store.{Run, done, chose, name, kid, plant, under, called, packed, firstKid, recordOf, records, nameOf, namesIn, runOf, nodesOf, namesOf, textOf, pointed, allPointed, filled}
-use Rattle.keys.specs.StoreLaws.{length-records, length-namesIn, under-plant, bare-laid, names-point}
+use Rattle.keys.proofs.StoreLaws.{length-records, length-namesIn, under-plant, bare-laid, names-point}
 use Rattle.keys.specs.Lines.{inLine, lined, Of, of-one, of-word, of-choose, of-child, levels, written}
 use Rattle.keys.specs.Holds.{wordAt, childAt, nextAt, startAt, sizeAt, Spells, cursor, Holds, Stands}
 
@@ -33,11 +35,19 @@ spellings (chose w k r) = spellings r
 spellings (name x s r) = s ∷ spellings r
 spellings (kid first end a r) = spellings a ++ spellings r
 
+-- What fits a width fits a wider one.
+wider-most : (w x : ℕ) → w ≤ wider w x
+wider-most w zero = omega arith
+wider-most w (suc x) = omega (arith, wider-most w x)
+
+wider-fits : (w x k : ℕ) → k < 2 ^ w → k < 2 ^ wider w x
+wider-fits w x k h = omega (arith, h, pow-mono {i = w} {j = wider w x} (wider-most w x))
+
 module _ (G : Grammar) where
   neat-plant : {f : Form} (p : Placed) → Fits G f (bare p) → (r : Run) → Neat r → Neat (plant G f p r)
   neat-plant void fits-one r h = h
   neat-plant (said x s) (fits-word a b c) r h = (a, h)
-  neat-plant (pick k p) (fits-choose a b) r h = (a, neat-plant p b r h)
+  neat-plant (pick k p) (fits-choose {w = w} {x = x} a b) r h = (wider-fits w x k a, neat-plant p b r h)
   neat-plant (join p q) (fits-both {g = g} a b) r h = neat-plant p a (plant G g q r) (neat-plant q b r h)
   neat-plant (tree t first end p) (fits-child a b) r h = ((a, neat-plant p b done tt), h)
 
@@ -184,13 +194,13 @@ points X (kid first end a r) e =
 
 -- ---- A store with the content of a run holds it
 
-first-lt : (t : Run) (b n : ℕ) → b + under t < 2 ^ 32 → n < 2 ^ 32 → firstKid t b n < 2 ^ 32
+first-lt : (t : Run) (b n : ℕ) → b + under t < halfWord → n < halfWord → firstKid t b n < halfWord
 first-lt done b n h l = l
 first-lt (chose w k t) b n h l = first-lt t b n h l
 first-lt (name x s t) b n h l = first-lt t b n h l
 first-lt (kid first end a t) b n h l = omega arith
 
-low-is : (x y : ℕ) → x < 2 ^ 32 → (x + 2 ^ 32 * y) % 2 ^ 32 ≡ x
+low-is : (x y : ℕ) → x < halfWord → (x + halfWord * y) % halfWord ≡ x
 low-is x y h = omega arith
 
 mod-is : (k p y : ℕ) → k < p → (k + p * y) % p ≡ k
@@ -207,15 +217,15 @@ pub record Kid (N : List ℕ) (first end : ℕ) (a t : Run) (b m n next : ℕ) :
   pub child : childAt N next ≡ firstKid a b 0
   pub sibling : nextAt N next ≡ firstKid t (b + under a + 1) n
 
-pub kid-in : (N : List ℕ) (first end : ℕ) (a t : Run) (b m n next : ℕ) → In N (b * 4) (records (kid first end a t) b m n) → b + under (kid first end a t) < 2 ^ 32 → n < 2 ^ 32
+pub kid-in : (N : List ℕ) (first end : ℕ) (a t : Run) (b m n next : ℕ) → In N (b * 4) (records (kid first end a t) b m n) → b + under (kid first end a t) < halfWord → n < halfWord
     → next ≡ firstKid (kid first end a t) b n → Kid N first end a t b m n next
 kid-in N first end a t b m n next p h l f =
     record {
       inside = in-left (records a b m 0) own (in-left (records a b m 0 ++ own) rest p);
       others = in-right (records a b m 0 ++ own) rest ((b + under a + 1) * 4) (omega (arith, size, length-append (records a b m 0) own)) p;
       word = in-at own 0 (next * 4) (omega arith) (omega arith) here;
-      child = ap (λ (i : ℕ). i % 2 ^ 32) (in-at own 2 (next * 4 + 2) refl (omega arith) here) ∙ low-is (firstKid a b 0) m (first-lt a b 0 (omega arith) (omega arith));
-      sibling = ap (λ (i : ℕ). i % 2 ^ 32) (in-at own 3 (next * 4 + 3) refl (omega arith) here) ∙ mod-eq-of-lt (first-lt t (b + under a + 1) n (omega arith) l);
+      child = ap (λ (i : ℕ). i % halfWord) (in-at own 2 (next * 4 + 2) refl (omega arith) here) ∙ low-is (firstKid a b 0) m (first-lt a b 0 (omega arith) (omega arith));
+      sibling = ap (λ (i : ℕ). i % halfWord) (in-at own 3 (next * 4 + 3) refl (omega arith) here) ∙ mod-eq-of-lt (first-lt t (b + under a + 1) n (omega arith) l);
     }
   where
     own : List ℕ
@@ -243,11 +253,11 @@ module _ (N M X : List ℕ) where
         is = p;
       }
     where
-      inside-by : (w x n all : ℕ) → w ≡ x * 2 ^ 32 + n → 1 ≤ n → {d : ℕ} → n ≡ min (w % 2 ^ 32) d → d ≡ all - w / 2 ^ 32 → w / 2 ^ 32 + w % 2 ^ 32 ≤ all
+      inside-by : (w x n all : ℕ) → w ≡ x * halfWord + n → 1 ≤ n → {d : ℕ} → n ≡ min (w % halfWord) d → d ≡ all - w / halfWord → w / halfWord + w % halfWord ≤ all
       inside-by w x n all e h {d} q z = omega arith
 
   holds-run : (t : Run) (b m n : ℕ) → In N (b * 4) (records t b m n) → In M m (namesIn t) → Points X t
-      → b + under t < 2 ^ 32 → n < 2 ^ 32 → Neat t → (choices next : ℕ) → choices ≡ packed t → next ≡ firstKid t b n → Holds N M X t (cursor choices next m)
+      → b + under t < halfWord → n < halfWord → Neat t → (choices next : ℕ) → choices ≡ packed t → next ≡ firstKid t b n → Holds N M X t (cursor choices next m)
   holds-run done b m n p q r h l z choices next e f = tt
   holds-run (chose w k t) b m n p q r h l (z, y) choices next e f = (
     ap (λ (i : ℕ). i % 2 ^ w) e ∙ mod-is k (2 ^ w) (packed t) z,
@@ -281,12 +291,12 @@ module _ (N M X : List ℕ) where
   stands-written p d = written-plant nodeTable one p (d .fits) done ∙ append-nil (write nodeTable type (bare p))
 
 -- What taking back leaves of a tree stands in its outputs.
-pub stands-laid : (t : Value) (a b c : ℕ) → Fits nodeTable type t → nodes t < 2 ^ 32 → letters t < 2 ^ 32
+pub stands-laid : (t : Value) (a b c : ℕ) → Fits nodeTable type t → nodes t < halfWord → letters t < halfWord
     → Stands (filled a (nodesOf (laid t 0))) (filled b (namesOf (laid t 0))) (filled c (textOf t)) (laid t 0)
 stands-laid t a b c f h l =
     record {
       fits = subst (Fits nodeTable type) (sym (bare-laid t 0)) f;
-      few = subst (λ (v : Value). nodes v < 2 ^ 32) (sym (bare-laid t 0)) h;
+      few = subst (λ (v : Value). nodes v < halfWord) (sym (bare-laid t 0)) h;
       nodesThere = take-append-seam (nodesOf (laid t 0)) (replicate (a - length (nodesOf (laid t 0))) 0);
       namesThere = take-append-seam (namesOf (laid t 0)) (replicate (b - length (namesOf (laid t 0))) 0);
       spelled = names-point nodeTable type t (replicate (c - length (textOf t)) 0) l ∙ ap names (sym (bare-laid t 0));

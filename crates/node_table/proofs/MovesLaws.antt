@@ -4,15 +4,16 @@ use mathlib.Core.List.{List, [], _++_, append-assoc, append-nil}
 use Prim.Native.Nat.{ℕ, zero, suc, _+_, _-_, _*_, _/_, _%_, _^_, _≤_, _<_}
 use native.Mathlib.Omega.{arith}
 use lib.ListN.{length}
+use Rattle.keys.specs.Limits.{halfWord}
 use Rattle.keys.specs.Form.{Form, never, one, word, choose, both, child, Grammar}
 use Rattle.keys.specs.Table.{oneOf}
 use Rattle.keys.specs.Store.{Run, name, called}
 use Rattle.keys.specs.Holds.{wordAt, childAt, nextAt, Cursor, cursor, HoldsBy}
 use Rattle.keys.specs.Lines.{tagged, Of, of-one, of-word, of-choose, of-child, levels}
 use Rattle.fields.specs.Put.{far}
-use Rattle.node_table.specs.Forms.{spellingsThen, spellingIf, nodesThen, Entry, entryAt, classAt, stepsOf, listed, leads, formBy, formOf, grammarOf, entryOf, IsRow, Lists, Jumps}
-use Rattle.node_table.specs.FormsLaws.{form-at}
-use Rattle.node_table.specs.Moves.{Output, items, Moved, Moves, Noded, Spelled, formAt, placeOf, mark, markOf, movedTo, besideTo, Ready, toDo, Own, After, Begun}
+use Rattle.node_table.specs.Forms.{spellingsThen, spellingIf, nodesThen, Entry, entryAt, classAt, stepsOf, listed, leads, formBy, formOf, grammarOf, entryOf, IsRow, Lists, Jumps, tableMost}
+use Rattle.node_table.proofs.FormsLaws.{form-at}
+use Rattle.node_table.specs.Moves.{Output, items, Moved, Moves, Noded, Spelled, formAt, cursorOf, mark, markOf, movedTo, besideTo, Ready, toDo, OwnStep, After, Begun}
 use Rattle.node_table.specs.declared.forms.Row.{Row}
 use Rattle.node_table.specs.declared.forms.Jump.{Jump}
 use Rattle.node_table.specs.declared.moves.Mark.{Mark}
@@ -91,11 +92,11 @@ module _ (O : Output) (L : Sound O) (G : Grammar) (N : List ℕ) (P : ℕ → Li
           }
 
   pub moves-choice : (w : ℕ) (fs : ℕ → Form) (s : Cursor) (to : ℕ) (k : List ℕ) (to' : ℕ) (k' : List ℕ) → O .Puts to (O .choice w (s .word % 2 ^ w) d) to' k k'
-      → Moves O G N P high d (choose w fs) s to k (fs (s .word % 2 ^ w)) (cursor (s .word / 2 ^ w) (s .child) (s .name)) to' k'
+      → Moves O G N P high d (choose w 0 fs) s to k (fs (s .word % 2 ^ w)) (cursor (s .word / 2 ^ w) (s .child) (s .name)) to' k'
   moves-choice w fs s to k to' k' p = record { short = L .short p; stays = L .stays p; same = L .same p; on = λ run o b c. go o b c }
     where
-      go : {run : Run} → Of G (choose w fs) run → levels run ≤ high → HoldsBy N P run s
-          → Moved O G N P high d (choose w fs) run s to k (fs (s .word % 2 ^ w)) (cursor (s .word / 2 ^ w) (s .child) (s .name)) to' k'
+      go : {run : Run} → Of G (choose w 0 fs) run → levels run ≤ high → HoldsBy N P run s
+          → Moved O G N P high d (choose w 0 fs) run s to k (fs (s .word % 2 ^ w)) (cursor (s .word / 2 ^ w) (s .child) (s .name)) to' k'
       go (of-choose {k = t} {r = r} o) b c =
           record {
             rest = r;
@@ -183,7 +184,7 @@ module _ (O : Output) (L : Sound O) (T : List ℕ) (P : ℕ → List ℕ → Typ
   at n o e = form-at T (s .steps) (s .steps - 1) n (s .form) (one-more (s .steps) h) r i o e
 
   pub own-choice : 5 ≤ r .op → (t x to' : ℕ) (k' : List ℕ) (j : Jump) → t ≡ s .word % 2 ^ r .w → x ≡ s .word / 2 ^ r .w → O .Puts (s .to) (O .choice (r .w) t d) to' k k' → Jumps T r t j
-      → Own O T P most d s k (record { to = to'; name = s .name; word = x; child = s .child; form = j .form; n = j .n; steps = s .steps - 1 }) k'
+      → OwnStep O T P most d s k (record { to = to'; name = s .name; word = x; child = s .child; form = j .form; n = j .n; steps = s .steps - 1 }) k'
   own-choice f t x to' k' j q v p u =
       record {
         ready =
@@ -199,42 +200,42 @@ module _ (O : Output) (L : Sound O) (T : List ℕ) (P : ℕ → List ℕ → Typ
         same = L .same p;
         less = omega (arith, u .few);
         on = λ G N high.
-            subst (λ (z : ℕ). Moves O G N P high d (formAt T s) (placeOf s) (s .to) k (after (j .n) (j .form)) (cursor z (s .child) (s .name)) to' k') (sym v)
+            subst (λ (z : ℕ). Moves O G N P high d (formAt T s) (cursorOf s) (s .to) k (after (j .n) (j .form)) (cursor z (s .child) (s .name)) to' k') (sym v)
             (moves-as O L G N P high d (at (s .n) (suc (suc (suc (suc (suc (r .op - 5)))))) (five (r .op) f)) (sym (ap (leads T after (entryOf r) (r .op - 5)) (sym q) ∙ u .is (s .steps - 1)))
-            (moves-choice O L G N P high d (r .w) (leads T after (entryOf r) (r .op - 5)) (placeOf s) (s .to) k to' k' (subst (λ (z : ℕ). O .Puts (s .to) (O .choice (r .w) z d) to' k k') q p)));
+            (moves-choice O L G N P high d (r .w) (leads T after (entryOf r) (r .op - 5)) (cursorOf s) (s .to) k to' k' (subst (λ (z : ℕ). O .Puts (s .to) (O .choice (r .w) z d) to' k k') q p)));
       }
     where
       five : (z : ℕ) → 5 ≤ z → z ≡ suc (suc (suc (suc (suc (z - 5)))))
       five z l = omega arith
 
   -- A spelling is put out, and the walk goes on at a form.
-  spelling-then : (f n steps : ℕ) → f < 2 ^ 32 → n < 2 ^ 32 → steps < 2 ^ 32 → steps * 2 ^ 32 + n < toDo s → formAt T s ≡ both (word (r .w)) (formOf T steps n f)
+  spelling-then : (f n steps : ℕ) → f < tableMost → n < tableMost → steps < tableMost → steps * tableMost + n < toDo s → formAt T s ≡ both (word (r .w)) (formOf T steps n f)
       → (m' to' : ℕ) (k' : List ℕ) → Spelled O P most (r .w) d (s .name) (s .to) k m' to' k'
-      → Own O T P most d s k (movedTo s (mark to' m') f n steps) k'
+      → OwnStep O T P most d s k (movedTo s (mark to' m') f n steps) k'
   spelling-then f n steps a b c z e m' to' k' x =
       record {
         ready =
             record { short = omega (arith, x .short, x .same); near = x .stays; inNames = x .inNames; inNodes = y .inNodes; inTable = a; few = b; steps = c };
         same = x .same;
         less = z;
-        on = λ G N high. moves-as O L G N P high d e refl (moves-word O L G N P high d (formOf T steps n f) (r .w) most (placeOf s) (s .to) k m' to' k' x);
+        on = λ G N high. moves-as O L G N P high d e refl (moves-word O L G N P high d (formOf T steps n f) (r .w) most (cursorOf s) (s .to) k m' to' k' x);
       }
 
   pub own-spelling : r .op ≡ 4 → (m' to' : ℕ) (k' : List ℕ) → Spelled O P most (r .w) d (s .name) (s .to) k m' to' k'
-      → Own O T P most d s k (movedTo s (mark to' m') (r .b) (s .n) (s .steps - 1)) k'
+      → OwnStep O T P most d s k (movedTo s (mark to' m') (r .b) (s .n) (s .steps - 1)) k'
   own-spelling o m' to' k' x =
       spelling-then (r .b) (s .n) (s .steps - 1) (i .next) (y .few) (omega (arith, y .steps)) (omega arith) (at (s .n) 4 o) m' to' k' x
 
   pub own-spellings : r .op ≡ 2 → (s .n ≡ 0 → ⊥) → (m' to' : ℕ) (k' : List ℕ) → Spelled O P most (r .w) d (s .name) (s .to) k m' to' k'
-      → Own O T P most d s k (movedTo s (mark to' m') (s .form) (s .n - 1) (s .steps)) k'
+      → OwnStep O T P most d s k (movedTo s (mark to' m') (s .form) (s .n - 1) (s .steps)) k'
   own-spellings o z m' to' k' x =
       spelling-then (s .form) (s .n - 1) (s .steps) (y .inTable) (omega (arith, y .few)) (y .steps) (omega arith)
       (at (s .n) 2 o ∙ ap (λ (v : ℕ). spellingsThen v (r .w) (after 1 (r .b))) (one-less (s .n) z) ∙ ap (both (word (r .w))) (sym (at (s .n - 1) 2 o))) m' to' k' x
 
   -- Nothing is put out, and the walk goes on at a form.
-  own-on : (f n steps : ℕ) → f < 2 ^ 32 → n < 2 ^ 32 → steps < 2 ^ 32 → steps * 2 ^ 32 + n < toDo s
-      → ((G : Grammar) (N : List ℕ) (high : ℕ) → Moves O G N P high d (formAt T s) (placeOf s) (s .to) k (formOf T steps n f) (placeOf s) (s .to) k)
-      → Own O T P most d s k (movedTo s (mark (s .to) (s .name)) f n steps) k
+  own-on : (f n steps : ℕ) → f < tableMost → n < tableMost → steps < tableMost → steps * tableMost + n < toDo s
+      → ((G : Grammar) (N : List ℕ) (high : ℕ) → Moves O G N P high d (formAt T s) (cursorOf s) (s .to) k (formOf T steps n f) (cursorOf s) (s .to) k)
+      → OwnStep O T P most d s k (movedTo s (mark (s .to) (s .name)) f n steps) k
   own-on f n steps a b c z e =
       record {
         ready = record { short = y .short; near = y .near; inNames = y .inNames; inNodes = y .inNodes; inTable = a; few = b; steps = c };
@@ -244,22 +245,22 @@ module _ (O : Output) (L : Sound O) (T : List ℕ) (P : ℕ → List ℕ → Typ
       }
 
   never-on : r .op ≡ 0 → (f n steps : ℕ) (G : Grammar) (N : List ℕ) (high : ℕ)
-      → Moves O G N P high d (formAt T s) (placeOf s) (s .to) k (formOf T steps n f) (placeOf s) (s .to) k
+      → Moves O G N P high d (formAt T s) (cursorOf s) (s .to) k (formOf T steps n f) (cursorOf s) (s .to) k
   never-on o f n steps G N high =
-      moves-as O L G N P high d (at (s .n) 0 o) refl (moves-never O L G N P high d (formOf T steps n f) (placeOf s) (s .to) k (y .short) (y .near) refl)
+      moves-as O L G N P high d (at (s .n) 0 o) refl (moves-never O L G N P high d (formOf T steps n f) (cursorOf s) (s .to) k (y .short) (y .near) refl)
 
   pub own-next : s .n ≡ 0 → r .op < 5 → (r .op ≡ 1 → ⊥) → (r .op ≡ 4 → ⊥)
-      → Own O T P most d s k (movedTo s (mark (s .to) (s .name)) (r .b) 1 (s .steps - 1)) k
+      → OwnStep O T P most d s k (movedTo s (mark (s .to) (s .name)) (r .b) 1 (s .steps - 1)) k
   own-next z l a b = own-on (r .b) 1 (s .steps - 1) (i .next) (omega arith) (omega (arith, y .steps)) (omega arith) (λ G N high. by (r .op) refl l a b G N high)
     where
       skip : (o : ℕ) → r .op ≡ o → formBy T after 0 (entryOf r) o ≡ after 1 (r .b) → (G : Grammar) (N : List ℕ) (high : ℕ)
-          → Moves O G N P high d (formAt T s) (placeOf s) (s .to) k (after 1 (r .b)) (placeOf s) (s .to) k
+          → Moves O G N P high d (formAt T s) (cursorOf s) (s .to) k (after 1 (r .b)) (cursorOf s) (s .to) k
       skip o e q G N high =
           moves-as O L G N P high d (at (s .n) o e ∙ ap (λ (x : ℕ). formBy T after x (entryOf r) o) z ∙ q) refl
-          (moves-none O L G N P high d (after 1 (r .b)) (placeOf s) (s .to) k (y .short) (y .near))
+          (moves-none O L G N P high d (after 1 (r .b)) (cursorOf s) (s .to) k (y .short) (y .near))
 
       by : (o : ℕ) → r .op ≡ o → o < 5 → (o ≡ 1 → ⊥) → (o ≡ 4 → ⊥) → (G : Grammar) (N : List ℕ) (high : ℕ)
-          → Moves O G N P high d (formAt T s) (placeOf s) (s .to) k (after 1 (r .b)) (placeOf s) (s .to) k
+          → Moves O G N P high d (formAt T s) (cursorOf s) (s .to) k (after 1 (r .b)) (cursorOf s) (s .to) k
       by zero e l a b G N high = never-on e (r .b) 1 (s .steps - 1) G N high
       by (suc zero) e l a b G N high = absurd (a refl)
       by (suc (suc zero)) e l a b G N high = skip 2 e refl G N high
@@ -267,12 +268,12 @@ module _ (O : Output) (L : Sound O) (T : List ℕ) (P : ℕ → List ℕ → Typ
       by (suc (suc (suc (suc zero)))) e l a b G N high = absurd (b refl)
       by (suc (suc (suc (suc (suc o))))) e l a b G N high = absurd (omega arith)
 
-  pub own-stop : r .op ≡ 0 → Own O T P most d s k (movedTo s (mark (s .to) (s .name)) (s .form) (s .n) 0) k
+  pub own-stop : r .op ≡ 0 → OwnStep O T P most d s k (movedTo s (mark (s .to) (s .name)) (s .form) (s .n) 0) k
   own-stop o = own-on (s .form) (s .n) 0 (y .inTable) (y .few) (omega arith) (omega arith) (never-on o (s .form) (s .n) 0)
 
 -- The same, where the walk that is answered is that one.
-pub own-as : {O : Output} {T : List ℕ} {P : ℕ → List ℕ → Type 0} {most d : ℕ} {s : Walk} {k : List ℕ} {q q' : Walk} {k' : List ℕ} → q ≡ q' → Own O T P most d s k q' k' → Own O T P most d s k q k'
-own-as {O} {T} {P} {most} {d} {s} {k} {q} {q'} {k'} e x = subst (λ (z : Walk). Own O T P most d s k z k') (sym e) x
+pub own-as : {O : Output} {T : List ℕ} {P : ℕ → List ℕ → Type 0} {most d : ℕ} {s : Walk} {k : List ℕ} {q q' : Walk} {k' : List ℕ} → q ≡ q' → OwnStep O T P most d s k q' k' → OwnStep O T P most d s k q k'
+own-as {O} {T} {P} {most} {d} {s} {k} {q} {q'} {k'} e x = subst (λ (z : Walk). OwnStep O T P most d s k z k') (sym e) x
 
 -- No operation but never is left.
 pub no-other : (op n : ℕ) → op < 5 → (op ≡ 1 → ⊥) → (op ≡ 4 → ⊥) → (op ≡ 3 → n ≡ 0) → (n ≡ 0 → ⊥) → (op ≡ 2 → ⊥) → op ≡ 0
@@ -285,7 +286,7 @@ no-other (suc (suc (suc (suc (suc op))))) n l a b c d e = absurd (omega arith)
 
 -- ---- What follows a child
 
-module _ (O : Output) (L : Sound O) (N : List ℕ) (P : ℕ → List ℕ → Type 0) (most w d : ℕ) (s : Walk) (o : Mark) (k : List ℕ) (a : s .form < 2 ^ 32) (b : s .n < 2 ^ 32) (z : s .steps < 2 ^ 32) (next : ℕ) (e : next ≡ nextAt N (s .child)) (f : next < 2 ^ 32) where
+module _ (O : Output) (L : Sound O) (N : List ℕ) (P : ℕ → List ℕ → Type 0) (most w d : ℕ) (s : Walk) (o : Mark) (k : List ℕ) (a : s .form < tableMost) (b : s .n < tableMost) (z : s .steps < tableMost) (next : ℕ) (e : next ≡ nextAt N (s .child)) (f : next < tableMost) where
   after-by : (m' to' : ℕ) (k' : List ℕ) → length k * 8 ≤ far → to' ≤ far → m' ≤ most → length k' ≡ length k
       → ((G : Grammar) (high : ℕ) (g : Form) → Moves O G N P high d (spellingIf w g) (cursor (s .word) next (o .name)) (o .to) k g (cursor (s .word) next m') to' k')
       → After O N P most w d s o k (besideTo s (mark to' m') next) k'
@@ -323,8 +324,8 @@ after-as {O} {N} {P} {most} {w} {d} {s} {o} {k} {q} {q'} {k'} e x = subst (λ (z
 -- ---- A node's tag
 
 pub begun : (O : Output) (L : Sound O) (T N : List ℕ) (P : ℕ → List ℕ → Type 0) (d c i : ℕ) (o : Mark) (k : List ℕ) (own kid : ℕ) (r : Row) (t x to₀ : ℕ) (k₀ : List ℕ) (to' : ℕ) (k' : List ℕ) (j : Jump) (steps : ℕ)
-    → own ≡ wordAt N i → kid ≡ childAt N i → kid < 2 ^ 32 → IsRow (classAt T c) r → t ≡ own % 2 ^ r .w → x ≡ own / 2 ^ r .w
-    → O .Puts (o .to) (O .node i d) to₀ k k₀ → O .Puts to₀ (O .choice (r .w) t (O .under d)) to' k₀ k' → Lists T r t j → steps ≡ stepsOf T → steps < 2 ^ 32
+    → own ≡ wordAt N i → kid ≡ childAt N i → kid < halfWord → IsRow (classAt T c) r → t ≡ own % 2 ^ r .w → x ≡ own / 2 ^ r .w
+    → O .Puts (o .to) (O .node i d) to₀ k k₀ → O .Puts to₀ (O .choice (r .w) t (O .under d)) to' k₀ k' → Lists T r t j → steps ≡ stepsOf T → steps < tableMost
     → Begun O T N P d c i o k (record { to = to'; name = o .name; word = x; child = kid; form = j .form; n = 1; steps = steps }) k'
 begun O L T N P d c i o k own kid r t x to₀ k₀ to' k' j steps a b e v q y f p u z l =
     record {
@@ -357,7 +358,7 @@ begun O L T N P d c i o k own kid r t x to₀ k₀ to' k' j steps a b e v q y f 
         (subst (λ (m : ℕ). Moves O (grammarOf T) N P high (O .under d) (tagged (grammarOf T) c) (cursor own m (o .name)) to₀ k₀ (formOf T steps 1 (j .form)) (cursor x kid (o .name)) to' k') b
         (subst (λ (m : ℕ). Moves O (grammarOf T) N P high (O .under d) (tagged (grammarOf T) c) (cursor own kid (o .name)) to₀ k₀ (formOf T steps 1 (j .form)) (cursor m kid (o .name)) to' k') (sym y)
         (moves-as O L (grammarOf T) N P high (O .under d)
-        (ap (λ (m : Entry). choose (m .w) (oneOf (listed T (λ g. formOf T (stepsOf T) 1 g) (m .a) (m .b)))) (sym (v .is))) (sym to)
+        (ap (λ (m : Entry). choose (m .w) 0 (oneOf (listed T (λ g. formOf T (stepsOf T) 1 g) (m .a) (m .b)))) (sym (v .is))) (sym to)
         (moves-choice O L (grammarOf T) N P high (O .under d) (r .w) (oneOf (listed T (λ g. formOf T (stepsOf T) 1 g) (r .a) (r .b))) (cursor own kid (o .name)) to₀ k₀ to' k'
         (subst (λ (m : ℕ). O .Puts to₀ (O .choice (r .w) m (O .under d)) to' k₀ k') q p)))))
 
@@ -368,12 +369,12 @@ module _ (O : Output) (L : Sound O) (T N : List ℕ) (P : ℕ → List ℕ → T
   pub record Along (s : Walk) (k : List ℕ) : Type 0 where
     pub same : length k ≡ length k₀
     pub ready : Ready most k s
-    pub on : Moves O (grammarOf T) N P high d (formAt T s₀) (placeOf s₀) (s₀ .to) k₀ (formAt T s) (placeOf s) (s .to) k
+    pub on : Moves O (grammarOf T) N P high d (formAt T s₀) (cursorOf s₀) (s₀ .to) k₀ (formAt T s) (cursorOf s) (s .to) k
 
   pub along-none : Ready most k₀ s₀ → Along s₀ k₀
-  along-none h = record { same = refl; ready = h; on = moves-none O L (grammarOf T) N P high d (formAt T s₀) (placeOf s₀) (s₀ .to) k₀ (h .short) (h .near) }
+  along-none h = record { same = refl; ready = h; on = moves-none O L (grammarOf T) N P high d (formAt T s₀) (cursorOf s₀) (s₀ .to) k₀ (h .short) (h .near) }
 
-  pub along-own : {s q : Walk} {k k' : List ℕ} → Along s k → Own O T P most d s k q k' → Along q k'
+  pub along-own : {s q : Walk} {k k' : List ℕ} → Along s k → OwnStep O T P most d s k q k' → Along q k'
   along-own p x = record { same = x .same ∙ p .same; ready = x .ready; on = moves-then O L (grammarOf T) N P high d (p .on) (x .on (grammarOf T) N high) }
 
   -- Behind the last child the walk goes on at the next form.
@@ -406,7 +407,7 @@ module _ (O : Output) (L : Sound O) (T N : List ℕ) (P : ℕ → List ℕ → T
           ready = a .ready;
           on =
               moves-then O L (grammarOf T) N P high d (moves-as O L (grammarOf T) N P high d refl (sym here) (p .on))
-              (moves-then O L (grammarOf T) N P high d (moves-node O L (grammarOf T) N P high d (spellingIf (r .w) others) (r .a) most (placeOf s) (s .to) k (m .name) (m .to) k1 x)
+              (moves-then O L (grammarOf T) N P high d (moves-node O L (grammarOf T) N P high d (spellingIf (r .w) others) (r .a) most (cursorOf s) (s .to) k (m .name) (m .to) k1 x)
               (moves-as O L (grammarOf T) N P high d refl there (a .on (grammarOf T) high others)));
         }
       where
@@ -421,21 +422,21 @@ module _ (O : Output) (L : Sound O) (T N : List ℕ) (P : ℕ → List ℕ → T
             ap₂ (λ (v y : ℕ). formOf T v y (q .form)) (a .steps) (a .few) ∙ ap (formOf T (s .steps) (s .n - 1)) (a .form)
             ∙ now-at (s .n - 1) 3 e
 
-    along-one : r .op ≡ 1 → Moves O (grammarOf T) N P high d (formAt T s₀) (placeOf s₀) (s₀ .to) k₀ one (placeOf s) (s .to) k
+    along-one : r .op ≡ 1 → Moves O (grammarOf T) N P high d (formAt T s₀) (cursorOf s₀) (s₀ .to) k₀ one (cursorOf s) (s .to) k
     along-one e = moves-as O L (grammarOf T) N P high d refl (sym (now-at (s .n) 1 e)) (p .on)
 
-  along-never : {s : Walk} {k : List ℕ} → Along s k → s .steps ≡ 0 → Moves O (grammarOf T) N P high d (formAt T s₀) (placeOf s₀) (s₀ .to) k₀ one (placeOf s) (s .to) k
+  along-never : {s : Walk} {k : List ℕ} → Along s k → s .steps ≡ 0 → Moves O (grammarOf T) N P high d (formAt T s₀) (cursorOf s₀) (s₀ .to) k₀ one (cursorOf s) (s .to) k
   along-never {s} {k} p e =
       moves-then O L (grammarOf T) N P high d (moves-as O L (grammarOf T) N P high d refl (ap (λ (x : ℕ). formOf T x (s .n) (s .form)) (sym e)) (p .on))
-      (moves-never O L (grammarOf T) N P high d one (placeOf s) (s .to) k (p .ready .short) (p .ready .near) refl)
+      (moves-never O L (grammarOf T) N P high d one (cursorOf s) (s .to) k (p .ready .short) (p .ready .near) refl)
 
 -- From the node's tag to its end.
 module _ (O : Output) (L : Sound O) (T N : List ℕ) (P : ℕ → List ℕ → Type 0) (most high d : ℕ) (s₀ : Walk) (k₀ : List ℕ) (c i : ℕ) (o : Mark) (k₁ : List ℕ) (b : Begun O T N P d c i o k₁ s₀ k₀)
     (left : ℕ) (q : left ≡ suc high) {s : Walk} {k : List ℕ} (p : Along O L T N P most high (O .under d) s₀ k₀ s k) where
-  whole : Moves O (grammarOf T) N P high (O .under d) (formAt T s₀) (placeOf s₀) (s₀ .to) k₀ one (placeOf s) (s .to) k
+  whole : Moves O (grammarOf T) N P high (O .under d) (formAt T s₀) (cursorOf s₀) (s₀ .to) k₀ one (cursorOf s) (s .to) k
       → Noded O (grammarOf T) N P left d most c i (o .name) (o .to) k₁ (s .name) (s .to) k
   whole x =
-      noded O L (grammarOf T) N P left high d most c i (o .name) (o .to) k₁ (b .to₀) (b .k₀) (placeOf s) (s .to) k q (p .ready .inNames) (b .first)
+      noded O L (grammarOf T) N P left high d most c i (o .name) (o .to) k₁ (b .to₀) (b .k₀) (cursorOf s) (s .to) k q (p .ready .inNames) (b .first)
       (moves-then O L (grammarOf T) N P high (O .under d) (b .on high) x)
 
   pub walked : (r : Row) → IsRow (entryAt T (s .form)) r → 0 < s .steps → r .op ≡ 1 → Noded O (grammarOf T) N P left d most c i (o .name) (o .to) k₁ (s .name) (s .to) k

@@ -8,8 +8,8 @@ use lib.ListN.{length, replicate, length-append, length-replicate}
 use Rattle.keys.specs.Bits.{Bits, bitsOfBytes, Row}
 use Rattle.keys.specs.Form.{Value, Form, Grammar, height, nodes, names, letters, Bytes, write, Fits, State, state, Result, got, stop, takeForm, takeNode}
 use Rattle.keys.specs.Key.{gap, padded, bytesIn, bytesOf, padding, closed, bytesBy, takeWhole}
-use Rattle.keys.specs.BitsLaws.{clash, length-bytes, bytes-back, bytes-one, Even, take-even}
-use Rattle.keys.specs.FormLaws.{form-taken, form-back, Back}
+use Rattle.keys.proofs.BitsLaws.{clash, length-bytes, bytes-back, bytes-one, Even, take-even}
+use Rattle.keys.proofs.FormLaws.{form-taken, form-back, Back}
 
 -- ---- Bits as bytes
 

@@ -12,7 +12,7 @@ use lib.Pow.{pow-add, pow-pos, pow-mono, shr-shr, shr-lt, split, high}
 use lib.ListN.{length, getD, set, take, drop, replicate, length-append, length-set, length-drop}
 use lib.Seq.{sets, length-sets, set-append-left, set-out, take-suc, getD-drop}
 use Rattle.keys.specs.Bits.{Bits, odd, bitsOf, bitsOfBytes}
-use Rattle.keys.specs.BitsLaws.{length-bits, length-bytes, bits-low, le-or-lt}
+use Rattle.keys.proofs.BitsLaws.{length-bits, length-bytes, bits-low, le-or-lt}
 use Rattle.keys.specs.Store.{part, filled}
 use Rattle.fields.specs.Put.{far, onward, Put, fitted}
 

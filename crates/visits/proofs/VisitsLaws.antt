@@ -7,22 +7,22 @@ use native.Mathlib.Omega.{arith}
 use lib.ListN.{length, set, replicate, length-append, length-set}
 use lib.Seq.{sets, length-sets}
 use Rattle.keys.specs.Form.{Form, one, child, both, Grammar, branch, left, right, class, height, nodes}
-use Rattle.keys.specs.Limits.{countWidth}
+use Rattle.keys.specs.Limits.{newest, countWidth, halfWord}
 use Rattle.keys.specs.Placed.{Placed, bare}
 use Rattle.keys.specs.Key.{nodeTable}
 use Rattle.keys.specs.Store.{Run, done, chose, name, kid, under, called, firstKid, records, runOf, nodesOf, nodeVisit, choiceVisit, nameVisit, visit, visits, visitsOf}
-use Rattle.keys.specs.StoreLaws.{under-plant}
+use Rattle.keys.proofs.StoreLaws.{under-plant}
 use Rattle.keys.specs.Table.{type}
 use Rattle.keys.specs.Lines.{lined, tagged}
-use Rattle.keys.specs.BitsLaws.{le-or-lt}
+use Rattle.keys.proofs.BitsLaws.{le-or-lt}
 use Rattle.keys.specs.Holds.{wordAt, childAt, nextAt, Cursor, cursor, HoldsBy, Stands}
-use Rattle.keys.specs.HoldsLaws.{In, in-front, kid-in, of-type, root-is, stands-holds, stands-low}
+use Rattle.keys.proofs.HoldsLaws.{In, in-front, kid-in, of-type, root-is, stands-holds, stands-low}
 use Rattle.fields.specs.Put.{far}
-use Rattle.fields.specs.PutLaws.{sets-append, sets-past, sets-copies}
+use Rattle.fields.proofs.PutLaws.{sets-append, sets-past, sets-copies}
 use Rattle.node_table.specs.Forms.{grammarOf, tableWords}
-use Rattle.node_table.specs.FormsLaws.{words-are}
+use Rattle.node_table.proofs.FormsLaws.{words-are}
 use Rattle.node_table.specs.Moves.{items, Spelled, Noded}
-use Rattle.node_table.specs.MovesLaws.{Sound, spelled-none, all-put}
+use Rattle.node_table.proofs.MovesLaws.{Sound, spelled-none, all-put}
 use Rattle.visits.specs.Visits.{Visited, Listed, visitWords, Named}
 
 -- ---- Words as an output
@@ -91,7 +91,7 @@ holds-named N f (kid first end a t) s h = (
 )
 
 -- The items of a run that stands there are its visits: the links are the numbers of its nodes.
-items-visits : (G : Grammar) (N : List ℕ) (f : Form) (t : Run) (b m n d : ℕ) → In N (b * 4) (records t b m n) → b + under t < 2 ^ 32 → n < 2 ^ 32
+items-visits : (G : Grammar) (N : List ℕ) (f : Form) (t : Run) (b m n d : ℕ) → In N (b * 4) (records t b m n) → b + under t < halfWord → n < halfWord
     → (choices next : ℕ) → next ≡ firstKid t b n → items visitWords G N f t (cursor choices next m) d ≡ visits t b m d
 items-visits G N f done b m n d p h l choices next e = refl
 items-visits G N f (chose w k t) b m n d p h l choices next e =
@@ -109,7 +109,7 @@ module _ (N M : List ℕ) (root tall n m to : ℕ) (k0 k : List ℕ) (z : k0 ≡
     (d : Noded visitWords (grammarOf (tableWords countWidth)) N (Named M) tall 0 (length M) 0 root 0 0 k0 m to k) where
   -- The root is walked by the node table.
   rooted : Noded visitWords (lined nodeTable) N (Named M) tall 0 (length M) 0 root 0 0 k0 m to k
-  rooted = subst (λ (G : Grammar). Noded visitWords G N (Named M) tall 0 (length M) 0 root 0 0 k0 m to k) (words-are countWidth) d
+  rooted = subst (λ (G : Grammar). Noded visitWords G N (Named M) tall 0 (length M) 0 root 0 0 k0 m to k) (words-are newest) d
 
   all : (X : List ℕ) (p : Placed) → Stands N M X p → root + 1 ≡ nodes (bare p) → height (bare p) ≤ tall → Listed 0 (visitsOf p) to k0 k
   all X p s e h =

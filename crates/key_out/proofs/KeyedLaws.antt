@@ -8,25 +8,25 @@ use native.Mathlib.Omega.{arith}
 use lib.ListN.{length, getD, set, take, replicate, length-set, replicate-append-replicate}
 use lib.Seq.{sets, take-suc-set, take-all, length-take-le}
 use Rattle.keys.specs.Bits.{Bits, bitsOf, bitsOfBytes}
-use Rattle.keys.specs.BitsLaws.{length-bits, bytes-one}
+use Rattle.keys.proofs.BitsLaws.{length-bits, bytes-one}
 use Rattle.keys.specs.Form.{choice, one, child, both, Grammar, Bytes, height, nodes, write}
-use Rattle.keys.specs.Limits.{edition, countWidth}
+use Rattle.keys.specs.Limits.{newest, edition, countWidth}
 use Rattle.keys.specs.Table.{type, wholeKey}
 use Rattle.keys.specs.Placed.{Placed, bare}
 use Rattle.keys.specs.Key.{gap, bytesOf, nodeTable}
-use Rattle.keys.specs.KeyLaws.{packs, length-packed}
+use Rattle.keys.proofs.KeyLaws.{packs, length-packed}
 use Rattle.keys.specs.Store.{runOf}
 use Rattle.keys.specs.Lines.{lined}
 use Rattle.keys.specs.Holds.{Spells, Stands, cursor}
-use Rattle.keys.specs.HoldsLaws.{of-type, stands-holds, stands-low, stands-written}
+use Rattle.keys.proofs.HoldsLaws.{of-type, stands-holds, stands-low, stands-written}
 use Rattle.fields.specs.Put.{Put, fitted}
-use Rattle.fields.specs.PutLaws.{put-append, bytes-append, take-more, sets-copies}
+use Rattle.fields.proofs.PutLaws.{put-append, bytes-append, take-more, sets-copies}
 use Rattle.node_table.specs.Forms.{grammarOf, tableWords}
-use Rattle.node_table.specs.FormsLaws.{words-are}
+use Rattle.node_table.proofs.FormsLaws.{words-are}
 use Rattle.node_table.specs.Moves.{Noded}
-use Rattle.node_table.specs.MovesLaws.{all-put}
+use Rattle.node_table.proofs.MovesLaws.{all-put}
 use Rattle.key_out.specs.Out.{keyBits, Keyed}
-use Rattle.key_out.specs.OutLaws.{bits-sound, items-written}
+use Rattle.key_out.proofs.OutLaws.{bits-sound, items-written}
 
 -- ---- Bytes and their bits
 
@@ -85,7 +85,7 @@ module _ (N M X : List ℕ) (root tall n m bit0 bit : ℕ) (k0 k1 k : List ℕ) 
     (d : Noded keyBits (grammarOf (tableWords countWidth)) N (Spells M X) tall 0 (length M) 0 root 0 bit0 k1 m bit k) where
   -- The root is written by the node table.
   rooted : Noded keyBits (lined nodeTable) N (Spells M X) tall 0 (length M) 0 root 0 bit0 k1 m bit k
-  rooted = subst (λ (G : Grammar). Noded keyBits G N (Spells M X) tall 0 (length M) 0 root 0 bit0 k1 m bit k) (words-are countWidth) d
+  rooted = subst (λ (G : Grammar). Noded keyBits G N (Spells M X) tall 0 (length M) 0 root 0 bit0 k1 m bit k) (words-are newest) d
 
   all : (p : Placed) → Stands N M X p → root + 1 ≡ nodes (bare p) → height (bare p) ≤ tall → Put bit0 (write nodeTable type (bare p)) bit k1 k
   all p s e h =

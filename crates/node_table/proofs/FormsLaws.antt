@@ -9,12 +9,12 @@ use native.Mathlib.Omega.{arith}
 use borrow.Author.Tests.{lt-ltb, le-ltb, le-leb, lt-leb, leb-true}
 use lib.Dec.{leb, ltb, leb·zero, leb·suc-suc}
 use lib.ListN.{getD, take, drop, replicate}
-use Rattle.keys.specs.BitsLaws.{clash, le-or-lt}
+use Rattle.keys.proofs.BitsLaws.{clash, le-or-lt}
 use Rattle.keys.specs.Form.{Form, never, one, word, both, child}
-use Rattle.keys.specs.Limits.{countWidth, lengthWidth, widest}
-use Rattle.keys.specs.Table.{when, times, oneOf, type, underRest, namedRow, table, rows, rowsOf}
+use Rattle.keys.specs.Limits.{Edition, countWide, countWidth, lengthWidth, widest}
+use Rattle.keys.specs.Table.{when, times, oneOf, type, underRest, namedRow, tagWidthOf, table, rows, rowsOf}
 use Rattle.keys.specs.Lines.{inLine, lined}
-use Rattle.node_table.specs.Forms.{spellingsThen, nodesThen, listed, leads, Entry, entry, entryFrom, entryBy, entryAt, stepsOf, formBy, formOf, classAt, grammarOf, formsOf, classesOf, Narrow, entryOf, IsRow, Lists, Jumps, tableWords}
+use Rattle.node_table.specs.Forms.{spellingsThen, nodesThen, listed, leads, Entry, entry, entryFrom, entryBy, entryAt, stepsOf, formBy, formOf, classAt, grammarOf, formsOf, classesOf, Narrow, entryOf, IsRow, Lists, Jumps, tableWords, tableMost}
 use Rattle.node_table.specs.declared.forms.Row.{Row}
 use Rattle.node_table.specs.declared.forms.Jump.{Jump}
 
@@ -90,7 +90,7 @@ module _ (c : ℕ) where
   rows-are (suc (suc (suc (suc (suc (suc k)))))) =
       ap (λ (e : Entry). listed (tableWords c) (λ f. formOf (tableWords c) (stepsOf (tableWords c)) 1 f) (e .a) (e .b)) (sym (no-class k))
 
-  tags-are : (k : ℕ) → classAt (tableWords c) k .w ≡ table c .tagWidth k
+  tags-are : (k : ℕ) → classAt (tableWords c) k .w ≡ tagWidthOf k
   unfolding tableWords
   tags-are zero = refl
   tags-are (suc zero) = refl
@@ -103,9 +103,9 @@ module _ (c : ℕ) where
   row-is : (k t : ℕ) → oneOf (told k) t ≡ inLine (oneOf (rowsOf c k) t) one
   row-is k t = sym (line-oneOf (rowsOf c k) t one ∙ ap (λ (l : List Form). oneOf l t) (rows-are k))
 
-  -- The words are the node table, in line.
-  pub words-are : grammarOf (tableWords c) ≡ lined (table c)
-  words-are = λ i. record { tagWidth = λ k. tags-are k i; row = λ k t. row-is k t i }
+-- The words are an edition's node table, in line.
+pub words-are : (e : Edition) → grammarOf (tableWords (countWide e)) ≡ lined (table e)
+words-are e = λ i. record { tagWidth = λ k. tags-are (countWide e) k i; row = λ k t. row-is (countWide e) k t i }
 
 -- ---- Widths
 
@@ -138,7 +138,7 @@ all-narrow : narrowTo (tableWords countWidth) (formsOf (tableWords countWidth)) 
 unfolding tableWords
 all-narrow = refl
 
-tag-small : (c : ℕ) → table countWidth .tagWidth c ≤ widest
+tag-small : (c : ℕ) → tagWidthOf c ≤ widest
 tag-small zero = omega arith
 tag-small (suc zero) = omega arith
 tag-small (suc (suc zero)) = omega arith
@@ -202,30 +202,30 @@ module _ (T : List ℕ) (c : ℕ) (r : Row) where
 
 -- Where a choice leads, by its operation.
 module _ (T : List ℕ) (r : Row) (t : ℕ) where
-  jumps : (k n f : ℕ) → r .op ≡ 5 + k → ((d : ℕ) → leads T (λ m g. formOf T d m g) (entryOf r) k t ≡ formOf T d n f) → f < 2 ^ 32 → n < 2 ^ 32
+  jumps : (k n f : ℕ) → r .op ≡ 5 + k → ((d : ℕ) → leads T (λ m g. formOf T d m g) (entryOf r) k t ≡ formOf T d n f) → f < tableMost → n < tableMost
       → Jumps T r t (record { form = f; n = n })
   jumps k n f e h p q =
       let z : r .op - 5 ≡ k = omega arith in
       record { is = λ d. ap (λ (x : ℕ). leads T (λ m g. formOf T d m g) (entryOf r) x t) z ∙ h d; form = p; few = q }
 
-  pub lists-in : (f : ℕ) → t < r .b → f ≡ getD T (r .a + t) 0 → f < 2 ^ 32 → Lists T r t (record { form = f; n = 1 })
+  pub lists-in : (f : ℕ) → t < r .b → f ≡ getD T (r .a + t) 0 → f < tableMost → Lists T r t (record { form = f; n = 1 })
   lists-in f h q p = record { is = λ d. listed-in T (λ g. formOf T d 1 g) (r .a) (r .b) t h ∙ ap (formOf T d 1) (sym q); form = p; once = refl }
 
-  pub lists-out : (f : ℕ) → r .b ≤ t → f ≡ formsOf T → f < 2 ^ 32 → Lists T r t (record { form = f; n = 1 })
+  pub lists-out : (f : ℕ) → r .b ≤ t → f ≡ formsOf T → f < tableMost → Lists T r t (record { form = f; n = 1 })
   lists-out f h q p =
       record { is = λ d. listed-out T (λ g. formOf T d 1 g) (r .a) (r .b) t h ∙ sym (past-end T d 1 f (omega arith)); form = p; once = refl }
 
   pub jumps-listed : (j : Jump) → r .op ≡ 5 → Lists T r t j → Jumps T r t j
   jumps-listed j e l = jumps 0 (j .n) (j .form) e (l .is) (l .form) (omega (arith, l .once))
 
-  pub jumps-times : r .op ≡ 6 → r .a ≤ t → r .b < 2 ^ 32 → t < 2 ^ 32 → Jumps T r t (record { form = r .b; n = t })
+  pub jumps-times : r .op ≡ 6 → r .a ≤ t → r .b < tableMost → t < tableMost → Jumps T r t (record { form = r .b; n = t })
   jumps-times e h p q = jumps 1 t (r .b) e (λ d. ap (λ (x : Bool). when x (formOf T d t (r .b))) (le-leb (r .a) t h)) p q
 
-  pub jumps-few : (f : ℕ) → r .op ≡ 6 → t < r .a → f ≡ formsOf T → f < 2 ^ 32 → Jumps T r t (record { form = f; n = 1 })
+  pub jumps-few : (f : ℕ) → r .op ≡ 6 → t < r .a → f ≡ formsOf T → f < tableMost → Jumps T r t (record { form = f; n = 1 })
   jumps-few f e h q p =
       jumps 1 1 f e (λ d. ap (λ (x : Bool). when x (formOf T d t (r .b))) (lt-leb (r .a) t h) ∙ sym (past-end T d 1 f (omega arith))) p (omega arith)
 
-  pub jumps-on : 5 ≤ r .op → (r .op ≡ 5 → ⊥) → (r .op ≡ 6 → ⊥) → r .b < 2 ^ 32 → Jumps T r t (record { form = r .b; n = 1 })
+  pub jumps-on : 5 ≤ r .op → (r .op ≡ 5 → ⊥) → (r .op ≡ 6 → ⊥) → r .b < tableMost → Jumps T r t (record { form = r .b; n = 1 })
   jumps-on l e g p =
       let z : r .op ≡ 5 + suc (suc (r .op - 7)) = above (r .op) l e g in
       jumps (suc (suc (r .op - 7))) 1 (r .b) z (λ d. refl) p (omega arith)

@@ -11,9 +11,9 @@ use Rattle.keys.specs.Store.{Run, done, chose, name, kid, called, part}
 use Rattle.keys.specs.Holds.{wordAt, childAt, nextAt, startAt, sizeAt, Spells, Cursor, cursor}
 use Rattle.keys.specs.Lines.{tagged, written}
 use Rattle.fields.specs.Put.{far, Put}
-use Rattle.fields.specs.PutLaws.{put-none, put-append}
+use Rattle.fields.proofs.PutLaws.{put-none, put-append}
 use Rattle.node_table.specs.Moves.{items, Spelled}
-use Rattle.node_table.specs.MovesLaws.{Sound, spelled-none}
+use Rattle.node_table.proofs.MovesLaws.{Sound, spelled-none}
 use Rattle.key_out.specs.Out.{keyBits}
 
 -- ---- Bits as an output
@@ -26,7 +26,7 @@ bits-sound =
 pub items-written : (G : Grammar) (N : List ℕ) (f : Form) (a : Run) (s : Cursor) (d : ℕ) → items keyBits G N f a s d ≡ written G f a
 items-written G N f done s d = refl
 items-written G N f (chose w k r) s d =
-    ap (λ (x : Bits). bitsOf w k ++ x) (items-written G N (branch f k) r (cursor (s .word / 2 ^ w) (s .child) (s .name)) d)
+    ap (λ (x : Bits). bitsOf (width f) k ++ x) (items-written G N (branch f k) r (cursor (s .word / 2 ^ w) (s .child) (s .name)) d)
 items-written G N f (name x u r) s d =
     ap (λ (y : Bits). (bitsOf (width (left f)) (length u) ++ bitsOfBytes u) ++ y) (items-written G N (right f) r (cursor (s .word) (s .child) (s .name + 1)) d)
 items-written G N f (kid first end a r) s d =

@@ -9,8 +9,8 @@ use lib.ListN.{length}
 use Rattle.keys.specs.Limits.{tooTall, noRoom, badKey, noSpace}
 use Rattle.keys.specs.Bits.{Bits, Field, short, field, takeField, Row, cut, row, takeBytes}
 use Rattle.keys.specs.Form.{Value, choice, pair, node, Form, never, one, word, choose, both, child, Grammar, isNever, State, state, Result, got, stop, stopAt, into, andThen, allowed, ifWhole, takeChoice, keep, takeLetters, takeLength, takeSpelling, takeRoom, takeForm, takeNode}
-use Rattle.keys.specs.Key.{padding, closed, takeWhole, Taken, taken, refused, placeOf, outcome, IsRefusal, is-tooTall, is-noRoom, is-badKey, is-noSpace}
-use Rattle.keys.specs.BitsLaws.{clash}
+use Rattle.keys.specs.Key.{padding, closed, takeWhole, Taken, taken, refused, refusalPlace, outcome, IsRefusal, is-tooTall, is-noRoom, is-badKey, is-noSpace}
+use Rattle.keys.proofs.BitsLaws.{clash}
 
 -- The numbers that are met.
 pub data Met : ℕ → Type 0 where
@@ -65,7 +65,7 @@ form-fine : (X : ℕ → State → Result) → ((c : ℕ) (s : State) → Fine (
 form-fine X h never s = fine-stop met-badKey
 form-fine X h one s = fine-got
 form-fine X h (word w) s = length-fine s (takeField w (s .bits))
-form-fine X h (choose w fs) s =
+form-fine X h (choose w x fs) s =
     choice-fine w fs s _ λ k r. into-fine (choice k) (form-fine X h (fs k) (state (s .nodesLeft) (s .namesLeft) (s .textLeft) r))
 form-fine X h (both f g) s = then-fine _ (form-fine X h f s) λ a q. into-fine (pair a) (form-fine X h g q)
 form-fine X h (child c) s = h c s
@@ -93,7 +93,7 @@ whole-fine G K h s = by (form-fine (takeNode G h) (node-fine G h) K s)
 in-key : (all l : ℕ) → all - l ≤ all
 in-key all l = omega arith
 
-placed : (all l : ℕ) {n : ℕ} → Met n → IsRefusal all n (placeOf (eqb n noSpace) (all - l))
+placed : (all l : ℕ) {n : ℕ} → Met n → IsRefusal all n (refusalPlace (eqb n noSpace) (all - l))
 placed all l met-tooTall = is-tooTall (in-key all l)
 placed all l met-noRoom = is-noRoom (in-key all l)
 placed all l met-badKey = is-badKey (in-key all l)
@@ -104,7 +104,7 @@ pub outcome-fine : (all : ℕ) {x : Result} (n p : ℕ) → Fine x → outcome a
 outcome-fine all n p fine-got e = clash (cc)
 outcome-fine all n p (fine-stop {n = m} {l = l} h) e =
     let a : m ≡ n = cc in
-    let b : placeOf (eqb m noSpace) (all - l) ≡ p = cc in
+    let b : refusalPlace (eqb m noSpace) (all - l) ≡ p = cc in
     subst₂ (IsRefusal all) a b (placed all l h)
 
 -- A key that is too long is one too.

@@ -8,17 +8,10 @@ use lib.Arith.{digits-div, digits-mod}
 use lib.Pow.{pow-add}
 use lib.Seq.{take-append-seam, drop-append-seam}
 use lib.ListN.{length, take, drop, replicate, length-append, length-replicate}
-use Rattle.keys.specs.Form.{Value, nothing, spelt, choice, pair, node, Form, Grammar, width, branch, left, right, class, nodes, names, letters}
+use Rattle.keys.specs.Limits.{halfWord}
+use Rattle.keys.specs.Form.{Value, nothing, spelt, choice, pair, node, Form, Grammar, storeWidth, branch, left, right, class, nodes, names, letters}
 use Rattle.keys.specs.Placed.{Placed, void, said, pick, join, tree, bare, laid}
-use Rattle.keys.specs.Store.{Run, done, chose, name, kid, plant, under, called, packed, firstKid, recordOf, records, nameOf, namesIn, textOf, pointed, allPointed, filled}
-
-infixr 5 _⊕_
--- A run and then another.
-abbrev pub _⊕_ : Run → Run → Run
-done ⊕ r = r
-chose w k a ⊕ r = chose w k (a ⊕ r)
-name x s a ⊕ r = name x s (a ⊕ r)
-kid first end b a ⊕ r = kid first end b (a ⊕ r)
+use Rattle.keys.specs.Store.{Run, done, chose, name, kid, _⊕_, plant, under, called, span, packed, firstKid, recordOf, records, nameOf, namesIn, textOf, pointed, allPointed, filled}
 
 pub join-done : (a : Run) → a ⊕ done ≡ a
 join-done done = refl
@@ -36,7 +29,7 @@ join-join (kid first end c a) b r = ap (kid first end c) (join-join a b r)
 pub plant-join : (G : Grammar) (f : Form) (p : Placed) (r : Run) → plant G f p r ≡ plant G f p done ⊕ r
 plant-join G f void r = refl
 plant-join G f (said x s) r = refl
-plant-join G f (pick k p) r = ap (chose (width f) k) (plant-join G (branch f k) p r)
+plant-join G f (pick k p) r = ap (chose (storeWidth f) k) (plant-join G (branch f k) p r)
 plant-join G f (join a b) r =
     plant-join G (left f) a (plant G (right f) b r) ∙ ap (λ (x : Run). plant G (left f) a done ⊕ x) (plant-join G (right f) b r)
     ∙ sym (join-join (plant G (left f) a done) (plant G (right f) b done) r)
@@ -56,13 +49,6 @@ called-join done r = sym (zero-add (called r))
 called-join (chose w k a) r = called-join a r
 called-join (name x s a) r = omega (arith, called-join a r)
 called-join (kid first end b a) r = omega (arith, called-join a r)
-
--- How many bits a node's own choices have.
-abbrev pub span : Run → ℕ
-span done = 0
-span (chose w k a) = w + span a
-span (name x s a) = span a
-span (kid first end b a) = span a
 
 pub span-join : (a r : Run) → span (a ⊕ r) ≡ span a + span r
 span-join done r = sym (zero-add (span r))
@@ -196,12 +182,12 @@ pointed-append : (text xs ys : List ℕ) → allPointed text (xs ++ ys) ≡ allP
 pointed-append text [] ys = refl
 pointed-append text (x ∷ xs) ys = ap (λ (l : List (List ℕ)). pointed text x ∷ l) (pointed-append text xs ys)
 
-pointed-one : (s pre post : List ℕ) → length s < 2 ^ 32 → pointed (pre ++ (s ++ post)) (nameOf (length pre) s) ≡ s
+pointed-one : (s pre post : List ℕ) → length s < halfWord → pointed (pre ++ (s ++ post)) (nameOf (length pre) s) ≡ s
 pointed-one s pre post h =
     ap₂ (λ (x y : ℕ). take x (drop y (pre ++ (s ++ post)))) (digits-mod (length pre) h) (digits-div (length pre) h)
     ∙ ap (take (length s)) (drop-append-seam pre (s ++ post)) ∙ take-append-seam s post
 
-pointed-all : (v : Value) (pre post : List ℕ) → letters v < 2 ^ 32 → allPointed (pre ++ (textOf v ++ post)) (nameWords v (length pre)) ≡ names v
+pointed-all : (v : Value) (pre post : List ℕ) → letters v < halfWord → allPointed (pre ++ (textOf v ++ post)) (nameWords v (length pre)) ≡ names v
 pointed-all nothing pre post h = refl
 pointed-all (spelt s) pre post h = ap (λ (l : List ℕ). l ∷ []) (pointed-one s pre post h)
 pointed-all (choice k v) pre post h = pointed-all v pre post h
@@ -222,7 +208,7 @@ pointed-all (pair a b) pre post h =
 pointed-all (node t v) pre post h = pointed-all v pre post h
 
 -- The name words that are laid out point, in the text with anything after it, at the spellings in the key's order.
-pub names-point : (G : Grammar) (f : Form) (v : Value) (post : List ℕ) → letters v < 2 ^ 32
+pub names-point : (G : Grammar) (f : Form) (v : Value) (post : List ℕ) → letters v < halfWord
     → allPointed (textOf v ++ post) (namesIn (plant G f (laid v 0) done)) ≡ names v
 names-point G f v post h =
     ap (allPointed (textOf v ++ post)) (names-laid G f v 0 done ∙ append-nil (nameWords v 0)) ∙ pointed-all v [] post h

@@ -6,8 +6,9 @@ use native.Mathlib.Nat.{add-zero}
 use native.Mathlib.Omega.{arith}
 use lib.ListN.{length, take, set, length-append}
 use lib.Seq.{take-set-lt, set-at, length-take-le, take-take, take-at}
-use Rattle.keys.specs.Store.{Run, done, chose, name, kid, under, called, packed, firstKid, recordOf, records, nameOf, namesIn}
-use Rattle.keys.specs.StoreLaws.{_⊕_, join-done, join-join, under-join, called-join, span, span-join, packed-join, firstKid-join, records-join, namesIn-join}
+use Rattle.keys.specs.Limits.{halfWord}
+use Rattle.keys.specs.Store.{Run, done, chose, name, kid, under, called, packed, firstKid, recordOf, records, nameOf, namesIn, _⊕_, span}
+use Rattle.keys.proofs.StoreLaws.{join-done, join-join, under-join, called-join, span-join, packed-join, firstKid-join, records-join, namesIn-join}
 use Rattle.keys.specs.Words.{firstNodes, firstNames}
 use Rattle.keys.specs.Stored.{lettersIn, Base, base, Stored, Own}
 
@@ -218,7 +219,7 @@ module _ {B : Base} {first end : ℕ} {t a : Run} {N M X N' M' X' : List ℕ} {u
 -- ---- A finished node
 
 pub stored-node : (first end : ℕ) {B : Base} {t : Run} {N M X : List ℕ} {u m x word shift child : ℕ} (N' : List ℕ) → Stored B t N M X u m x → Own B t word shift child
-    → firstNodes N' (u + 1) ≡ firstNodes N u ++ (word ∷ (first + 2 ^ 32 * end) ∷ (child + 2 ^ 32 * B .named) ∷ 0 ∷ [])
+    → firstNodes N' (u + 1) ≡ firstNodes N u ++ (word ∷ (first + halfWord * end) ∷ (child + halfWord * B .named) ∷ 0 ∷ [])
     → Stored B (kid first end t done) N' M X (u + 1) m x
 stored-node first end {B} {t} {N} {M} {X} {u} {m} {x} {word} {shift} {child} N' d o e =
     let r : List ℕ = records t (B .used) (B .named) 0 in
@@ -227,9 +228,9 @@ stored-node first end {B} {t} {N} {M} {X} {u} {m} {x} {word} {shift} {child} N' 
       named = omega (arith, d .named);
       chars = omega (arith, d .chars, length-append (lettersIn t) []);
       nodes-are =
-          e ∙ ap (λ (y : List ℕ). y ++ (word ∷ (first + 2 ^ 32 * end) ∷ (child + 2 ^ 32 * B .named) ∷ 0 ∷ [])) (d .nodes-are)
-          ∙ append-assoc (B .nodes) r (word ∷ (first + 2 ^ 32 * end) ∷ (child + 2 ^ 32 * B .named) ∷ 0 ∷ [])
-          ∙ ap₂ (λ (y z : ℕ). B .nodes ++ (r ++ (y ∷ (first + 2 ^ 32 * end) ∷ (z + 2 ^ 32 * B .named) ∷ 0 ∷ []))) (o .word-is) (o .child-is)
+          e ∙ ap (λ (y : List ℕ). y ++ (word ∷ (first + halfWord * end) ∷ (child + halfWord * B .named) ∷ 0 ∷ [])) (d .nodes-are)
+          ∙ append-assoc (B .nodes) r (word ∷ (first + halfWord * end) ∷ (child + halfWord * B .named) ∷ 0 ∷ [])
+          ∙ ap₂ (λ (y z : ℕ). B .nodes ++ (r ++ (y ∷ (first + halfWord * end) ∷ (z + halfWord * B .named) ∷ 0 ∷ []))) (o .word-is) (o .child-is)
           ∙ ap (λ (y : List ℕ). B .nodes ++ y) (sym (append-nil (r ++ recordOf first end t (B .used) (B .named) 0)));
       names-are = d .names-are ∙ ap (λ (y : List ℕ). B .names ++ y) (sym (append-nil (namesIn t)));
       text-is = d .text-is ∙ ap (λ (y : List ℕ). B .text ++ y) (sym (append-nil (lettersIn t)));

@@ -3,7 +3,7 @@ use mathlib.Core.Path.{_≡_, refl, sym, ap₂, _∙_}
 use mathlib.Core.List.{List}
 use Prim.Native.Nat.{ℕ}
 use Rattle.keys.specs.Store as store
-use Rattle.keys.specs.BitsLaws.{clash}
+use Rattle.keys.proofs.BitsLaws.{clash}
 use Rattle.key_in.specs.Back.{told, Answers}
 use Rattle.key_in.specs.declared.back.Answer.{Answer}
 use Rattle.key_in.specs.declared.back.Answer.the-variants.{Taken, Refused}
