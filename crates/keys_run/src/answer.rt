@@ -10,11 +10,13 @@ use key_in::back::take_back;
 use key_out::out::put_key;
 use lines::line::bytes;
 use lines::line::next;
-use lines::sum::begins;
-use lines::sum::dirty_bytes;
+use lines::line::three;
+use lines::sum::dirty;
 use lines::sum::dirty_words;
+use lines::sum::is_key;
 use lines::sum::of_bytes;
 use lines::sum::of_words;
+use lines::sum::root;
 use visits::visits::walk;
 use words::limits::Tree;
 
@@ -25,22 +27,9 @@ fn left(nodes: &[u64], names: &[u64], text: &[u8]) -> u64 {
     of_bytes(text, b)
 }
 
-// The last node taken: the root.
-fn last(count: usize) -> usize
-    ensures { λ r. ⌜ r < 2 ^ 32 ⌝ }
-{
-    if count == 0 {
-        return 0;
-    }
-    (count - 1) % 4294967296
-}
-
-// Whether what was written is the key.
+// 1 where what was written is the key.
 fn same(again: &[u8], size: usize, key: &[u8]) -> u64 {
-    if size != key.len() {
-        return 0;
-    }
-    if begins(again, key) { 1 } else { 0 }
+    if is_key(again, size, key) { 1 } else { 0 }
 }
 
 // Where op is 1, the nodes' positions are made dirty: no key holds them.
@@ -63,33 +52,33 @@ fn lent_visits(bytes: usize) -> usize
 
 // How many words the tree's visits have, and their buffer, dirty before, as a number.
 fn visited(
-    out: &mut [u8],
+    out: &mut [u8; 65536],
     at: usize,
     nodes: &[u64],
     names: &[u64],
     visits: &mut [u64],
     count: usize,
 ) -> usize
-    requires { ⌜ (at < length (now out)) × (length (now visits) * 8 ≤ far) ⌝ }
-    ensures { λ r. ⌜ r < length (now (out .exit)) ⌝ }
+    requires { ⌜ (at < 65536) × (length (now visits) * 8 ≤ far) ⌝ }
+    ensures { λ r. ⌜ r < 65536 ⌝ }
 {
     dirty_words(visits);
-    let size = walk(nodes, names, last(count), Tree::TALLEST, visits);
+    let size = walk(nodes, names, root(count), Tree::TALLEST, visits);
     let p = next(out, at, size as u64);
     next(out, p, of_words(visits, 1))
 }
 
 // The same in a buffer of its own, by the bytes lent for the key.
 fn walked(
-    out: &mut [u8],
+    out: &mut [u8; 65536],
     at: usize,
     nodes: &[u64],
     names: &[u64],
     count: usize,
     bytes: usize,
 ) -> usize
-    requires { ⌜ at < length (now out) ⌝ }
-    ensures { λ r. ⌜ r < length (now (out .exit)) ⌝ }
+    requires { ⌜ at < 65536 ⌝ }
+    ensures { λ r. ⌜ r < 65536 ⌝ }
 {
     let mut room = record::visit_room();
     let size = lent_visits(bytes);
@@ -98,7 +87,7 @@ fn walked(
 
 // The length of the key written again, whether it is the key, and its buffer as a number; then the visits.
 fn written(
-    out: &mut [u8],
+    out: &mut [u8; 65536],
     at: usize,
     key: &[u8],
     nodes: &[u64],
@@ -107,29 +96,19 @@ fn written(
     again: &mut [u8],
     count: usize,
 ) -> usize
-    requires { ⌜ (at < length (now out)) × (length (now again) * 8 ≤ far) ⌝ }
-    ensures { λ r. ⌜ r < length (now (out .exit)) ⌝ }
+    requires { ⌜ (at < 65536) × (length (now again) * 8 ≤ far) ⌝ }
+    ensures { λ r. ⌜ r < 65536 ⌝ }
 {
-    let size = put_key(nodes, names, text, last(count), Tree::TALLEST, again);
+    let size = put_key(nodes, names, text, root(count), Tree::TALLEST, again);
     let p = next(out, at, size as u64);
     let q = next(out, p, same(again, size, key));
     let r = next(out, q, of_bytes(again, 1));
     walked(out, r, nodes, names, count, again.len())
 }
 
-// Three numbers more.
-fn three(out: &mut [u8], at: usize, a: usize, b: usize, c: usize) -> usize
-    requires { ⌜ at < length (now out) ⌝ }
-    ensures { λ r. ⌜ r < length (now (out .exit)) ⌝ }
-{
-    let p = next(out, at, a as u64);
-    let q = next(out, p, b as u64);
-    next(out, q, c as u64)
-}
-
 // A refusal's number and place, and what is left in the buffers.
 fn refused(
-    out: &mut [u8],
+    out: &mut [u8; 65536],
     at: usize,
     number: u32,
     place: usize,
@@ -137,8 +116,8 @@ fn refused(
     names: &[u64],
     text: &[u8],
 ) -> usize
-    requires { ⌜ at < length (now out) ⌝ }
-    ensures { λ r. ⌜ r < length (now (out .exit)) ⌝ }
+    requires { ⌜ at < 65536 ⌝ }
+    ensures { λ r. ⌜ r < 65536 ⌝ }
 {
     let p = bytes(out, at, b"refused");
     let q = next(out, p, number as u64);
@@ -148,7 +127,7 @@ fn refused(
 
 // The numbers of nodes, names and bytes of text, and what is in the buffers.
 fn taken(
-    out: &mut [u8],
+    out: &mut [u8; 65536],
     at: usize,
     count: usize,
     named: usize,
@@ -157,17 +136,17 @@ fn taken(
     names: &[u64],
     text: &[u8],
 ) -> usize
-    requires { ⌜ at < length (now out) ⌝ }
-    ensures { λ r. ⌜ r < length (now (out .exit)) ⌝ }
+    requires { ⌜ at < 65536 ⌝ }
+    ensures { λ r. ⌜ r < 65536 ⌝ }
 {
     let p = bytes(out, at, b"taken");
-    let q = three(out, p, count, named, chars);
+    let q = three(out, p, count as u64, named as u64, chars as u64);
     next(out, q, left(nodes, names, text))
 }
 
 // What taking back answers, and where it is taken the key written again and the visits.
 fn told(
-    out: &mut [u8],
+    out: &mut [u8; 65536],
     at: usize,
     op: u8,
     key: &[u8],
@@ -176,8 +155,8 @@ fn told(
     text: &mut [u8],
     again: &mut [u8],
 ) -> usize
-    requires { ⌜ (at < length (now out)) × (length (now again) * 8 ≤ far) ⌝ }
-    ensures { λ r. ⌜ r < length (now (out .exit)) ⌝ }
+    requires { ⌜ (at < 65536) × (length (now again) * 8 ≤ far) ⌝ }
+    ensures { λ r. ⌜ r < 65536 ⌝ }
 {
     match take_back(key, nodes, names, text) {
         Answer::Refused(number, place) => refused(out, at, number, place, nodes, names, text),
@@ -189,16 +168,9 @@ fn told(
     }
 }
 
-fn dirty(nodes: &mut [u64], names: &mut [u64], text: &mut [u8], again: &mut [u8]) {
-    dirty_words(nodes);
-    dirty_words(names);
-    dirty_bytes(text);
-    dirty_bytes(again);
-}
-
 // A record's line, without its end. The lent buffers are dirty before.
 pub fn answer(
-    out: &mut [u8],
+    out: &mut [u8; 65536],
     at: usize,
     op: u8,
     key: &[u8],
@@ -207,8 +179,8 @@ pub fn answer(
     text: &mut [u8],
     again: &mut [u8],
 ) -> usize
-    requires { ⌜ (at < length (now out)) × (length (now again) * 8 ≤ far) ⌝ }
-    ensures { λ r. ⌜ r < length (now (out .exit)) ⌝ }
+    requires { ⌜ (at < 65536) × (length (now again) * 8 ≤ far) ⌝ }
+    ensures { λ r. ⌜ r < 65536 ⌝ }
 {
     dirty(nodes, names, text, again);
     told(out, at, op, key, nodes, names, text, again)

@@ -6,15 +6,15 @@ mod answer;
 mod record;
 mod sum;
 
-ghost use mathlib.Core.Path.{_≡_};
 ghost use Prim.Native.Nat.{_<_, _≤_};
 ghost use lib.ListN.{length};
 use crate::record::Rooms;
 use lines::line;
+use lines::room;
 
-// A record's line, by the buffers that it lends.
+// A record's line, by the first part of each buffer.
 fn lent(
-    out: &mut [u8],
+    out: &mut [u8; 65536],
     at: usize,
     op: u8,
     rooms: Rooms,
@@ -24,8 +24,8 @@ fn lent(
     text: &mut [u8],
     again: &mut [u8],
 ) -> usize
-    requires { ⌜ (at < length (now out)) × (rooms .nodes ≤ length (now nodes)) × (rooms .names ≤ length (now names)) × (rooms .text ≤ length (now text)) × (rooms .again ≤ length (now again)) × (rooms .key ≤ length (now key)) × (rooms .again ≤ 262146) ⌝ }
-    ensures { λ r. ⌜ r < length (now (out .exit)) ⌝ }
+    requires { ⌜ (at < 65536) × (rooms .nodes ≤ length (now nodes)) × (rooms .names ≤ length (now names)) × (rooms .text ≤ length (now text)) × (rooms .again ≤ length (now again)) × (rooms .key ≤ length (now key)) × (rooms .again ≤ 262146) ⌝ }
+    ensures { λ r. ⌜ r < 65536 ⌝ }
 {
     answer::answer(
         out,
@@ -39,38 +39,33 @@ fn lent(
     )
 }
 
+// Whether there is room for a record and its key is there: it then begins its buffer.
+fn loaded(fd: i32, rooms: Rooms, key: &mut [u8; 262146]) -> bool
+    requires { ⌜ rooms .key ≤ 262146 ⌝ }
+{
+    if !rooms.fit {
+        return false;
+    }
+    lines::record::load(fd, key, rooms.key)
+}
+
 // A record after its head: its key is read, and its line goes to the buffer.
 fn shown(
     fd: i32,
     head: &[u8; 21],
-    out: &mut [u8],
+    out: &mut [u8; 65536],
     at: usize,
-    key: &mut [u8],
-    nodes: &mut [u64],
-    names: &mut [u64],
-    text: &mut [u8],
-    again: &mut [u8],
+    key: &mut [u8; 262146],
+    nodes: &mut [u64; 838860],
+    names: &mut [u64; 16384],
+    text: &mut [u8; 131072],
+    again: &mut [u8; 262146],
 ) -> usize
-    requires { ⌜ (at < length (now out)) × (length (now key) ≡ 262146) × (length (now nodes) ≡ 838860) × (length (now names) ≡ 16384) × (length (now text) ≡ 131072) × (length (now again) ≡ 262146) ⌝ }
-    ensures { λ r. ⌜ r ≤ length (now (out .exit)) ⌝ }
+    requires { ⌜ at < 65536 ⌝ }
+    ensures { λ r. ⌜ r ≤ 65536 ⌝ }
 {
     let rooms = record::lent_by(head);
-    if nodes.len() < rooms.nodes {
-        return line::cut(out, at);
-    }
-    if names.len() < rooms.names {
-        return line::cut(out, at);
-    }
-    if text.len() < rooms.text {
-        return line::cut(out, at);
-    }
-    if again.len() < rooms.again {
-        return line::cut(out, at);
-    }
-    if key.len() < rooms.key {
-        return line::cut(out, at);
-    }
-    if !lines::record::load(fd, key, rooms.key) {
+    if !loaded(fd, rooms, key) {
         return line::cut(out, at);
     }
     let end = lent(out, at, head[0], rooms, key, nodes, names, text, again);
@@ -80,24 +75,21 @@ fn shown(
 // The next record. After the last, and after one that is cut, the place given back is the buffer's length.
 fn turn(
     fd: i32,
-    out: &mut [u8],
+    out: &mut [u8; 65536],
     at: usize,
-    key: &mut [u8],
-    nodes: &mut [u64],
-    names: &mut [u64],
-    text: &mut [u8],
-    again: &mut [u8],
+    key: &mut [u8; 262146],
+    nodes: &mut [u64; 838860],
+    names: &mut [u64; 16384],
+    text: &mut [u8; 131072],
+    again: &mut [u8; 262146],
 ) -> usize
-    requires { ⌜ (at < length (now out)) × (length (now key) ≡ 262146) × (length (now nodes) ≡ 838860) × (length (now names) ≡ 16384) × (length (now text) ≡ 131072) × (length (now again) ≡ 262146) ⌝ }
-    ensures { λ r. ⌜ r ≤ length (now (out .exit)) ⌝ }
+    requires { ⌜ at < 65536 ⌝ }
+    ensures { λ r. ⌜ r ≤ 65536 ⌝ }
 {
     let mut head = [0u8; 21];
     let got = io::read_full(fd, &mut head);
-    if got == 0 {
-        return line::flush(out, at);
-    }
     if got < 21 {
-        return line::cut(out, at);
+        return lines::record::stopped(out, at, got);
     }
     shown(fd, &head, out, at, key, nodes, names, text, again)
 }
@@ -105,20 +97,18 @@ fn turn(
 // The records of a file, at most a thousand million.
 fn records(
     fd: i32,
-    out: &mut [u8],
-    key: &mut [u8],
-    nodes: &mut [u64],
-    names: &mut [u64],
-    text: &mut [u8],
-    again: &mut [u8],
-)
-    requires { ⌜ (0 < length (now out)) × (length (now key) ≡ 262146) × (length (now nodes) ≡ 838860) × (length (now names) ≡ 16384) × (length (now text) ≡ 131072) × (length (now again) ≡ 262146) ⌝ }
-{
+    out: &mut [u8; 65536],
+    key: &mut [u8; 262146],
+    nodes: &mut [u64; 838860],
+    names: &mut [u64; 16384],
+    text: &mut [u8; 131072],
+    again: &mut [u8; 262146],
+) {
     let mut at: usize = 0;
     let mut left: usize = 1_000_000_000;
     while 0 < left {
         at = turn(fd, out, at, key, nodes, names, text, again);
-        if at == out.len() {
+        if 65536 <= at {
             return;
         }
         left -= 1;
@@ -128,11 +118,11 @@ fn records(
 
 fn run(fd: i32) {
     let mut out = io::large_buffer();
-    let mut key = record::key_room();
-    let mut nodes = record::node_room();
+    let mut key = room::key_room();
+    let mut nodes = room::node_room();
     let mut names = record::name_room();
-    let mut text = record::text_room();
-    let mut again = record::key_room();
+    let mut text = room::letter_room();
+    let mut again = room::key_room();
     records(
         fd,
         &mut out,
@@ -145,15 +135,8 @@ fn run(fd: i32) {
 }
 
 fn main() {
-    let mut path = io::buffer();
-    let k = os::arg(1, &mut path);
-    if os::errno() != 0 {
-        os::fail(b"path");
-        return;
-    }
-    let fd = os::open_read(&path[..k]);
+    let fd = lines::record::opened();
     if fd < 0 {
-        os::fail(&path[..k]);
         return;
     }
     run(fd);

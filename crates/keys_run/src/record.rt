@@ -1,32 +1,15 @@
-// The parts of a record: the numbers of its head, and the room for the largest record.
+// The numbers of a record's head, and room that only these records lend.
 ghost use mathlib.Core.Path.{_≡_};
+ghost use Prim.Native.Nat.{_≤_};
 ghost use lib.ListN.{length};
 use lines::record::four;
-
-// The words of as many nodes as a key may have, of ten bits each.
-pub fn node_room() -> [u64; 838860]
-    ensures { λ r. ⌜ 838860 ≡ length r ⌝ }
-{
-    [0; 838860]
-}
+use lines::record::least;
+use lines::record::over;
 
 pub fn name_room() -> [u64; 16384]
     ensures { λ r. ⌜ 16384 ≡ length r ⌝ }
 {
     [0; 16384]
-}
-
-pub fn text_room() -> [u8; 131072]
-    ensures { λ r. ⌜ 131072 ≡ length r ⌝ }
-{
-    [0; 131072]
-}
-
-// Two bytes more than a key may have.
-pub fn key_room() -> [u8; 262146]
-    ensures { λ r. ⌜ 262146 ≡ length r ⌝ }
-{
-    [0; 262146]
 }
 
 // The words of the visits of a tree that is not large.
@@ -36,22 +19,36 @@ pub fn visit_room() -> [u64; 4096]
     [0; 4096]
 }
 
-// How much a record lends, and its key's length.
+// How much a record lends, and its key's length: each no more than there is room for; and whether it asks for no more.
 pub struct Rooms {
     pub nodes: usize,
     pub names: usize,
     pub text: usize,
     pub again: usize,
     pub key: usize,
+    pub fit: bool,
+}
+
+// Whether there is room for what a record's head asks for.
+fn fits(head: &[u8; 21]) -> bool {
+    let nodes = over(four(head, 1), 838860);
+    let names = over(four(head, 5), 16384);
+    let text = over(four(head, 9), 131072);
+    let again = over(four(head, 13), 262146);
+    let key = over(four(head, 17), 262146);
+    nodes + names + text + again + key == 0
 }
 
 // The numbers of a record's head.
-pub fn lent_by(head: &[u8; 21]) -> Rooms {
+pub fn lent_by(head: &[u8; 21]) -> Rooms
+    ensures { λ r. ⌜ (r .nodes ≤ 838860) × (r .names ≤ 16384) × (r .text ≤ 131072) × (r .again ≤ 262146) × (r .key ≤ 262146) ⌝ }
+{
     Rooms {
-        nodes: four(head, 1),
-        names: four(head, 5),
-        text: four(head, 9),
-        again: four(head, 13),
-        key: four(head, 17),
+        nodes: least(four(head, 1), 838860),
+        names: least(four(head, 5), 16384),
+        text: least(four(head, 9), 131072),
+        again: least(four(head, 13), 262146),
+        key: least(four(head, 17), 262146),
+        fit: fits(head),
     }
 }

@@ -1,4 +1,5 @@
-// What programs that run stored vectors share: lines gathered in a buffer, the parts of a record, whole buffers summed up.
+// What the programs share: lines gathered in a buffer, the records of a file, room for the largest, whole buffers summed up.
 pub mod line;
 pub mod record;
+pub mod room;
 pub mod sum;

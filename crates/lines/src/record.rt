@@ -1,22 +1,10 @@
-// The parts of a record: numbers of four and eight bytes, lowest first, and the room for the largest record.
+// The records of a file: the file itself, numbers of four and eight bytes, lowest first, and how a run ends.
 ghost use mathlib.Core.Path.{_≡_};
 ghost use Prim.Native.Nat.{_+_, _*_, _^_, _<_, _≤_};
 ghost use lib.ListN.{length};
 ghost use Rattle.io.specs.Counts.{Counts};
-
-// The bytes of 16,385 words.
-pub fn word_bytes() -> [u8; 131080]
-    ensures { λ r. ⌜ 131080 ≡ length r ⌝ }
-{
-    [0; 131080]
-}
-
-// One word more than a list may have.
-pub fn word_room() -> [u64; 16385]
-    ensures { λ r. ⌜ 16385 ≡ length r ⌝ }
-{
-    [0; 16385]
-}
+use crate::line::cut;
+use crate::line::flush;
 
 // A byte as a number.
 fn wide(b: u8) -> usize
@@ -60,4 +48,44 @@ pub fn load(fd: i32, bytes: &mut [u8], n: usize) -> bool
     ensures { λ _. ⌜ Counts n (now (bytes .exit)) ⌝ }
 {
     io::read_full(fd, &mut bytes[..n]) == n
+}
+
+// The file that the first argument names, open to be read; below 0 where there is none, after a line that says so.
+pub fn opened() -> i32 {
+    let mut path = io::buffer();
+    let k = os::arg(1, &mut path);
+    if os::errno() != 0 {
+        os::fail(b"path");
+        return -1;
+    }
+    let fd = os::open_read(&path[..k]);
+    if fd < 0 {
+        os::fail(&path[..k]);
+    }
+    fd
+}
+
+// A number, or the most there is room for.
+pub fn least(n: usize, most: usize) -> usize
+    ensures { λ r. ⌜ (r ≤ n) × (r ≤ most) ⌝ }
+{
+    if n < most { n } else { most }
+}
+
+// 1 where a number is more than there is room for.
+pub fn over(n: usize, most: usize) -> usize
+    ensures { λ r. ⌜ r ≤ 1 ⌝ }
+{
+    if most < n { 1 } else { 0 }
+}
+
+// The end of a run by how many bytes of a record's head are left: none, or too few.
+pub fn stopped(out: &mut [u8; 65536], at: usize, got: usize) -> usize
+    requires { ⌜ at < 65536 ⌝ }
+    ensures { λ r. ⌜ r ≡ 65536 ⌝ }
+{
+    if got == 0 {
+        return flush(out, at);
+    }
+    cut(out, at)
 }

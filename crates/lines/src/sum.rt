@@ -89,3 +89,29 @@ pub fn begins(bytes: &[u8], key: &[u8]) -> bool {
     }
     true
 }
+
+// Whether what was written, of so many bytes, is the key.
+pub fn is_key(again: &[u8], size: usize, key: &[u8]) -> bool {
+    if size != key.len() {
+        return false;
+    }
+    begins(again, key)
+}
+
+// All that a key taken back and written again is lent is dirty.
+pub fn dirty(nodes: &mut [u64], names: &mut [u64], letters: &mut [u8], again: &mut [u8]) {
+    dirty_words(nodes);
+    dirty_words(names);
+    dirty_bytes(letters);
+    dirty_bytes(again);
+}
+
+// The last node of so many: the root.
+pub fn root(count: usize) -> usize
+    ensures { λ r. ⌜ r < 4294967296 ⌝ }
+{
+    if count == 0 {
+        return 0;
+    }
+    (count - 1) % 4294967296
+}

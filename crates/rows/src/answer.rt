@@ -90,9 +90,9 @@ pub fn same(got: &[u64; 11], want: &[u64; 11]) -> bool {
 }
 
 // Words, each after a space.
-fn shown(out: &mut [u8], at: usize, words: &[u64]) -> usize
-    requires { ⌜ at < length (now out) ⌝ }
-    ensures { λ r. ⌜ r < length (now (out .exit)) ⌝ }
+fn shown(out: &mut [u8; 65536], at: usize, words: &[u64]) -> usize
+    requires { ⌜ at < 65536 ⌝ }
+    ensures { λ r. ⌜ r < 65536 ⌝ }
 {
     let mut p = at;
     let mut i: usize = 0;
@@ -109,9 +109,9 @@ fn wide(b: u8) -> u64 {
 }
 
 // Bytes in decimal, each after a space.
-fn shown_bytes(out: &mut [u8], at: usize, letters: &[u8]) -> usize
-    requires { ⌜ at < length (now out) ⌝ }
-    ensures { λ r. ⌜ r < length (now (out .exit)) ⌝ }
+fn shown_bytes(out: &mut [u8; 65536], at: usize, letters: &[u8]) -> usize
+    requires { ⌜ at < 65536 ⌝ }
+    ensures { λ r. ⌜ r < 65536 ⌝ }
 {
     let mut p = at;
     let mut i: usize = 0;
@@ -123,9 +123,9 @@ fn shown_bytes(out: &mut [u8], at: usize, letters: &[u8]) -> usize
 }
 
 // A bar, and words after it.
-fn part(out: &mut [u8], at: usize, words: &[u64]) -> usize
-    requires { ⌜ at < length (now out) ⌝ }
-    ensures { λ r. ⌜ r < length (now (out .exit)) ⌝ }
+fn part(out: &mut [u8; 65536], at: usize, words: &[u64]) -> usize
+    requires { ⌜ at < 65536 ⌝ }
+    ensures { λ r. ⌜ r < 65536 ⌝ }
 {
     let p = bytes(out, at, b" |");
     shown(out, p, words)
@@ -133,7 +133,7 @@ fn part(out: &mut [u8], at: usize, words: &[u64]) -> usize
 
 // All of the lent slices, where the record's options ask for it: words for nodes, names and diagnostics, and bytes.
 fn parts(
-    out: &mut [u8],
+    out: &mut [u8; 65536],
     at: usize,
     op: u8,
     nodes: &[u64],
@@ -141,8 +141,8 @@ fn parts(
     notes: &[u64],
     letters: &[u8],
 ) -> usize
-    requires { ⌜ at < length (now out) ⌝ }
-    ensures { λ r. ⌜ r < length (now (out .exit)) ⌝ }
+    requires { ⌜ at < 65536 ⌝ }
+    ensures { λ r. ⌜ r < 65536 ⌝ }
 {
     if op % 4 < 2 {
         return at;
@@ -155,9 +155,9 @@ fn parts(
 }
 
 // How the line of a record that differs begins: the record's number among all, from 0.
-fn begun(out: &mut [u8], at: usize, run: usize) -> usize
-    requires { ⌜ at < length (now out) ⌝ }
-    ensures { λ r. ⌜ r < length (now (out .exit)) ⌝ }
+fn begun(out: &mut [u8; 65536], at: usize, run: usize) -> usize
+    requires { ⌜ at < 65536 ⌝ }
+    ensures { λ r. ⌜ r < 65536 ⌝ }
 {
     let p = bytes(out, at, b"different");
     next(out, p, run as u64)
@@ -165,7 +165,7 @@ fn begun(out: &mut [u8], at: usize, run: usize) -> usize
 
 // The line of a record that has another answer, with the answer.
 pub fn told(
-    out: &mut [u8],
+    out: &mut [u8; 65536],
     at: usize,
     run: usize,
     op: u8,
@@ -175,8 +175,8 @@ pub fn told(
     notes: &[u64],
     letters: &[u8],
 ) -> usize
-    requires { ⌜ at < length (now out) ⌝ }
-    ensures { λ r. ⌜ r < length (now (out .exit)) ⌝ }
+    requires { ⌜ at < 65536 ⌝ }
+    ensures { λ r. ⌜ r < 65536 ⌝ }
 {
     let q = begun(out, at, run);
     let r = shown(out, q, got);
@@ -185,9 +185,9 @@ pub fn told(
 }
 
 // The line of a record whose key does not come back.
-pub fn lost(out: &mut [u8], at: usize, run: usize) -> usize
-    requires { ⌜ at < length (now out) ⌝ }
-    ensures { λ r. ⌜ r < length (now (out .exit)) ⌝ }
+pub fn lost(out: &mut [u8; 65536], at: usize, run: usize) -> usize
+    requires { ⌜ at < 65536 ⌝ }
+    ensures { λ r. ⌜ r < 65536 ⌝ }
 {
     let p = begun(out, at, run);
     bytes(out, p, b" in its key taken back and written again\n")

@@ -3,39 +3,15 @@ ghost use mathlib.Core.Path.{_≡_};
 ghost use Prim.Native.Nat.{_*_, _^_, _<_, _≤_};
 ghost use lib.ListN.{length};
 ghost use Rattle.fields.specs.Put.{far};
+use crate::record::Asked;
 use key_out::out::put_key;
-use lines::sum::begins;
-use lines::sum::dirty_bytes;
-use lines::sum::dirty_words;
+use lines::record::least;
+use lines::sum::dirty;
+use lines::sum::is_key;
+use lines::sum::root;
 use typekey::taking::Taking;
 use typekey::taking::take_back;
 use words::limits::Tree;
-
-// All that is lent is dirty.
-fn dirty(nodes: &mut [u64], names: &mut [u64], letters: &mut [u8], again: &mut [u8]) {
-    dirty_words(nodes);
-    dirty_words(names);
-    dirty_bytes(letters);
-    dirty_bytes(again);
-}
-
-// The last node taken: the root.
-fn last(count: usize) -> usize
-    ensures { λ r. ⌜ r < 2 ^ 32 ⌝ }
-{
-    if count == 0 {
-        return 0;
-    }
-    (count - 1) % 4294967296
-}
-
-// Whether what was written is the key.
-fn is_key(again: &[u8], size: usize, key: &[u8]) -> bool {
-    if size != key.len() {
-        return false;
-    }
-    begins(again, key)
-}
 
 // Whether the key of a tree that stands in the words is this one.
 fn written(
@@ -48,12 +24,12 @@ fn written(
 ) -> bool
     requires { ⌜ length (now again) * 8 ≤ far ⌝ }
 {
-    let size = put_key(nodes, names, letters, last(count), Tree::TALLEST, again);
+    let size = put_key(nodes, names, letters, root(count), Tree::TALLEST, again);
     is_key(again, size, key)
 }
 
 // Whether a key is taken back and, from what was taken, written again as it is.
-pub fn comes_back(
+fn taken_back(
     key: &[u8],
     nodes: &mut [u64],
     names: &mut [u64],
@@ -67,4 +43,30 @@ pub fn comes_back(
         return false;
     };
     written(key, nodes, names, letters, again, u.nodes)
+}
+
+// The same of a key of so many bytes, on what a record lends.
+pub fn comes_back(
+    a: Asked,
+    size: usize,
+    key: &[u8],
+    nodes: &mut [u64],
+    names: &mut [u64],
+    letters: &mut [u8],
+    again: &mut [u8],
+) -> bool
+    requires { ⌜ (a .nodes ≤ length (now nodes)) × (a .names ≤ length (now names)) × (a .key ≤ length (now key)) × (a .letters ≤ length (now letters)) × (a .key ≤ length (now again)) × (a .key ≤ 262146) ⌝ }
+{
+    let n = least(size, a.key);
+    let k = a.nodes;
+    let l = a.names;
+    let m = a.key;
+    let o = a.letters;
+    taken_back(
+        &key[..n],
+        &mut nodes[..k],
+        &mut names[..l],
+        &mut letters[..o],
+        &mut again[..m],
+    )
 }

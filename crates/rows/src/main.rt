@@ -16,6 +16,7 @@ ghost use Prim.Native.Nat.{_*_, _<_, _≤_};
 ghost use lib.ListN.{length};
 use crate::record::Asked;
 use lines::line;
+use lines::room;
 use lines::sum::dirty_bytes;
 use lines::sum::dirty_words;
 use typekey::reading::read;
@@ -68,31 +69,38 @@ fn answered(
     answer::of_reading(r, nodes, names, notes, key)
 }
 
-// The same by a record's head.
+// The same on what a record lends: the first part of each buffer.
 fn read_by(
-    head: &[u8; 77],
+    a: Asked,
     text: &[u8],
     words: &[u64],
     nodes: &mut [u64],
     names: &mut [u64],
     notes: &mut [u64],
     key: &mut [u8],
-) -> [u64; 11] {
-    let a = record::asked_by(head);
+) -> [u64; 11]
+    requires { ⌜ (a .text ≤ length (now text)) × (a .words ≤ length (now words)) × (a .nodes ≤ length (now nodes)) × (a .names ≤ length (now names)) × (a .notes ≤ length (now notes)) × (a .key ≤ length (now key)) ⌝ }
+{
+    let i = a.text;
+    let j = a.words;
+    let k = a.nodes;
+    let l = a.names;
+    let n = a.notes;
+    let m = a.key;
     answered(
-        text,
-        words,
+        &text[..i],
+        &words[..j],
         a.start,
         a.op % 2 == 1,
-        nodes,
-        names,
-        notes,
-        key,
+        &mut nodes[..k],
+        &mut names[..l],
+        &mut notes[..n],
+        &mut key[..m],
     )
 }
 
 // What the call that takes back answers and leaves, after dirt.
-fn taken_by(key: &[u8], nodes: &mut [u64], names: &mut [u64], letters: &mut [u8]) -> [u64; 11] {
+fn returned(key: &[u8], nodes: &mut [u64], names: &mut [u64], letters: &mut [u8]) -> [u64; 11] {
     dirty_words(nodes);
     dirty_words(names);
     dirty_bytes(letters);
@@ -100,9 +108,31 @@ fn taken_by(key: &[u8], nodes: &mut [u64], names: &mut [u64], letters: &mut [u8]
     answer::of_taking(r, nodes, names, letters)
 }
 
-// An answer beside the one that the record's head holds: a line if it is another.
+// The same on what a record lends.
+fn taken_by(
+    a: Asked,
+    key: &[u8],
+    nodes: &mut [u64],
+    names: &mut [u64],
+    letters: &mut [u8],
+) -> [u64; 11]
+    requires { ⌜ (a .nodes ≤ length (now nodes)) × (a .names ≤ length (now names)) × (a .key ≤ length (now key)) × (a .letters ≤ length (now letters)) ⌝ }
+{
+    let k = a.nodes;
+    let l = a.names;
+    let m = a.key;
+    let o = a.letters;
+    returned(
+        &key[..m],
+        &mut nodes[..k],
+        &mut names[..l],
+        &mut letters[..o],
+    )
+}
+
+// An answer beside the one that the record's head holds: a line if it is another, with what was lent.
 fn compared(
-    out: &mut [u8],
+    out: &mut [u8; 65536],
     at: usize,
     run: usize,
     head: &[u8; 77],
@@ -112,8 +142,8 @@ fn compared(
     notes: &[u64],
     letters: &[u8],
 ) -> After
-    requires { ⌜ at < length (now out) ⌝ }
-    ensures { λ r. ⌜ (r .at < length (now (out .exit))) × (r .different ≤ 1) ⌝ }
+    requires { ⌜ at < 65536 ⌝ }
+    ensures { λ r. ⌜ (r .at < 65536) × (r .different ≤ 1) ⌝ }
 {
     let want = record::wanted(head);
     if answer::same(got, &want) {
@@ -131,23 +161,45 @@ fn compared(
     }
 }
 
-// The key that was read, of so many bytes, is to come back: a line if it does not.
-fn returned(
-    out: &mut [u8],
+// The same by the first part of each buffer: n bytes are lent for a key or for letters.
+fn beside(
+    out: &mut [u8; 65536],
     at: usize,
     run: usize,
-    size: usize,
-    key: &[u8],
-    nodes: &mut [u64],
-    names: &mut [u64],
-    letters: &mut [u8],
-    again: &mut [u8],
+    head: &[u8; 77],
+    a: Asked,
+    got: &[u64; 11],
+    nodes: &[u64],
+    names: &[u64],
+    notes: &[u64],
+    letters: &[u8],
+    n: usize,
 ) -> After
-    requires { ⌜ (at < length (now out)) × (length (now again) ≤ 262146) ⌝ }
-    ensures { λ r. ⌜ (r .at < length (now (out .exit))) × (r .different ≤ 1) ⌝ }
+    requires { ⌜ (at < 65536) × (a .nodes ≤ length (now nodes)) × (a .names ≤ length (now names)) × (a .notes ≤ length (now notes)) × (n ≤ length (now letters)) ⌝ }
+    ensures { λ r. ⌜ (r .at < 65536) × (r .different ≤ 1) ⌝ }
 {
-    let n = record::least(size, key.len());
-    if back::comes_back(&key[..n], nodes, names, letters, again) {
+    let i = a.nodes;
+    let j = a.names;
+    let k = a.notes;
+    compared(
+        out,
+        at,
+        run,
+        head,
+        got,
+        &nodes[..i],
+        &names[..j],
+        &notes[..k],
+        &letters[..n],
+    )
+}
+
+// A key that came back, or a line that it did not.
+fn back_or_lost(out: &mut [u8; 65536], at: usize, run: usize, is_back: bool) -> After
+    requires { ⌜ at < 65536 ⌝ }
+    ensures { λ r. ⌜ (r .at < 65536) × (r .different ≤ 1) ⌝ }
+{
+    if is_back {
         return After {
             at,
             different: 0,
@@ -162,58 +214,66 @@ fn returned(
     }
 }
 
-// What a reading came to beside its record, and then its key.
-fn judged(
-    out: &mut [u8],
-    at: usize,
-    run: usize,
-    head: &[u8; 77],
-    got: &[u64; 11],
-    nodes: &mut [u64],
-    names: &mut [u64],
-    notes: &[u64],
-    key: &[u8],
-    letters: &mut [u8],
-    again: &mut [u8],
-) -> After
-    requires { ⌜ (at < length (now out)) × (length (now again) ≤ 262146) ⌝ }
-    ensures { λ r. ⌜ (r .at < length (now (out .exit))) × (r .different ≤ 1) ⌝ }
-{
-    let t = compared(out, at, run, head, got, nodes, names, notes, key);
+// Whether a key was read, and as the record says.
+fn is_granted(t: After, got: &[u64; 11]) -> bool {
     if t.different != 0 {
-        return t;
+        return false;
     }
-    if got[0] != 0 {
-        return t;
-    }
-    let size = got[4] as usize;
-    returned(out, t.at, run, size, key, nodes, names, letters, again)
+    got[0] == 0
 }
 
-// A record that reads, on just what it lends.
-fn reads(
-    out: &mut [u8],
+// What a reading came to beside its record, and then its key.
+fn judged(
+    out: &mut [u8; 65536],
     at: usize,
     run: usize,
     head: &[u8; 77],
-    text: &[u8],
-    words: &[u64],
-    nodes: &mut [u64],
-    names: &mut [u64],
-    notes: &mut [u64],
-    key: &mut [u8],
-    letters: &mut [u8],
-    again: &mut [u8],
+    a: Asked,
+    got: &[u64; 11],
+    nodes: &mut [u64; 838860],
+    names: &mut [u64; 16385],
+    notes: &[u64; 128],
+    key: &[u8; 262146],
+    letters: &mut [u8; 131072],
+    again: &mut [u8; 262146],
 ) -> After
-    requires { ⌜ (at < length (now out)) × (length (now again) ≤ 262146) ⌝ }
-    ensures { λ r. ⌜ (r .at < length (now (out .exit))) × (r .different ≤ 1) ⌝ }
+    requires { ⌜ (at < 65536) × (a .nodes ≤ 838860) × (a .names ≤ 16385) × (a .notes ≤ 128) × (a .key ≤ 262146) × (a .letters ≤ 131072) ⌝ }
+    ensures { λ r. ⌜ (r .at < 65536) × (r .different ≤ 1) ⌝ }
 {
-    let got = read_by(head, text, words, nodes, names, notes, key);
+    let t = beside(out, at, run, head, a, got, nodes, names, notes, key, a.key);
+    if !is_granted(t, got) {
+        return t;
+    }
+    let is_back = back::comes_back(a, got[4] as usize, key, nodes, names, letters, again);
+    back_or_lost(out, t.at, run, is_back)
+}
+
+// A record that reads.
+fn reads(
+    out: &mut [u8; 65536],
+    at: usize,
+    run: usize,
+    head: &[u8; 77],
+    a: Asked,
+    text: &[u8; 65536],
+    words: &[u64; 16385],
+    nodes: &mut [u64; 838860],
+    names: &mut [u64; 16385],
+    notes: &mut [u64; 128],
+    key: &mut [u8; 262146],
+    letters: &mut [u8; 131072],
+    again: &mut [u8; 262146],
+) -> After
+    requires { ⌜ (at < 65536) × (a .text ≤ 65536) × (a .words ≤ 16385) × (a .nodes ≤ 838860) × (a .names ≤ 16385) × (a .notes ≤ 128) × (a .key ≤ 262146) × (a .letters ≤ 131072) ⌝ }
+    ensures { λ r. ⌜ (r .at < 65536) × (r .different ≤ 1) ⌝ }
+{
+    let got = read_by(a, text, words, nodes, names, notes, key);
     judged(
         out,
         at,
         run,
         head,
+        a,
         &got,
         nodes,
         names,
@@ -224,49 +284,64 @@ fn reads(
     )
 }
 
-// A record that takes a key back, on just what it lends.
+// A record that takes a key back.
 fn takes(
-    out: &mut [u8],
+    out: &mut [u8; 65536],
     at: usize,
     run: usize,
     head: &[u8; 77],
-    nodes: &mut [u64],
-    names: &mut [u64],
-    notes: &[u64],
-    key: &[u8],
-    letters: &mut [u8],
+    a: Asked,
+    nodes: &mut [u64; 838860],
+    names: &mut [u64; 16385],
+    notes: &[u64; 128],
+    key: &[u8; 262146],
+    letters: &mut [u8; 131072],
 ) -> After
-    requires { ⌜ at < length (now out) ⌝ }
-    ensures { λ r. ⌜ (r .at < length (now (out .exit))) × (r .different ≤ 1) ⌝ }
+    requires { ⌜ (at < 65536) × (a .nodes ≤ 838860) × (a .names ≤ 16385) × (a .notes ≤ 128) × (a .key ≤ 262146) × (a .letters ≤ 131072) ⌝ }
+    ensures { λ r. ⌜ (r .at < 65536) × (r .different ≤ 1) ⌝ }
 {
-    let got = taken_by(key, nodes, names, letters);
-    compared(out, at, run, head, &got, nodes, names, notes, letters)
+    let got = taken_by(a, key, nodes, names, letters);
+    beside(
+        out,
+        at,
+        run,
+        head,
+        a,
+        &got,
+        nodes,
+        names,
+        notes,
+        letters,
+        a.letters,
+    )
 }
 
 // A record by its call.
 fn called(
-    out: &mut [u8],
+    out: &mut [u8; 65536],
     at: usize,
     run: usize,
     head: &[u8; 77],
-    text: &[u8],
-    words: &[u64],
-    nodes: &mut [u64],
-    names: &mut [u64],
-    notes: &mut [u64],
-    key: &mut [u8],
-    letters: &mut [u8],
-    again: &mut [u8],
+    a: Asked,
+    text: &[u8; 65536],
+    words: &[u64; 16385],
+    nodes: &mut [u64; 838860],
+    names: &mut [u64; 16385],
+    notes: &mut [u64; 128],
+    key: &mut [u8; 262146],
+    letters: &mut [u8; 131072],
+    again: &mut [u8; 262146],
 ) -> After
-    requires { ⌜ (at < length (now out)) × (length (now again) ≤ 262146) ⌝ }
-    ensures { λ r. ⌜ (r .at < length (now (out .exit))) × (r .different ≤ 1) ⌝ }
+    requires { ⌜ (at < 65536) × (a .text ≤ 65536) × (a .words ≤ 16385) × (a .nodes ≤ 838860) × (a .names ≤ 16385) × (a .notes ≤ 128) × (a .key ≤ 262146) × (a .letters ≤ 131072) ⌝ }
+    ensures { λ r. ⌜ (r .at < 65536) × (r .different ≤ 1) ⌝ }
 {
-    if head[0] < 4 {
+    if a.op < 4 {
         return reads(
             out,
             at,
             run,
             head,
+            a,
             text,
             words,
             nodes,
@@ -277,54 +352,18 @@ fn called(
             again,
         );
     }
-    takes(out, at, run, head, nodes, names, notes, key, letters)
-}
-
-// A record by the first part of each buffer.
-fn lent(
-    out: &mut [u8],
-    at: usize,
-    run: usize,
-    head: &[u8; 77],
-    a: Asked,
-    text: &[u8],
-    words: &[u64],
-    nodes: &mut [u64],
-    names: &mut [u64],
-    notes: &mut [u64],
-    key: &mut [u8],
-    letters: &mut [u8],
-    again: &mut [u8],
-) -> After
-    requires { ⌜ (at < length (now out)) × (a .text ≤ length (now text)) × (a .words ≤ length (now words)) × (a .nodes ≤ length (now nodes)) × (a .names ≤ length (now names)) × (a .notes ≤ length (now notes)) × (a .key ≤ length (now key)) × (a .letters ≤ length (now letters)) × (a .key ≤ length (now again)) × (a .key ≤ 262146) ⌝ }
-    ensures { λ r. ⌜ (r .at < length (now (out .exit))) × (r .different ≤ 1) ⌝ }
-{
-    let i = a.text;
-    let j = a.words;
-    let k = a.nodes;
-    let l = a.names;
-    let n = a.notes;
-    let m = a.key;
-    let o = a.letters;
-    called(
-        out,
-        at,
-        run,
-        head,
-        &text[..i],
-        &words[..j],
-        &mut nodes[..k],
-        &mut names[..l],
-        &mut notes[..n],
-        &mut key[..m],
-        &mut letters[..o],
-        &mut again[..m],
-    )
+    takes(out, at, run, head, a, nodes, names, notes, key, letters)
 }
 
 // Whether a record's text and words are there: they then begin their buffers.
-fn loaded_text(fd: i32, a: Asked, text: &mut [u8], bytes: &mut [u8], words: &mut [u64]) -> bool
-    requires { ⌜ (a .text ≤ length (now text)) × (8 * a .words ≤ length (now bytes)) × (a .words ≤ length (now words)) ⌝ }
+fn loaded_text(
+    fd: i32,
+    a: Asked,
+    text: &mut [u8; 65536],
+    bytes: &mut [u8; 262146],
+    words: &mut [u64; 16385],
+) -> bool
+    requires { ⌜ (a .text ≤ 65536) × (a .words ≤ 16385) ⌝ }
 {
     if !lines::record::load(fd, text, a.text) {
         return false;
@@ -340,12 +379,12 @@ fn loaded_text(fd: i32, a: Asked, text: &mut [u8], bytes: &mut [u8], words: &mut
 fn loaded(
     fd: i32,
     a: Asked,
-    text: &mut [u8],
-    bytes: &mut [u8],
-    words: &mut [u64],
-    key: &mut [u8],
+    text: &mut [u8; 65536],
+    bytes: &mut [u8; 262146],
+    words: &mut [u64; 16385],
+    key: &mut [u8; 262146],
 ) -> bool
-    requires { ⌜ (a .text ≤ length (now text)) × (8 * a .words ≤ length (now bytes)) × (a .words ≤ length (now words)) × (a .key ≤ length (now key)) ⌝ }
+    requires { ⌜ (a .text ≤ 65536) × (a .words ≤ 16385) × (a .key ≤ 262146) ⌝ }
 {
     if a.op < 4 {
         return loaded_text(fd, a, text, bytes, words);
@@ -354,9 +393,9 @@ fn loaded(
 }
 
 // The end of a run whose last record is cut.
-fn cut(out: &mut [u8], at: usize) -> After
-    requires { ⌜ at < length (now out) ⌝ }
-    ensures { λ r. ⌜ (r .at < length (now (out .exit))) × (r .different ≤ 1) ⌝ }
+fn cut(out: &mut [u8; 65536], at: usize) -> After
+    requires { ⌜ at < 65536 ⌝ }
+    ensures { λ r. ⌜ (r .at < 65536) × (r .different ≤ 1) ⌝ }
 {
     let end = line::bytes(out, at, b"cut\n");
     After {
@@ -367,9 +406,9 @@ fn cut(out: &mut [u8], at: usize) -> After
 }
 
 // The end of a run by how many bytes of a head are left: none, or too few.
-fn stopped(out: &mut [u8], at: usize, got: usize) -> After
-    requires { ⌜ at < length (now out) ⌝ }
-    ensures { λ r. ⌜ (r .at < length (now (out .exit))) × (r .different ≤ 1) ⌝ }
+fn stopped(out: &mut [u8; 65536], at: usize, got: usize) -> After
+    requires { ⌜ at < 65536 ⌝ }
+    ensures { λ r. ⌜ (r .at < 65536) × (r .different ≤ 1) ⌝ }
 {
     if got == 0 {
         return After {
@@ -384,27 +423,27 @@ fn stopped(out: &mut [u8], at: usize, got: usize) -> After
 // A record after its head. The bytes of its words are read where the key is written again later.
 fn taken(
     fd: i32,
-    out: &mut [u8],
+    out: &mut [u8; 65536],
     at: usize,
     run: usize,
     head: &[u8; 77],
-    text: &mut [u8],
-    words: &mut [u64],
-    nodes: &mut [u64],
-    names: &mut [u64],
-    notes: &mut [u64],
-    key: &mut [u8],
-    letters: &mut [u8],
-    again: &mut [u8],
+    text: &mut [u8; 65536],
+    words: &mut [u64; 16385],
+    nodes: &mut [u64; 838860],
+    names: &mut [u64; 16385],
+    notes: &mut [u64; 128],
+    key: &mut [u8; 262146],
+    letters: &mut [u8; 131072],
+    again: &mut [u8; 262146],
 ) -> After
-    requires { ⌜ (at < length (now out)) × (length (now text) ≡ 65536) × (length (now words) ≡ 16385) × (length (now nodes) ≡ 838860) × (length (now names) ≡ 16385) × (length (now notes) ≡ 128) × (length (now key) ≡ 262146) × (length (now letters) ≡ 131072) × (length (now again) ≡ 262146) ⌝ }
-    ensures { λ r. ⌜ (r .at < length (now (out .exit))) × (r .different ≤ 1) ⌝ }
+    requires { ⌜ at < 65536 ⌝ }
+    ensures { λ r. ⌜ (r .at < 65536) × (r .different ≤ 1) ⌝ }
 {
     let a = record::asked_by(head);
     if !loaded(fd, a, text, again, words, key) {
         return cut(out, at);
     }
-    lent(
+    called(
         out,
         at,
         run,
@@ -424,20 +463,20 @@ fn taken(
 // The next record, if there is one.
 fn turn(
     fd: i32,
-    out: &mut [u8],
+    out: &mut [u8; 65536],
     at: usize,
     run: usize,
-    text: &mut [u8],
-    words: &mut [u64],
-    nodes: &mut [u64],
-    names: &mut [u64],
-    notes: &mut [u64],
-    key: &mut [u8],
-    letters: &mut [u8],
-    again: &mut [u8],
+    text: &mut [u8; 65536],
+    words: &mut [u64; 16385],
+    nodes: &mut [u64; 838860],
+    names: &mut [u64; 16385],
+    notes: &mut [u64; 128],
+    key: &mut [u8; 262146],
+    letters: &mut [u8; 131072],
+    again: &mut [u8; 262146],
 ) -> After
-    requires { ⌜ (at < length (now out)) × (length (now text) ≡ 65536) × (length (now words) ≡ 16385) × (length (now nodes) ≡ 838860) × (length (now names) ≡ 16385) × (length (now notes) ≡ 128) × (length (now key) ≡ 262146) × (length (now letters) ≡ 131072) × (length (now again) ≡ 262146) ⌝ }
-    ensures { λ r. ⌜ (r .at < length (now (out .exit))) × (r .different ≤ 1) ⌝ }
+    requires { ⌜ at < 65536 ⌝ }
+    ensures { λ r. ⌜ (r .at < 65536) × (r .different ≤ 1) ⌝ }
 {
     let mut head = [0u8; 77];
     let got = io::read_full(fd, &mut head);
@@ -462,8 +501,8 @@ fn turn(
 }
 
 // The last line.
-fn ended(out: &mut [u8], t: Total)
-    requires { ⌜ t .at < length (now out) ⌝ }
+fn ended(out: &mut [u8; 65536], t: Total)
+    requires { ⌜ t .at < 65536 ⌝ }
 {
     let p = line::number(out, t.at, t.run as u64);
     let q = line::bytes(out, p, b" vectors,");
@@ -475,18 +514,17 @@ fn ended(out: &mut [u8], t: Total)
 // The records of a file, at most a thousand million.
 fn records(
     fd: i32,
-    out: &mut [u8],
-    text: &mut [u8],
-    words: &mut [u64],
-    nodes: &mut [u64],
-    names: &mut [u64],
-    notes: &mut [u64],
-    key: &mut [u8],
-    letters: &mut [u8],
-    again: &mut [u8],
+    out: &mut [u8; 65536],
+    text: &mut [u8; 65536],
+    words: &mut [u64; 16385],
+    nodes: &mut [u64; 838860],
+    names: &mut [u64; 16385],
+    notes: &mut [u64; 128],
+    key: &mut [u8; 262146],
+    letters: &mut [u8; 131072],
+    again: &mut [u8; 262146],
 ) -> Total
-    requires { ⌜ (0 < length (now out)) × (length (now text) ≡ 65536) × (length (now words) ≡ 16385) × (length (now nodes) ≡ 838860) × (length (now names) ≡ 16385) × (length (now notes) ≡ 128) × (length (now key) ≡ 262146) × (length (now letters) ≡ 131072) × (length (now again) ≡ 262146) ⌝ }
-    ensures { λ r. ⌜ r .at < length (now (out .exit)) ⌝ }
+    ensures { λ r. ⌜ r .at < 65536 ⌝ }
 {
     let mut at: usize = 0;
     let mut run: usize = 0;
@@ -520,13 +558,13 @@ fn records(
 fn run(fd: i32) {
     let mut out = io::large_buffer();
     let mut text = io::large_buffer();
-    let mut words = lines::record::word_room();
-    let mut nodes = record::node_room();
-    let mut names = lines::record::word_room();
+    let mut words = room::word_room();
+    let mut nodes = room::node_room();
+    let mut names = room::word_room();
     let mut notes = record::note_room();
-    let mut key = record::key_room();
-    let mut letters = record::letter_room();
-    let mut again = record::key_room();
+    let mut key = room::key_room();
+    let mut letters = room::letter_room();
+    let mut again = room::key_room();
     let t = records(
         fd,
         &mut out,
@@ -544,15 +582,8 @@ fn run(fd: i32) {
 
 // The file is the first argument.
 fn main() {
-    let mut path = io::buffer();
-    let k = os::arg(1, &mut path);
-    if os::errno() != 0 {
-        os::fail(b"path");
-        return;
-    }
-    let fd = os::open_read(&path[..k]);
+    let fd = lines::record::opened();
     if fd < 0 {
-        os::fail(&path[..k]);
         return;
     }
     run(fd);

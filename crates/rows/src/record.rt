@@ -3,43 +3,13 @@ ghost use mathlib.Core.Path.{_≡_};
 ghost use Prim.Native.Nat.{_≤_};
 ghost use lib.ListN.{length};
 use lines::record::four;
-
-// The words of as many nodes as a key may have, of ten bits each.
-pub fn node_room() -> [u64; 838860]
-    ensures { λ r. ⌜ 838860 ≡ length r ⌝ }
-{
-    [0; 838860]
-}
+use lines::record::least;
 
 // Words for ten diagnostics more than there may be, and two words.
 pub fn note_room() -> [u64; 128]
     ensures { λ r. ⌜ 128 ≡ length r ⌝ }
 {
     [0; 128]
-}
-
-// Two bytes more than a key may have.
-pub fn key_room() -> [u8; 262146]
-    ensures { λ r. ⌜ 262146 ≡ length r ⌝ }
-{
-    [0; 262146]
-}
-
-// Bytes for the spellings of a key that is taken back.
-pub fn letter_room() -> [u8; 131072]
-    ensures { λ r. ⌜ 131072 ≡ length r ⌝ }
-{
-    [0; 131072]
-}
-
-// A number, or the most there is room for.
-pub fn least(n: usize, most: usize) -> usize
-    ensures { λ r. ⌜ r ≤ most ⌝ }
-{
-    if n < most {
-        return n;
-    }
-    most
 }
 
 // What a record asks for: its call and options, the start, and the lengths of all that is lent.

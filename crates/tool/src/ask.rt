@@ -6,6 +6,7 @@ use crate::put::entry_of;
 use crate::put::numbered;
 use crate::put::pick;
 use lines::line::bytes;
+use lines::line::put_out;
 
 // What is printed.
 pub struct Form {}
@@ -291,9 +292,9 @@ pub fn all_arguments(buffer: &mut [u8]) -> Asked {
 }
 
 // The argument that is wrong, after a space.
-fn blamed(out: &mut [u8], at: usize, i: usize, buffer: &mut [u8]) -> usize
-    requires { ⌜ at < length (now out) ⌝ }
-    ensures { λ r. ⌜ r < length (now (out .exit)) ⌝ }
+fn blamed(out: &mut [u8; 65536], at: usize, i: usize, buffer: &mut [u8]) -> usize
+    requires { ⌜ at < 65536 ⌝ }
+    ensures { λ r. ⌜ r < 65536 ⌝ }
 {
     if i == 0 {
         return at;
@@ -311,9 +312,7 @@ fn blamed(out: &mut [u8], at: usize, i: usize, buffer: &mut [u8]) -> usize
 }
 
 // One line on what was wrong.
-pub fn complain(out: &mut [u8], a: Asked, buffer: &mut [u8])
-    requires { ⌜ 0 < length (now out) ⌝ }
-{
+pub fn complain(out: &mut [u8; 65536], a: Asked, buffer: &mut [u8]) {
     let p = bytes(out, 0, b"typekey: ");
     let q = pick(
         out,
@@ -323,5 +322,5 @@ pub fn complain(out: &mut [u8], a: Asked, buffer: &mut [u8])
     );
     let r = blamed(out, q, a.bad, buffer);
     let s = bytes(out, r, b"; typekey --help says how it is used\n");
-    io::write_all(2, &out[..s]);
+    put_out(2, out, s);
 }

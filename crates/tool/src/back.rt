@@ -16,11 +16,11 @@ use crate::put::part_words;
 use crate::say;
 use crate::show::Job;
 use crate::show::ok_key;
-use crate::show::root;
 use crate::show::visit_words;
 use crate::tree;
 use lines::line::byte;
 use lines::line::bytes;
+use lines::sum::root;
 use typekey::taking::NotTaken;
 use typekey::taking::Taking;
 use typekey::taking::Used;
@@ -109,9 +109,9 @@ fn digits(text: &[u8], key: &mut [u8]) -> Taken {
 // ---- What it came to
 
 // The key again, and a caret under the digit of a bit: at most 30 bytes of it before and behind.
-fn pointed(out: &mut [u8], at: usize, key: &[u8], bit: usize) -> usize
-    requires { ⌜ at < length (now out) ⌝ }
-    ensures { λ r. ⌜ r < length (now (out .exit)) ⌝ }
+fn pointed(out: &mut [u8; 65536], at: usize, key: &[u8], bit: usize) -> usize
+    requires { ⌜ at < 65536 ⌝ }
+    ensures { λ r. ⌜ r < 65536 ⌝ }
 {
     let here = bit / 8;
     let from = here - least(here, 30);
@@ -123,9 +123,9 @@ fn pointed(out: &mut [u8], at: usize, key: &[u8], bit: usize) -> usize
     bytes(out, s, b"^\n")
 }
 
-fn refused_all(out: &mut [u8], at: usize, key: &[u8], x: NotTaken) -> usize
-    requires { ⌜ at < length (now out) ⌝ }
-    ensures { λ r. ⌜ r < length (now (out .exit)) ⌝ }
+fn refused_all(out: &mut [u8; 65536], at: usize, key: &[u8], x: NotTaken) -> usize
+    requires { ⌜ at < 65536 ⌝ }
+    ensures { λ r. ⌜ r < 65536 ⌝ }
 {
     let p = bytes(out, at, b"refused: ");
     let q = say::refusal(out, p, x.number);
@@ -136,9 +136,9 @@ fn refused_all(out: &mut [u8], at: usize, key: &[u8], x: NotTaken) -> usize
     pointed(out, u, key, x.bit)
 }
 
-fn refused(out: &mut [u8], at: usize, key: &[u8], x: NotTaken, form: usize) -> usize
-    requires { ⌜ at < length (now out) ⌝ }
-    ensures { λ r. ⌜ r < length (now (out .exit)) ⌝ }
+fn refused(out: &mut [u8; 65536], at: usize, key: &[u8], x: NotTaken, form: usize) -> usize
+    requires { ⌜ at < 65536 ⌝ }
+    ensures { λ r. ⌜ r < 65536 ⌝ }
 {
     if form == Form::KEY {
         let p = bytes(out, at, b"refused ");
@@ -156,7 +156,7 @@ fn refused(out: &mut [u8], at: usize, key: &[u8], x: NotTaken, form: usize) -> u
 
 // A tree without bytes of a text, in the form that is asked for.
 fn formed(
-    out: &mut [u8],
+    out: &mut [u8; 65536],
     at: usize,
     key: &[u8],
     nodes: &[u64],
@@ -166,8 +166,8 @@ fn formed(
     size: usize,
     form: usize,
 ) -> usize
-    requires { ⌜ at < length (now out) ⌝ }
-    ensures { λ r. ⌜ r < length (now (out .exit)) ⌝ }
+    requires { ⌜ at < 65536 ⌝ }
+    ensures { λ r. ⌜ r < 65536 ⌝ }
 {
     if form == Form::JSON {
         let p = json::key(out, at, key, key.len());
@@ -183,68 +183,69 @@ fn formed(
 }
 
 fn walked(
-    out: &mut [u8],
+    out: &mut [u8; 65536],
     at: usize,
     key: &[u8],
     nodes: &[u64],
     names: &[u64],
     letters: &[u8],
     visits: &mut [u64],
+    n: usize,
     u: Used,
     form: usize,
 ) -> usize
-    requires { ⌜ (at < length (now out)) × (length (now visits) ≤ 393216) ⌝ }
-    ensures { λ r. ⌜ r < length (now (out .exit)) ⌝ }
+    requires { ⌜ (at < 65536) × (n ≤ length (now visits)) × (n ≤ 393216) ⌝ }
+    ensures { λ r. ⌜ r < 65536 ⌝ }
 {
-    let size = walk(nodes, names, root(u.nodes), Tree::TALLEST, visits);
-    formed(out, at, key, nodes, names, letters, visits, size, form)
-}
-
-fn granted(
-    out: &mut [u8],
-    at: usize,
-    key: &[u8],
-    nodes: &[u64],
-    names: &[u64],
-    letters: &[u8],
-    visits: &mut [u64],
-    u: Used,
-    form: usize,
-) -> usize
-    requires { ⌜ (at < length (now out)) × (length (now visits) ≤ 393216) ⌝ }
-    ensures { λ r. ⌜ r < length (now (out .exit)) ⌝ }
-{
-    if form == Form::KEY {
-        let p = ok_key(out, at, key, key.len());
-        return byte(out, p, b'\n');
-    }
-    let n = part_words(visit_words(u.nodes, u.names), visits);
-    walked(
+    let size = walk(nodes, names, root(u.nodes), Tree::TALLEST, &mut visits[..n]);
+    formed(
         out,
         at,
         key,
         nodes,
         names,
         letters,
-        &mut visits[..n],
-        u,
+        &visits[..n],
+        size,
         form,
     )
 }
 
+fn granted(
+    out: &mut [u8; 65536],
+    at: usize,
+    key: &[u8],
+    nodes: &[u64],
+    names: &[u64],
+    letters: &[u8],
+    visits: &mut [u64; 393216],
+    u: Used,
+    form: usize,
+) -> usize
+    requires { ⌜ at < 65536 ⌝ }
+    ensures { λ r. ⌜ r < 65536 ⌝ }
+{
+    if form == Form::KEY {
+        let p = ok_key(out, at, key, key.len());
+        return byte(out, p, b'\n');
+    }
+    let n = least(visit_words(u.nodes, u.names), 393216);
+    walked(out, at, key, nodes, names, letters, visits, n, u, form)
+}
+
 // Takes a key back on just what is lent, and prints what it came to.
 fn takes(
-    out: &mut [u8],
+    out: &mut [u8; 65536],
     at: usize,
     key: &[u8],
     nodes: &mut [u64],
     names: &mut [u64],
     letters: &mut [u8],
-    visits: &mut [u64],
+    visits: &mut [u64; 393216],
     form: usize,
 ) -> usize
-    requires { ⌜ (at < length (now out)) × (length (now visits) ≤ 393216) ⌝ }
-    ensures { λ r. ⌜ r < length (now (out .exit)) ⌝ }
+    requires { ⌜ at < 65536 ⌝ }
+    ensures { λ r. ⌜ r < 65536 ⌝ }
 {
     let r = take_back(key, nodes, names, letters);
     match r {
@@ -264,25 +265,26 @@ fn node_words(n: usize, room: usize) -> usize {
 
 // Lends by need.
 fn lent(
-    out: &mut [u8],
+    out: &mut [u8; 65536],
     at: usize,
-    key: &[u8],
+    bytes: &[u8],
+    n: usize,
     nodes: &mut [u64],
     names: &mut [u64],
     letters: &mut [u8],
-    visits: &mut [u64],
+    visits: &mut [u64; 393216],
     job: Job,
 ) -> usize
-    requires { ⌜ (at < length (now out)) × (length (now visits) ≤ 393216) ⌝ }
-    ensures { λ r. ⌜ r < length (now (out .exit)) ⌝ }
+    requires { ⌜ (at < 65536) × (n ≤ length (now bytes)) ⌝ }
+    ensures { λ r. ⌜ r < 65536 ⌝ }
 {
-    let a = part_words(node_words(key.len(), job.room), nodes);
-    let b = part_words(key.len(), names);
-    let t = part(least(key.len(), job.space), letters);
+    let a = part_words(node_words(n, job.room), nodes);
+    let b = part_words(n, names);
+    let t = part(least(n, job.space), letters);
     takes(
         out,
         at,
-        key,
+        &bytes[..n],
         &mut nodes[..a],
         &mut names[..b],
         &mut letters[..t],
@@ -291,37 +293,45 @@ fn lent(
     )
 }
 
-// The hex that begins a text becomes a key, whose spellings then take the text's place; if it is no hex, a line on that.
-pub fn shown(
-    out: &mut [u8],
-    at: usize,
-    text: &mut [u8],
-    size: usize,
-    nodes: &mut [u64],
-    names: &mut [u64],
-    visits: &mut [u64],
-    key: &mut [u8],
-    job: Job,
-) -> usize
-    requires { ⌜ (at < length (now out)) × (length (now visits) ≤ 393216) ⌝ }
-    ensures { λ r. ⌜ r < length (now (out .exit)) ⌝ }
-{
-    let n = part(size, text);
-    let t = digits(&text[..n], key);
+// Whether digits were hex and whole bytes; if not, a line on that.
+fn is_hex(t: Taken) -> bool {
     if !t.good {
         io::write_all(
             2,
             b"typekey: the key is not in hex; typekey --help says how it is used\n",
         );
-        return at;
+        return false;
     }
     if t.first != 16 {
         io::write_all(
             2,
             b"typekey: the key has half a byte; typekey --help says how it is used\n",
         );
+        return false;
+    }
+    true
+}
+
+// The hex that begins a text becomes a key, whose spellings then take the text's place; if it is no hex, a line on that.
+pub fn shown(
+    out: &mut [u8; 65536],
+    at: usize,
+    text: &mut [u8],
+    size: usize,
+    nodes: &mut [u64; 262144],
+    names: &mut [u64; 21846],
+    visits: &mut [u64; 393216],
+    key: &mut [u8],
+    job: Job,
+) -> usize
+    requires { ⌜ at < 65536 ⌝ }
+    ensures { λ r. ⌜ r < 65536 ⌝ }
+{
+    let n = part(size, text);
+    let t = digits(&text[..n], key);
+    if !is_hex(t) {
         return at;
     }
     let k = part(t.made, key);
-    lent(out, at, &key[..k], nodes, names, text, visits, job)
+    lent(out, at, key, k, nodes, names, text, visits, job)
 }

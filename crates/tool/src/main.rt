@@ -24,13 +24,6 @@ use lines::line::flush;
 
 // ---- Room
 
-// The bytes of the longest argument that there can be.
-fn text_room() -> [u8; 131072]
-    ensures { λ r. ⌜ 131072 ≡ length r ⌝ }
-{
-    [0; 131072]
-}
-
 // The words of 65,536 nodes.
 fn node_room() -> [u64; 262144]
     ensures { λ r. ⌜ 262144 ≡ length r ⌝ }
@@ -153,18 +146,17 @@ fn sought(a: Asked, text: &mut [u8]) -> Found {
 
 // The type that begins a text.
 fn typed(
-    out: &mut [u8],
+    out: &mut [u8; 65536],
     text: &[u8],
     size: usize,
-    words: &mut [u64],
-    nodes: &mut [u64],
-    names: &mut [u64],
-    visits: &mut [u64],
-    key: &mut [u8],
+    words: &mut [u64; 16385],
+    nodes: &mut [u64; 262144],
+    names: &mut [u64; 21846],
+    visits: &mut [u64; 393216],
+    key: &mut [u8; 262160],
     a: Asked,
 ) -> usize
-    requires { ⌜ (0 < length (now out)) × (length (now visits) ≤ 393216) ⌝ }
-    ensures { λ r. ⌜ r < length (now (out .exit)) ⌝ }
+    ensures { λ r. ⌜ r < 65536 ⌝ }
 {
     let n = part(size, text);
     show::shown(
@@ -182,18 +174,17 @@ fn typed(
 
 // The type or the key in hex that begins a text.
 fn told(
-    out: &mut [u8],
-    text: &mut [u8],
+    out: &mut [u8; 65536],
+    text: &mut [u8; 131072],
     size: usize,
-    words: &mut [u64],
-    nodes: &mut [u64],
-    names: &mut [u64],
-    visits: &mut [u64],
-    key: &mut [u8],
+    words: &mut [u64; 16385],
+    nodes: &mut [u64; 262144],
+    names: &mut [u64; 21846],
+    visits: &mut [u64; 393216],
+    key: &mut [u8; 262160],
     a: Asked,
 ) -> usize
-    requires { ⌜ (0 < length (now out)) × (length (now visits) ≤ 393216) ⌝ }
-    ensures { λ r. ⌜ r < length (now (out .exit)) ⌝ }
+    ensures { λ r. ⌜ r < 65536 ⌝ }
 {
     if a.from == From::KEY {
         return back::shown(out, 0, text, size, nodes, names, visits, key, job_of(a));
@@ -203,17 +194,16 @@ fn told(
 
 // One type or key.
 fn one(
-    out: &mut [u8],
-    text: &mut [u8],
-    words: &mut [u64],
-    nodes: &mut [u64],
-    names: &mut [u64],
-    visits: &mut [u64],
-    key: &mut [u8],
+    out: &mut [u8; 65536],
+    text: &mut [u8; 131072],
+    words: &mut [u64; 16385],
+    nodes: &mut [u64; 262144],
+    names: &mut [u64; 21846],
+    visits: &mut [u64; 393216],
+    key: &mut [u8; 262160],
     a: Asked,
 ) -> usize
-    requires { ⌜ (0 < length (now out)) × (length (now visits) ≤ 393216) ⌝ }
-    ensures { λ r. ⌜ r < length (now (out .exit)) ⌝ }
+    ensures { λ r. ⌜ r < 65536 ⌝ }
 {
     let f = sought(a, text);
     if !f.is {
@@ -224,17 +214,16 @@ fn one(
 
 // What is asked for, with all buffers lent.
 fn given(
-    out: &mut [u8],
-    text: &mut [u8],
-    words: &mut [u64],
-    nodes: &mut [u64],
-    names: &mut [u64],
-    visits: &mut [u64],
-    key: &mut [u8],
+    out: &mut [u8; 65536],
+    text: &mut [u8; 131072],
+    words: &mut [u64; 16385],
+    nodes: &mut [u64; 262144],
+    names: &mut [u64; 21846],
+    visits: &mut [u64; 393216],
+    key: &mut [u8; 262160],
     a: Asked,
 ) -> usize
-    requires { ⌜ (0 < length (now out)) × (length (now visits) ≤ 393216) ⌝ }
-    ensures { λ r. ⌜ r < length (now (out .exit)) ⌝ }
+    ensures { λ r. ⌜ r < 65536 ⌝ }
 {
     if a.from == From::LINES {
         let mut input = io::large_buffer();
@@ -254,11 +243,10 @@ fn given(
 }
 
 // The same with buffers.
-fn run(out: &mut [u8], text: &mut [u8], a: Asked) -> usize
-    requires { ⌜ 0 < length (now out) ⌝ }
-    ensures { λ r. ⌜ r < length (now (out .exit)) ⌝ }
+fn run(out: &mut [u8; 65536], text: &mut [u8; 131072], a: Asked) -> usize
+    ensures { λ r. ⌜ r < 65536 ⌝ }
 {
-    let mut words = lines::record::word_room();
+    let mut words = lines::room::word_room();
     let mut nodes = node_room();
     let mut names = name_room();
     let mut visits = visit_room();
@@ -277,140 +265,55 @@ fn run(out: &mut [u8], text: &mut [u8], a: Asked) -> usize
 
 // ---- Help
 
-fn help_uses(out: &mut [u8], at: usize) -> usize
-    requires { ⌜ at < length (now out) ⌝ }
-    ensures { λ r. ⌜ r < length (now (out .exit)) ⌝ }
+fn help_uses(out: &mut [u8; 65536], at: usize) -> usize
+    requires { ⌜ at < 65536 ⌝ }
+    ensures { λ r. ⌜ r < 65536 ⌝ }
 {
-    let a = bytes(
-        out,
-        at,
-        b"typekey: the tree, the diagnostics and the key of a TypeScript type\n\n",
-    );
-    let b = bytes(
-        out,
-        a,
-        b"  typekey TYPE          read the type in the argument\n",
-    );
-    let c = bytes(
-        out,
-        b,
-        b"  typekey -             read the type on standard input\n",
-    );
-    let d = bytes(
-        out,
-        c,
-        b"  typekey --file F      read the type in the file F\n",
-    );
-    let e = bytes(
-        out,
-        d,
-        b"  typekey --batch       read one type a line on standard input\n",
-    );
-    let f = bytes(
-        out,
-        e,
-        b"  typekey --back HEX    take a key back (- for HEX: from standard input)\n",
-    );
-    bytes(out, f, b"  typekey --help, typekey --version\n\n")
-}
-
-fn help_options(out: &mut [u8], at: usize) -> usize
-    requires { ⌜ at < length (now out) ⌝ }
-    ensures { λ r. ⌜ r < length (now (out .exit)) ⌝ }
-{
-    let a = bytes(
-        out,
-        at,
-        b"  --key                 the key alone, on one line (--batch does so by itself)\n",
-    );
-    let b = bytes(out, a, b"  --tree                the tree alone\n");
-    let c = bytes(
-        out,
-        b,
-        b"  --json                the same as one JSON object on one line\n",
-    );
-    let d = bytes(
-        out,
-        c,
-        b"  --all                 key, tree, diagnostics, rest (what one type gets by itself)\n",
-    );
-    let e = bytes(
-        out,
-        d,
-        b"  --parens              keep brackets as nodes of the tree\n",
-    );
-    let f = bytes(
-        out,
-        e,
-        b"  --room N, --space N   lend only N nodes, only N bytes for the key (--back: spellings)\n",
-    );
     bytes(
         out,
-        f,
-        b"  --                    what follows is a type, also if it begins with --\n\n",
+        at,
+        b"typekey: the tree, the diagnostics and the key of a TypeScript type\n\n  typekey TYPE          read the type in the argument\n  typekey -             read the type on standard input\n  typekey --file F      read the type in the file F\n  typekey --batch       read one type a line on standard input\n  typekey --back HEX    take a key back (- for HEX: from standard input)\n  typekey --help, typekey --version\n\n",
     )
 }
 
-fn help_answers(out: &mut [u8], at: usize) -> usize
-    requires { ⌜ at < length (now out) ⌝ }
-    ensures { λ r. ⌜ r < length (now (out .exit)) ⌝ }
+fn help_options(out: &mut [u8; 65536], at: usize) -> usize
+    requires { ⌜ at < 65536 ⌝ }
+    ensures { λ r. ⌜ r < 65536 ⌝ }
 {
-    let a = bytes(
-        out,
-        at,
-        b"The exit status is always 0. A script looks at the first word of the output, which\n",
-    );
-    let b = bytes(
-        out,
-        a,
-        b"is ok or refused (with --tree: refused, or the root's tag), or at the field ok of\n",
-    );
-    let c = bytes(
-        out,
-        b,
-        b"the JSON. Where typekey was not used rightly, or a file cannot be read, the output\n",
-    );
-    let d = bytes(
-        out,
-        c,
-        b"is empty, and one line on standard error says why.\n\n",
-    );
-    let e = bytes(
-        out,
-        d,
-        b"A line of --key: ok KEY, then diagnostics N and rest at LINE:COLUMN if there are any;\n",
-    );
-    let f = bytes(
-        out,
-        e,
-        b"or: refused NAME at LINE:COLUMN. A rest is text behind the type, which was not read.\n",
-    );
     bytes(
         out,
-        f,
-        b"In --batch LINE is the number of the input's line; a carriage return breaks a type's line.\n",
+        at,
+        b"  --key                 the key alone, on one line (--batch does so by itself)\n  --tree                the tree alone\n  --json                the same as one JSON object on one line\n  --all                 key, tree, diagnostics, rest (what one type gets by itself)\n  --parens              keep brackets as nodes of the tree\n  --room N, --space N   lend only N nodes, only N bytes for the key (--back: spellings)\n  --                    what follows is a type, also if it begins with --\n\n",
     )
 }
 
-fn help(out: &mut [u8]) -> usize
-    requires { ⌜ 0 < length (now out) ⌝ }
-    ensures { λ r. ⌜ r < length (now (out .exit)) ⌝ }
+fn help_answers(out: &mut [u8; 65536], at: usize) -> usize
+    requires { ⌜ at < 65536 ⌝ }
+    ensures { λ r. ⌜ r < 65536 ⌝ }
+{
+    bytes(
+        out,
+        at,
+        b"The exit status is always 0. A script looks at the first word of the output, which\nis ok or refused (with --tree: refused, or the root's tag), or at the field ok of\nthe JSON. Where typekey was not used rightly, or a file cannot be read, the output\nis empty, and one line on standard error says why.\n\nA line of --key: ok KEY, then diagnostics N and rest at LINE:COLUMN if there are any;\nor: refused NAME at LINE:COLUMN. A rest is text behind the type, which was not read.\nIn --batch LINE is the number of the input's line; a carriage return breaks a type's line.\n",
+    )
+}
+
+fn help(out: &mut [u8; 65536]) -> usize
+    ensures { λ r. ⌜ r < 65536 ⌝ }
 {
     let p = help_uses(out, 0);
     let q = help_options(out, p);
     help_answers(out, q)
 }
 
-fn version(out: &mut [u8]) -> usize
-    requires { ⌜ 0 < length (now out) ⌝ }
-    ensures { λ r. ⌜ r < length (now (out .exit)) ⌝ }
+fn version(out: &mut [u8; 65536]) -> usize
+    ensures { λ r. ⌜ r < 65536 ⌝ }
 {
     bytes(out, 0, b"typekey 0.1, edition 1 of the key\n")
 }
 
-fn answered(out: &mut [u8], text: &mut [u8], a: Asked) -> usize
-    requires { ⌜ 0 < length (now out) ⌝ }
-    ensures { λ r. ⌜ r < length (now (out .exit)) ⌝ }
+fn answered(out: &mut [u8; 65536], text: &mut [u8; 131072], a: Asked) -> usize
+    ensures { λ r. ⌜ r < 65536 ⌝ }
 {
     if a.from == From::HELP {
         return help(out);
@@ -422,7 +325,7 @@ fn answered(out: &mut [u8], text: &mut [u8], a: Asked) -> usize
 }
 
 fn main() {
-    let mut text = text_room();
+    let mut text = lines::room::letter_room();
     let mut out = io::large_buffer();
     let a = ask::all_arguments(&mut text);
     if a.wrong != 0 {

@@ -30,27 +30,27 @@ pub fn place_of(text: &[u8], at: usize, first_line: usize) -> Place {
 }
 
 // ` at line 1, column 15`
-pub fn told(out: &mut [u8], at: usize, p: Place) -> usize
-    requires { ⌜ at < length (now out) ⌝ }
-    ensures { λ r. ⌜ r < length (now (out .exit)) ⌝ }
+pub fn told(out: &mut [u8; 65536], at: usize, p: Place) -> usize
+    requires { ⌜ at < 65536 ⌝ }
+    ensures { λ r. ⌜ r < 65536 ⌝ }
 {
     let q = numbered(out, at, b" at line ", p.line);
     numbered(out, q, b", column ", p.column)
 }
 
 // ` at 1:15`
-pub fn short(out: &mut [u8], at: usize, p: Place) -> usize
-    requires { ⌜ at < length (now out) ⌝ }
-    ensures { λ r. ⌜ r < length (now (out .exit)) ⌝ }
+pub fn short(out: &mut [u8; 65536], at: usize, p: Place) -> usize
+    requires { ⌜ at < 65536 ⌝ }
+    ensures { λ r. ⌜ r < 65536 ⌝ }
 {
     let q = numbered(out, at, b" at ", p.line);
     numbered(out, q, b":", p.column)
 }
 
 // `"line":1,"column":15`
-pub fn json(out: &mut [u8], at: usize, p: Place) -> usize
-    requires { ⌜ at < length (now out) ⌝ }
-    ensures { λ r. ⌜ r < length (now (out .exit)) ⌝ }
+pub fn json(out: &mut [u8; 65536], at: usize, p: Place) -> usize
+    requires { ⌜ at < 65536 ⌝ }
+    ensures { λ r. ⌜ r < 65536 ⌝ }
 {
     let q = numbered(out, at, b"\"line\":", p.line);
     numbered(out, q, b",\"column\":", p.column)
@@ -92,9 +92,9 @@ fn aligned(text: &[u8], at: usize) -> usize {
 }
 
 // Dots, or as many blanks, where a line is cut.
-fn cut_mark(out: &mut [u8], at: usize, is_cut: bool, mark: &[u8]) -> usize
-    requires { ⌜ at < length (now out) ⌝ }
-    ensures { λ r. ⌜ r < length (now (out .exit)) ⌝ }
+fn cut_mark(out: &mut [u8; 65536], at: usize, is_cut: bool, mark: &[u8]) -> usize
+    requires { ⌜ at < 65536 ⌝ }
+    ensures { λ r. ⌜ r < 65536 ⌝ }
 {
     if is_cut {
         return bytes(out, at, mark);
@@ -104,7 +104,7 @@ fn cut_mark(out: &mut [u8], at: usize, is_cut: bool, mark: &[u8]) -> usize
 
 // A source line, or the part of it from one byte up to another.
 fn shown(
-    out: &mut [u8],
+    out: &mut [u8; 65536],
     at: usize,
     text: &[u8],
     start: usize,
@@ -112,8 +112,8 @@ fn shown(
     e: usize,
     end: usize,
 ) -> usize
-    requires { ⌜ at < length (now out) ⌝ }
-    ensures { λ r. ⌜ r < length (now (out .exit)) ⌝ }
+    requires { ⌜ at < 65536 ⌝ }
+    ensures { λ r. ⌜ r < 65536 ⌝ }
 {
     let p = bytes(out, at, b"  ");
     let q = cut_mark(out, p, a != start, b"...");
@@ -123,9 +123,9 @@ fn shown(
 }
 
 // The caret of a byte at the end of a line.
-fn lone(out: &mut [u8], at: usize, first: usize, end: usize) -> usize
-    requires { ⌜ at < length (now out) ⌝ }
-    ensures { λ r. ⌜ r < length (now (out .exit)) ⌝ }
+fn lone(out: &mut [u8; 65536], at: usize, first: usize, end: usize) -> usize
+    requires { ⌜ at < 65536 ⌝ }
+    ensures { λ r. ⌜ r < 65536 ⌝ }
 {
     if first < end {
         return at;
@@ -135,7 +135,7 @@ fn lone(out: &mut [u8], at: usize, first: usize, end: usize) -> usize
 
 // The line under it: carets from a byte up to another, one at least.
 fn carets(
-    out: &mut [u8],
+    out: &mut [u8; 65536],
     at: usize,
     text: &[u8],
     start: usize,
@@ -143,8 +143,8 @@ fn carets(
     first: usize,
     end: usize,
 ) -> usize
-    requires { ⌜ at < length (now out) ⌝ }
-    ensures { λ r. ⌜ r < length (now (out .exit)) ⌝ }
+    requires { ⌜ at < 65536 ⌝ }
+    ensures { λ r. ⌜ r < 65536 ⌝ }
 {
     let p = bytes(out, at, b"  ");
     let q = cut_mark(out, p, a != start, b"   ");
@@ -155,9 +155,9 @@ fn carets(
 }
 
 // The source line of a byte, with carets from it up to another byte of the line.
-pub fn source(out: &mut [u8], at: usize, text: &[u8], first: usize, end: usize) -> usize
-    requires { ⌜ at < length (now out) ⌝ }
-    ensures { λ r. ⌜ r < length (now (out .exit)) ⌝ }
+pub fn source(out: &mut [u8; 65536], at: usize, text: &[u8], first: usize, end: usize) -> usize
+    requires { ⌜ at < 65536 ⌝ }
+    ensures { λ r. ⌜ r < 65536 ⌝ }
 {
     let start = since(text, first, b'\n');
     let stop = until(text, first, b'\n');

@@ -72,18 +72,18 @@ fn digit(n: u8) -> u8
 }
 
 // A byte as two digits.
-fn two(out: &mut [u8], at: usize, b: u8) -> usize
-    requires { ⌜ at < length (now out) ⌝ }
-    ensures { λ r. ⌜ r < length (now (out .exit)) ⌝ }
+fn two(out: &mut [u8; 65536], at: usize, b: u8) -> usize
+    requires { ⌜ at < 65536 ⌝ }
+    ensures { λ r. ⌜ r < 65536 ⌝ }
 {
     let p = byte(out, at, digit(b / 16));
     byte(out, p, digit(b % 16))
 }
 
 // A control byte as its escape.
-fn escaped(out: &mut [u8], at: usize, b: u8) -> usize
-    requires { ⌜ at < length (now out) ⌝ }
-    ensures { λ r. ⌜ r < length (now (out .exit)) ⌝ }
+fn escaped(out: &mut [u8; 65536], at: usize, b: u8) -> usize
+    requires { ⌜ at < 65536 ⌝ }
+    ensures { λ r. ⌜ r < 65536 ⌝ }
 {
     let p = bytes(out, at, b"\\x");
     two(out, p, b)
@@ -105,9 +105,9 @@ pub fn goes_on(b: u8) -> bool {
     b < 192
 }
 
-fn terminal(out: &mut [u8], at: usize, b: u8) -> usize
-    requires { ⌜ at < length (now out) ⌝ }
-    ensures { λ r. ⌜ r < length (now (out .exit)) ⌝ }
+fn terminal(out: &mut [u8; 65536], at: usize, b: u8) -> usize
+    requires { ⌜ at < 65536 ⌝ }
+    ensures { λ r. ⌜ r < 65536 ⌝ }
 {
     if control(b) {
         return escaped(out, at, b);
@@ -115,9 +115,9 @@ fn terminal(out: &mut [u8], at: usize, b: u8) -> usize
     byte(out, at, b)
 }
 
-fn json(out: &mut [u8], at: usize, b: u8) -> usize
-    requires { ⌜ at < length (now out) ⌝ }
-    ensures { λ r. ⌜ r < length (now (out .exit)) ⌝ }
+fn json(out: &mut [u8; 65536], at: usize, b: u8) -> usize
+    requires { ⌜ at < 65536 ⌝ }
+    ensures { λ r. ⌜ r < 65536 ⌝ }
 {
     if control(b) {
         let p = bytes(out, at, b"\\u00");
@@ -133,9 +133,9 @@ fn json(out: &mut [u8], at: usize, b: u8) -> usize
 }
 
 // A byte of a source line; a tab stays one.
-fn source(out: &mut [u8], at: usize, b: u8) -> usize
-    requires { ⌜ at < length (now out) ⌝ }
-    ensures { λ r. ⌜ r < length (now (out .exit)) ⌝ }
+fn source(out: &mut [u8; 65536], at: usize, b: u8) -> usize
+    requires { ⌜ at < 65536 ⌝ }
+    ensures { λ r. ⌜ r < 65536 ⌝ }
 {
     if b == b'\t' {
         return byte(out, at, b);
@@ -147,9 +147,9 @@ fn source(out: &mut [u8], at: usize, b: u8) -> usize
 }
 
 // What stands under a byte: one mark for each character, a tab under a tab.
-fn under(out: &mut [u8], at: usize, b: u8, mark: u8) -> usize
-    requires { ⌜ at < length (now out) ⌝ }
-    ensures { λ r. ⌜ r < length (now (out .exit)) ⌝ }
+fn under(out: &mut [u8; 65536], at: usize, b: u8, mark: u8) -> usize
+    requires { ⌜ at < 65536 ⌝ }
+    ensures { λ r. ⌜ r < 65536 ⌝ }
 {
     if goes_on(b) {
         return at;
@@ -161,9 +161,9 @@ fn under(out: &mut [u8], at: usize, b: u8, mark: u8) -> usize
 }
 
 // A byte in a shape.
-fn shaped(out: &mut [u8], at: usize, b: u8, shape: usize) -> usize
-    requires { ⌜ at < length (now out) ⌝ }
-    ensures { λ r. ⌜ r < length (now (out .exit)) ⌝ }
+fn shaped(out: &mut [u8; 65536], at: usize, b: u8, shape: usize) -> usize
+    requires { ⌜ at < 65536 ⌝ }
+    ensures { λ r. ⌜ r < 65536 ⌝ }
 {
     if shape == Shape::SHOWN {
         return terminal(out, at, b);
@@ -190,9 +190,16 @@ fn shaped(out: &mut [u8], at: usize, b: u8, shape: usize) -> usize
 }
 
 // The bytes of a text from one index up to another, each in a shape.
-pub fn copy(out: &mut [u8], at: usize, text: &[u8], from: usize, to: usize, shape: usize) -> usize
-    requires { ⌜ at < length (now out) ⌝ }
-    ensures { λ r. ⌜ r < length (now (out .exit)) ⌝ }
+pub fn copy(
+    out: &mut [u8; 65536],
+    at: usize,
+    text: &[u8],
+    from: usize,
+    to: usize,
+    shape: usize,
+) -> usize
+    requires { ⌜ at < 65536 ⌝ }
+    ensures { λ r. ⌜ r < 65536 ⌝ }
 {
     let mut p = at;
     let mut i = from;
@@ -204,17 +211,17 @@ pub fn copy(out: &mut [u8], at: usize, text: &[u8], from: usize, to: usize, shap
 }
 
 // So many blanks.
-pub fn blanks(out: &mut [u8], at: usize, n: usize) -> usize
-    requires { ⌜ at < length (now out) ⌝ }
-    ensures { λ r. ⌜ r < length (now (out .exit)) ⌝ }
+pub fn blanks(out: &mut [u8; 65536], at: usize, n: usize) -> usize
+    requires { ⌜ at < 65536 ⌝ }
+    ensures { λ r. ⌜ r < 65536 ⌝ }
 {
     copy(out, at, b"", 0, n, Shape::BLANK)
 }
 
 // A text so many times.
-pub fn times(out: &mut [u8], at: usize, text: &[u8], n: usize) -> usize
-    requires { ⌜ at < length (now out) ⌝ }
-    ensures { λ r. ⌜ r < length (now (out .exit)) ⌝ }
+pub fn times(out: &mut [u8; 65536], at: usize, text: &[u8], n: usize) -> usize
+    requires { ⌜ at < 65536 ⌝ }
+    ensures { λ r. ⌜ r < 65536 ⌝ }
 {
     let mut p = at;
     let mut i: usize = 0;
@@ -226,9 +233,9 @@ pub fn times(out: &mut [u8], at: usize, text: &[u8], n: usize) -> usize
 }
 
 // A text and a number.
-pub fn numbered(out: &mut [u8], at: usize, text: &[u8], n: usize) -> usize
-    requires { ⌜ at < length (now out) ⌝ }
-    ensures { λ r. ⌜ r < length (now (out .exit)) ⌝ }
+pub fn numbered(out: &mut [u8; 65536], at: usize, text: &[u8], n: usize) -> usize
+    requires { ⌜ at < 65536 ⌝ }
+    ensures { λ r. ⌜ r < 65536 ⌝ }
 {
     let p = bytes(out, at, text);
     lines::line::number(out, p, n as u64)
@@ -336,9 +343,9 @@ fn start_of(list: &[u8], n: usize) -> usize {
 }
 
 // An entry of a list, by its number from 0 on.
-pub fn pick(out: &mut [u8], at: usize, list: &[u8], n: usize) -> usize
-    requires { ⌜ at < length (now out) ⌝ }
-    ensures { λ r. ⌜ r < length (now (out .exit)) ⌝ }
+pub fn pick(out: &mut [u8; 65536], at: usize, list: &[u8], n: usize) -> usize
+    requires { ⌜ at < 65536 ⌝ }
+    ensures { λ r. ⌜ r < 65536 ⌝ }
 {
     let from = start_of(list, n);
     copy(out, at, list, from, until(list, from, b'|'), Shape::PLAIN)

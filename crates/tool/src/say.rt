@@ -7,9 +7,9 @@ use crate::put::thrice;
 use words::cursor::word_at;
 
 // The name of a refusal.
-pub fn refusal(out: &mut [u8], at: usize, number: usize) -> usize
-    requires { ⌜ at < length (now out) ⌝ }
-    ensures { λ r. ⌜ r < length (now (out .exit)) ⌝ }
+pub fn refusal(out: &mut [u8; 65536], at: usize, number: usize) -> usize
+    requires { ⌜ at < 65536 ⌝ }
+    ensures { λ r. ⌜ r < 65536 ⌝ }
 {
     pick(
         out,
@@ -20,9 +20,9 @@ pub fn refusal(out: &mut [u8], at: usize, number: usize) -> usize
 }
 
 // What the first refusals mean in a reading.
-fn early(out: &mut [u8], at: usize, number: usize) -> usize
-    requires { ⌜ at < length (now out) ⌝ }
-    ensures { λ r. ⌜ r < length (now (out .exit)) ⌝ }
+fn early(out: &mut [u8; 65536], at: usize, number: usize) -> usize
+    requires { ⌜ at < 65536 ⌝ }
+    ensures { λ r. ⌜ r < 65536 ⌝ }
 {
     pick(
         out,
@@ -33,9 +33,9 @@ fn early(out: &mut [u8], at: usize, number: usize) -> usize
 }
 
 // What the others mean, from 5 on.
-fn late(out: &mut [u8], at: usize, number: usize) -> usize
-    requires { ⌜ at < length (now out) ⌝ }
-    ensures { λ r. ⌜ r < length (now (out .exit)) ⌝ }
+fn late(out: &mut [u8; 65536], at: usize, number: usize) -> usize
+    requires { ⌜ at < 65536 ⌝ }
+    ensures { λ r. ⌜ r < 65536 ⌝ }
 {
     pick(
         out,
@@ -46,9 +46,9 @@ fn late(out: &mut [u8], at: usize, number: usize) -> usize
 }
 
 // What a refusal means; `ends` where it is at the text's end.
-pub fn why(out: &mut [u8], at: usize, number: usize, ends: bool) -> usize
-    requires { ⌜ at < length (now out) ⌝ }
-    ensures { λ r. ⌜ r < length (now (out .exit)) ⌝ }
+pub fn why(out: &mut [u8; 65536], at: usize, number: usize, ends: bool) -> usize
+    requires { ⌜ at < 65536 ⌝ }
+    ensures { λ r. ⌜ r < 65536 ⌝ }
 {
     if 5 <= number {
         return late(out, at, number - 5);
@@ -62,9 +62,9 @@ pub fn why(out: &mut [u8], at: usize, number: usize, ends: bool) -> usize
 }
 
 // A diagnostic in words.
-pub fn diagnostic(out: &mut [u8], at: usize, number: usize) -> usize
-    requires { ⌜ at < length (now out) ⌝ }
-    ensures { λ r. ⌜ r < length (now (out .exit)) ⌝ }
+pub fn diagnostic(out: &mut [u8; 65536], at: usize, number: usize) -> usize
+    requires { ⌜ at < 65536 ⌝ }
+    ensures { λ r. ⌜ r < 65536 ⌝ }
 {
     pick(
         out,
@@ -75,9 +75,9 @@ pub fn diagnostic(out: &mut [u8], at: usize, number: usize) -> usize
 }
 
 // The name of a tag; 25 is a type parameter, 26 a parameter.
-pub fn tag(out: &mut [u8], at: usize, number: usize) -> usize
-    requires { ⌜ at < length (now out) ⌝ }
-    ensures { λ r. ⌜ r < length (now (out .exit)) ⌝ }
+pub fn tag(out: &mut [u8; 65536], at: usize, number: usize) -> usize
+    requires { ⌜ at < 65536 ⌝ }
+    ensures { λ r. ⌜ r < 65536 ⌝ }
 {
     pick(
         out,
@@ -88,9 +88,9 @@ pub fn tag(out: &mut [u8], at: usize, number: usize) -> usize
 }
 
 // The word of a keyword, after a space.
-pub fn keyword(out: &mut [u8], at: usize, number: usize) -> usize
-    requires { ⌜ at < length (now out) ⌝ }
-    ensures { λ r. ⌜ r < length (now (out .exit)) ⌝ }
+pub fn keyword(out: &mut [u8; 65536], at: usize, number: usize) -> usize
+    requires { ⌜ at < 65536 ⌝ }
+    ensures { λ r. ⌜ r < 65536 ⌝ }
 {
     pick(
         out,

@@ -19,6 +19,7 @@ use crate::say::note_at;
 use crate::tree;
 use lines::line::byte;
 use lines::line::bytes;
+use lines::sum::root;
 use typekey::reading::Counts;
 use typekey::reading::Reading;
 use typekey::reading::Refused;
@@ -50,18 +51,18 @@ fn is_whole(tokens: &[u64], at: usize) -> bool {
 // ---- A type that was read
 
 // `ok` and the key.
-pub fn ok_key(out: &mut [u8], at: usize, key: &[u8], n: usize) -> usize
-    requires { ⌜ at < length (now out) ⌝ }
-    ensures { λ r. ⌜ r < length (now (out .exit)) ⌝ }
+pub fn ok_key(out: &mut [u8; 65536], at: usize, key: &[u8], n: usize) -> usize
+    requires { ⌜ at < 65536 ⌝ }
+    ensures { λ r. ⌜ r < 65536 ⌝ }
 {
     let p = bytes(out, at, b"ok ");
     copy(out, p, key, 0, n, Shape::HEX)
 }
 
 // How many diagnostics, if there are any.
-fn noted(out: &mut [u8], at: usize, n: usize) -> usize
-    requires { ⌜ at < length (now out) ⌝ }
-    ensures { λ r. ⌜ r < length (now (out .exit)) ⌝ }
+fn noted(out: &mut [u8; 65536], at: usize, n: usize) -> usize
+    requires { ⌜ at < 65536 ⌝ }
+    ensures { λ r. ⌜ r < 65536 ⌝ }
 {
     if n == 0 {
         return at;
@@ -70,9 +71,16 @@ fn noted(out: &mut [u8], at: usize, n: usize) -> usize
 }
 
 // Where reading stopped, if that is before the end.
-fn stopped(out: &mut [u8], at: usize, text: &[u8], tokens: &[u64], c: Counts, line: usize) -> usize
-    requires { ⌜ at < length (now out) ⌝ }
-    ensures { λ r. ⌜ r < length (now (out .exit)) ⌝ }
+fn stopped(
+    out: &mut [u8; 65536],
+    at: usize,
+    text: &[u8],
+    tokens: &[u64],
+    c: Counts,
+    line: usize,
+) -> usize
+    requires { ⌜ at < 65536 ⌝ }
+    ensures { λ r. ⌜ r < 65536 ⌝ }
 {
     if is_whole(tokens, c.at) {
         return at;
@@ -83,7 +91,7 @@ fn stopped(out: &mut [u8], at: usize, text: &[u8], tokens: &[u64], c: Counts, li
 
 // The line of a key: diagnostics and a rest are said behind it.
 fn key_line(
-    out: &mut [u8],
+    out: &mut [u8; 65536],
     at: usize,
     text: &[u8],
     tokens: &[u64],
@@ -91,8 +99,8 @@ fn key_line(
     c: Counts,
     line: usize,
 ) -> usize
-    requires { ⌜ at < length (now out) ⌝ }
-    ensures { λ r. ⌜ r < length (now (out .exit)) ⌝ }
+    requires { ⌜ at < 65536 ⌝ }
+    ensures { λ r. ⌜ r < 65536 ⌝ }
 {
     let p = ok_key(out, at, key, c.key);
     let q = noted(out, p, c.notes);
@@ -101,9 +109,9 @@ fn key_line(
 }
 
 // A diagnostic with its source line.
-fn note(out: &mut [u8], at: usize, text: &[u8], n: Note, line: usize) -> usize
-    requires { ⌜ at < length (now out) ⌝ }
-    ensures { λ r. ⌜ r < length (now (out .exit)) ⌝ }
+fn note(out: &mut [u8; 65536], at: usize, text: &[u8], n: Note, line: usize) -> usize
+    requires { ⌜ at < 65536 ⌝ }
+    ensures { λ r. ⌜ r < 65536 ⌝ }
 {
     let p = bytes(out, at, b"diagnostic: ");
     let q = say::diagnostic(out, p, n.number);
@@ -114,15 +122,15 @@ fn note(out: &mut [u8], at: usize, text: &[u8], n: Note, line: usize) -> usize
 
 // The first n diagnostics.
 fn diagnostics(
-    out: &mut [u8],
+    out: &mut [u8; 65536],
     at: usize,
     notes: &[u64],
     n: usize,
     text: &[u8],
     line: usize,
 ) -> usize
-    requires { ⌜ at < length (now out) ⌝ }
-    ensures { λ r. ⌜ r < length (now (out .exit)) ⌝ }
+    requires { ⌜ at < 65536 ⌝ }
+    ensures { λ r. ⌜ r < 65536 ⌝ }
 {
     let mut p = at;
     let mut i: usize = 0;
@@ -134,9 +142,16 @@ fn diagnostics(
 }
 
 // A line on what was not read.
-fn rest(out: &mut [u8], at: usize, text: &[u8], tokens: &[u64], c: Counts, line: usize) -> usize
-    requires { ⌜ at < length (now out) ⌝ }
-    ensures { λ r. ⌜ r < length (now (out .exit)) ⌝ }
+fn rest(
+    out: &mut [u8; 65536],
+    at: usize,
+    text: &[u8],
+    tokens: &[u64],
+    c: Counts,
+    line: usize,
+) -> usize
+    requires { ⌜ at < 65536 ⌝ }
+    ensures { λ r. ⌜ r < 65536 ⌝ }
 {
     if is_whole(tokens, c.at) {
         return at;
@@ -151,7 +166,7 @@ fn rest(out: &mut [u8], at: usize, text: &[u8], tokens: &[u64], c: Counts, line:
 
 // All of it: the key, the tree, diagnostics, and what was not read.
 fn all(
-    out: &mut [u8],
+    out: &mut [u8; 65536],
     at: usize,
     text: &[u8],
     tokens: &[u64],
@@ -164,8 +179,8 @@ fn all(
     c: Counts,
     line: usize,
 ) -> usize
-    requires { ⌜ at < length (now out) ⌝ }
-    ensures { λ r. ⌜ r < length (now (out .exit)) ⌝ }
+    requires { ⌜ at < 65536 ⌝ }
+    ensures { λ r. ⌜ r < 65536 ⌝ }
 {
     let p = key_line(out, at, text, tokens, key, c, line);
     let q = tree::tree(out, p, nodes, names, text, visits, size, false);
@@ -174,7 +189,7 @@ fn all(
 }
 
 fn in_json(
-    out: &mut [u8],
+    out: &mut [u8; 65536],
     at: usize,
     text: &[u8],
     tokens: &[u64],
@@ -187,8 +202,8 @@ fn in_json(
     c: Counts,
     line: usize,
 ) -> usize
-    requires { ⌜ at < length (now out) ⌝ }
-    ensures { λ r. ⌜ r < length (now (out .exit)) ⌝ }
+    requires { ⌜ at < 65536 ⌝ }
+    ensures { λ r. ⌜ r < 65536 ⌝ }
 {
     let p = json::key(out, at, key, c.key);
     let q = json::end(
@@ -206,16 +221,6 @@ fn in_json(
     bytes(out, s, b"}\n")
 }
 
-// The root of so many nodes.
-pub fn root(count: usize) -> usize
-    ensures { λ r. ⌜ r < 4294967296 ⌝ }
-{
-    if count == 0 {
-        return 0;
-    }
-    (count - 1) % 4294967296
-}
-
 // How many words the visits of so many nodes and names have at most: seven visits a node, one a name.
 pub fn visit_words(nodes: usize, names: usize) -> usize {
     21 * least(nodes, 1_000_000) + 3 * least(names, 1_000_000)
@@ -223,7 +228,7 @@ pub fn visit_words(nodes: usize, names: usize) -> usize {
 
 // A form that shows the tree, whose visits have so many words.
 fn formed(
-    out: &mut [u8],
+    out: &mut [u8; 65536],
     at: usize,
     text: &[u8],
     tokens: &[u64],
@@ -236,8 +241,8 @@ fn formed(
     c: Counts,
     job: Job,
 ) -> usize
-    requires { ⌜ at < length (now out) ⌝ }
-    ensures { λ r. ⌜ r < length (now (out .exit)) ⌝ }
+    requires { ⌜ at < 65536 ⌝ }
+    ensures { λ r. ⌜ r < 65536 ⌝ }
 {
     if job.form == Form::TREE {
         return tree::tree(out, at, nodes, names, text, visits, size, false);
@@ -275,22 +280,23 @@ fn formed(
 }
 
 fn walked(
-    out: &mut [u8],
+    out: &mut [u8; 65536],
     at: usize,
     text: &[u8],
     tokens: &[u64],
     nodes: &[u64],
     names: &[u64],
     visits: &mut [u64],
+    n: usize,
     notes: &[u64],
     key: &[u8],
     c: Counts,
     job: Job,
 ) -> usize
-    requires { ⌜ (at < length (now out)) × (length (now visits) ≤ 393216) ⌝ }
-    ensures { λ r. ⌜ r < length (now (out .exit)) ⌝ }
+    requires { ⌜ (at < 65536) × (n ≤ length (now visits)) × (n ≤ 393216) ⌝ }
+    ensures { λ r. ⌜ r < 65536 ⌝ }
 {
-    let size = walk(nodes, names, root(c.nodes), Tree::TALLEST, visits);
+    let size = walk(nodes, names, root(c.nodes), Tree::TALLEST, &mut visits[..n]);
     formed(
         out,
         at,
@@ -298,7 +304,7 @@ fn walked(
         tokens,
         nodes,
         names,
-        visits,
+        &visits[..n],
         size,
         notes,
         key,
@@ -308,25 +314,25 @@ fn walked(
 }
 
 fn granted(
-    out: &mut [u8],
+    out: &mut [u8; 65536],
     at: usize,
     text: &[u8],
     tokens: &[u64],
     nodes: &[u64],
     names: &[u64],
-    visits: &mut [u64],
+    visits: &mut [u64; 393216],
     notes: &[u64],
     key: &[u8],
     c: Counts,
     job: Job,
 ) -> usize
-    requires { ⌜ (at < length (now out)) × (length (now visits) ≤ 393216) ⌝ }
-    ensures { λ r. ⌜ r < length (now (out .exit)) ⌝ }
+    requires { ⌜ at < 65536 ⌝ }
+    ensures { λ r. ⌜ r < 65536 ⌝ }
 {
     if job.form == Form::KEY {
         return key_line(out, at, text, tokens, key, c, job.line);
     }
-    let n = part_words(visit_words(c.nodes, c.names), visits);
+    let n = least(visit_words(c.nodes, c.names), 393216);
     walked(
         out,
         at,
@@ -334,7 +340,8 @@ fn granted(
         tokens,
         nodes,
         names,
-        &mut visits[..n],
+        visits,
+        n,
         notes,
         key,
         c,
@@ -361,9 +368,16 @@ fn is_placed(number: usize) -> bool {
 }
 
 // ` at line 1, column 15 (token 4)`, if there is a place.
-fn placed(out: &mut [u8], at: usize, text: &[u8], first: usize, x: Refused, line: usize) -> usize
-    requires { ⌜ at < length (now out) ⌝ }
-    ensures { λ r. ⌜ r < length (now (out .exit)) ⌝ }
+fn placed(
+    out: &mut [u8; 65536],
+    at: usize,
+    text: &[u8],
+    first: usize,
+    x: Refused,
+    line: usize,
+) -> usize
+    requires { ⌜ at < 65536 ⌝ }
+    ensures { λ r. ⌜ r < 65536 ⌝ }
 {
     if !is_placed(x.number) {
         return at;
@@ -374,15 +388,15 @@ fn placed(out: &mut [u8], at: usize, text: &[u8], first: usize, x: Refused, line
 }
 
 fn pointed(
-    out: &mut [u8],
+    out: &mut [u8; 65536],
     at: usize,
     text: &[u8],
     tokens: &[u64],
     first: usize,
     x: Refused,
 ) -> usize
-    requires { ⌜ at < length (now out) ⌝ }
-    ensures { λ r. ⌜ r < length (now (out .exit)) ⌝ }
+    requires { ⌜ at < 65536 ⌝ }
+    ensures { λ r. ⌜ r < 65536 ⌝ }
 {
     if !is_placed(x.number) {
         return at;
@@ -392,7 +406,7 @@ fn pointed(
 
 // The line of a refusal: its name, its place, what it means.
 fn refused_words(
-    out: &mut [u8],
+    out: &mut [u8; 65536],
     at: usize,
     text: &[u8],
     first: usize,
@@ -400,8 +414,8 @@ fn refused_words(
     ends: bool,
     line: usize,
 ) -> usize
-    requires { ⌜ at < length (now out) ⌝ }
-    ensures { λ r. ⌜ r < length (now (out .exit)) ⌝ }
+    requires { ⌜ at < 65536 ⌝ }
+    ensures { λ r. ⌜ r < 65536 ⌝ }
 {
     let p = bytes(out, at, b"refused: ");
     let q = say::refusal(out, p, x.number);
@@ -412,15 +426,15 @@ fn refused_words(
 }
 
 fn refused_all(
-    out: &mut [u8],
+    out: &mut [u8; 65536],
     at: usize,
     text: &[u8],
     tokens: &[u64],
     x: Refused,
     line: usize,
 ) -> usize
-    requires { ⌜ at < length (now out) ⌝ }
-    ensures { λ r. ⌜ r < length (now (out .exit)) ⌝ }
+    requires { ⌜ at < 65536 ⌝ }
+    ensures { λ r. ⌜ r < 65536 ⌝ }
 {
     let first = refused_at(tokens, x);
     let p = refused_words(out, at, text, first, x, is_whole(tokens, x.token), line);
@@ -428,15 +442,15 @@ fn refused_all(
 }
 
 fn refused_line(
-    out: &mut [u8],
+    out: &mut [u8; 65536],
     at: usize,
     text: &[u8],
     tokens: &[u64],
     x: Refused,
     line: usize,
 ) -> usize
-    requires { ⌜ at < length (now out) ⌝ }
-    ensures { λ r. ⌜ r < length (now (out .exit)) ⌝ }
+    requires { ⌜ at < 65536 ⌝ }
+    ensures { λ r. ⌜ r < 65536 ⌝ }
 {
     let p = bytes(out, at, b"refused ");
     let q = say::refusal(out, p, x.number);
@@ -445,9 +459,9 @@ fn refused_line(
 }
 
 // Where a refusal is, for JSON.
-fn refused_place(out: &mut [u8], at: usize, x: Refused, first: usize) -> usize
-    requires { ⌜ at < length (now out) ⌝ }
-    ensures { λ r. ⌜ r < length (now (out .exit)) ⌝ }
+fn refused_place(out: &mut [u8; 65536], at: usize, x: Refused, first: usize) -> usize
+    requires { ⌜ at < 65536 ⌝ }
+    ensures { λ r. ⌜ r < 65536 ⌝ }
 {
     let p = numbered(out, at, b",\"token\":", x.token);
     let q = numbered(out, p, b",\"half\":", x.half);
@@ -456,15 +470,15 @@ fn refused_place(out: &mut [u8], at: usize, x: Refused, first: usize) -> usize
 }
 
 fn refused_json(
-    out: &mut [u8],
+    out: &mut [u8; 65536],
     at: usize,
     text: &[u8],
     tokens: &[u64],
     x: Refused,
     line: usize,
 ) -> usize
-    requires { ⌜ at < length (now out) ⌝ }
-    ensures { λ r. ⌜ r < length (now (out .exit)) ⌝ }
+    requires { ⌜ at < 65536 ⌝ }
+    ensures { λ r. ⌜ r < 65536 ⌝ }
 {
     let first = refused_at(tokens, x);
     let p = json::refusal(out, at, x.number, is_whole(tokens, x.token));
@@ -473,9 +487,16 @@ fn refused_json(
     bytes(out, r, b"}}\n")
 }
 
-fn refused(out: &mut [u8], at: usize, text: &[u8], tokens: &[u64], x: Refused, job: Job) -> usize
-    requires { ⌜ at < length (now out) ⌝ }
-    ensures { λ r. ⌜ r < length (now (out .exit)) ⌝ }
+fn refused(
+    out: &mut [u8; 65536],
+    at: usize,
+    text: &[u8],
+    tokens: &[u64],
+    x: Refused,
+    job: Job,
+) -> usize
+    requires { ⌜ at < 65536 ⌝ }
+    ensures { λ r. ⌜ r < 65536 ⌝ }
 {
     if job.form == Form::KEY {
         return refused_line(out, at, text, tokens, x, job.line);
@@ -490,19 +511,19 @@ fn refused(out: &mut [u8], at: usize, text: &[u8], tokens: &[u64], x: Refused, j
 
 // Reads a type on just what is lent, and prints what it came to.
 fn reads(
-    out: &mut [u8],
+    out: &mut [u8; 65536],
     at: usize,
     text: &[u8],
     tokens: &[u64],
     nodes: &mut [u64],
     names: &mut [u64],
-    visits: &mut [u64],
-    notes: &mut [u64],
+    visits: &mut [u64; 393216],
+    notes: &mut [u64; 96],
     key: &mut [u8],
     job: Job,
 ) -> usize
-    requires { ⌜ (at < length (now out)) × (length (now visits) ≤ 393216) ⌝ }
-    ensures { λ r. ⌜ r < length (now (out .exit)) ⌝ }
+    requires { ⌜ at < 65536 ⌝ }
+    ensures { λ r. ⌜ r < 65536 ⌝ }
 {
     let r = read(text, tokens, 0, job.parens, nodes, names, notes, key);
     match r {
@@ -542,28 +563,29 @@ fn key_bytes(text: usize, tokens: usize, space: usize) -> usize {
 
 // Lends by need.
 fn lent(
-    out: &mut [u8],
+    out: &mut [u8; 65536],
     at: usize,
     text: &[u8],
-    tokens: &[u64],
+    words: &[u64],
+    n: usize,
     nodes: &mut [u64],
     names: &mut [u64],
-    visits: &mut [u64],
-    notes: &mut [u64],
+    visits: &mut [u64; 393216],
+    notes: &mut [u64; 96],
     key: &mut [u8],
     job: Job,
 ) -> usize
-    requires { ⌜ (at < length (now out)) × (length (now visits) ≤ 393216) ⌝ }
-    ensures { λ r. ⌜ r < length (now (out .exit)) ⌝ }
+    requires { ⌜ (at < 65536) × (n ≤ length (now words)) ⌝ }
+    ensures { λ r. ⌜ r < 65536 ⌝ }
 {
-    let a = part_words(node_words(tokens.len(), job.room), nodes);
-    let b = part_words(tokens.len(), names);
-    let k = part(key_bytes(text.len(), tokens.len(), job.space), key);
+    let a = part_words(node_words(n, job.room), nodes);
+    let b = part_words(n, names);
+    let k = part(key_bytes(text.len(), n, job.space), key);
     reads(
         out,
         at,
         text,
-        tokens,
+        &words[..n],
         &mut nodes[..a],
         &mut names[..b],
         visits,
@@ -582,18 +604,18 @@ fn note_room() -> [u64; 96]
 
 // Cuts a text, reads it and prints what it came to.
 pub fn shown(
-    out: &mut [u8],
+    out: &mut [u8; 65536],
     at: usize,
     text: &[u8],
-    words: &mut [u64],
-    nodes: &mut [u64],
-    names: &mut [u64],
-    visits: &mut [u64],
-    key: &mut [u8],
+    words: &mut [u64; 16385],
+    nodes: &mut [u64; 262144],
+    names: &mut [u64; 21846],
+    visits: &mut [u64; 393216],
+    key: &mut [u8; 262160],
     job: Job,
 ) -> usize
-    requires { ⌜ (at < length (now out)) × (length (now visits) ≤ 393216) ⌝ }
-    ensures { λ r. ⌜ r < length (now (out .exit)) ⌝ }
+    requires { ⌜ at < 65536 ⌝ }
+    ensures { λ r. ⌜ r < 65536 ⌝ }
 {
     let mut notes = note_room();
     let n = cut(text, words);
@@ -601,7 +623,8 @@ pub fn shown(
         out,
         at,
         text,
-        &words[..n],
+        words,
+        n,
         nodes,
         names,
         visits,

@@ -56,8 +56,8 @@ fn bit(b: bool) -> usize {
     if b { 1 } else { 0 }
 }
 
-fn keep(open: &mut [u64], depth: usize, k: Known) {
-    if depth < open.len() {
+fn keep(open: &mut [u64; 260], depth: usize, k: Known) {
+    if depth < 260 {
         open[depth] = (k.tag % 64
             + 64 * (k.phase % 16)
             + 1024 * (bit(k.named) % 2)
@@ -122,9 +122,9 @@ fn role_of(k: Known, child: usize) -> usize {
     }
 }
 
-fn role(out: &mut [u8], at: usize, k: Known, child: usize) -> usize
-    requires { ⌜ at < length (now out) ⌝ }
-    ensures { λ r. ⌜ r < length (now (out .exit)) ⌝ }
+fn role(out: &mut [u8; 65536], at: usize, k: Known, child: usize) -> usize
+    requires { ⌜ at < 65536 ⌝ }
+    ensures { λ r. ⌜ r < 65536 ⌝ }
 {
     pick(
         out,
@@ -276,9 +276,9 @@ fn next_phase(tag: usize, phase: usize, number: usize) -> usize {
 // ---- Lines
 
 // The line that is being written ends.
-fn ended(out: &mut [u8], l: Line) -> usize
-    requires { ⌜ l .at < length (now out) ⌝ }
-    ensures { λ r. ⌜ r < length (now (out .exit)) ⌝ }
+fn ended(out: &mut [u8; 65536], l: Line) -> usize
+    requires { ⌜ l .at < 65536 ⌝ }
+    ensures { λ r. ⌜ r < 65536 ⌝ }
 {
     if l.of == 0 {
         return l.at;
@@ -287,9 +287,9 @@ fn ended(out: &mut [u8], l: Line) -> usize
 }
 
 // A new line for a depth, unless it is that one's already; on a new line a text leads.
-fn on_line(out: &mut [u8], l: Line, depth: usize, lead: &[u8], else_lead: &[u8]) -> usize
-    requires { ⌜ l .at < length (now out) ⌝ }
-    ensures { λ r. ⌜ r < length (now (out .exit)) ⌝ }
+fn on_line(out: &mut [u8; 65536], l: Line, depth: usize, lead: &[u8], else_lead: &[u8]) -> usize
+    requires { ⌜ l .at < 65536 ⌝ }
+    ensures { λ r. ⌜ r < 65536 ⌝ }
 {
     if l.of == depth {
         return bytes(out, l.at, else_lead);
@@ -300,9 +300,9 @@ fn on_line(out: &mut [u8], l: Line, depth: usize, lead: &[u8], else_lead: &[u8])
 }
 
 // A node's bytes, if it was read from a text.
-fn span(out: &mut [u8], at: usize, nodes: &[u64], number: usize, bare: bool) -> usize
-    requires { ⌜ at < length (now out) ⌝ }
-    ensures { λ r. ⌜ r < length (now (out .exit)) ⌝ }
+fn span(out: &mut [u8; 65536], at: usize, nodes: &[u64], number: usize, bare: bool) -> usize
+    requires { ⌜ at < 65536 ⌝ }
+    ensures { λ r. ⌜ r < 65536 ⌝ }
 {
     if bare {
         return at;
@@ -319,9 +319,9 @@ pub fn place_word(nodes: &[u64], number: usize) -> u64 {
 }
 
 // A node's line up to its bytes.
-fn headed(out: &mut [u8], at: usize, depth: usize, k: Known, tag: usize) -> usize
-    requires { ⌜ at < length (now out) ⌝ }
-    ensures { λ r. ⌜ r < length (now (out .exit)) ⌝ }
+fn headed(out: &mut [u8; 65536], at: usize, depth: usize, k: Known, tag: usize) -> usize
+    requires { ⌜ at < 65536 ⌝ }
+    ensures { λ r. ⌜ r < 65536 ⌝ }
 {
     let p = times(out, at, b"  ", depth);
     let q = role(out, p, k, tag);
@@ -339,7 +339,7 @@ fn fresh(tag: usize) -> Known {
 }
 
 // The node above a depth, which gets a child; at the top there is none.
-fn above(open: &mut [u64], depth: usize) -> Known {
+fn above(open: &mut [u64; 260], depth: usize) -> Known {
     if depth == 0 {
         return fresh(0);
     }
@@ -349,16 +349,16 @@ fn above(open: &mut [u64], depth: usize) -> Known {
 }
 
 fn node(
-    out: &mut [u8],
+    out: &mut [u8; 65536],
     l: Line,
-    open: &mut [u64],
+    open: &mut [u64; 260],
     nodes: &[u64],
     v: Visit,
     tag: usize,
     bare: bool,
 ) -> Line
-    requires { ⌜ l .at < length (now out) ⌝ }
-    ensures { λ r. ⌜ r .at < length (now (out .exit)) ⌝ }
+    requires { ⌜ l .at < 65536 ⌝ }
+    ensures { λ r. ⌜ r .at < 65536 ⌝ }
 {
     let p = ended(out, l);
     let k = above(open, v.depth);
@@ -379,9 +379,9 @@ fn owner(depth: usize) -> usize {
     depth - 1
 }
 
-fn chosen(out: &mut [u8], at: usize, word: usize) -> usize
-    requires { ⌜ at < length (now out) ⌝ }
-    ensures { λ r. ⌜ r < length (now (out .exit)) ⌝ }
+fn chosen(out: &mut [u8; 65536], at: usize, word: usize) -> usize
+    requires { ⌜ at < 65536 ⌝ }
+    ensures { λ r. ⌜ r < 65536 ⌝ }
 {
     pick(
         out,
@@ -391,9 +391,9 @@ fn chosen(out: &mut [u8], at: usize, word: usize) -> usize
     )
 }
 
-fn choice_said(out: &mut [u8], l: Line, depth: usize, k: Known, number: usize) -> Line
-    requires { ⌜ l .at < length (now out) ⌝ }
-    ensures { λ r. ⌜ r .at < length (now (out .exit)) ⌝ }
+fn choice_said(out: &mut [u8; 65536], l: Line, depth: usize, k: Known, number: usize) -> Line
+    requires { ⌜ l .at < 65536 ⌝ }
+    ensures { λ r. ⌜ r .at < 65536 ⌝ }
 {
     if k.phase == 1 {
         if k.tag == 2 {
@@ -414,9 +414,9 @@ fn choice_said(out: &mut [u8], l: Line, depth: usize, k: Known, number: usize) -
     }
 }
 
-fn choice(out: &mut [u8], l: Line, open: &mut [u64], v: Visit) -> Line
-    requires { ⌜ l .at < length (now out) ⌝ }
-    ensures { λ r. ⌜ r .at < length (now (out .exit)) ⌝ }
+fn choice(out: &mut [u8; 65536], l: Line, open: &mut [u64; 260], v: Visit) -> Line
+    requires { ⌜ l .at < 65536 ⌝ }
+    ensures { λ r. ⌜ r .at < 65536 ⌝ }
 {
     let d = owner(v.depth);
     let k = known_at(open, d);
@@ -441,9 +441,9 @@ fn name_lead(k: Known) -> usize {
     }
 }
 
-fn led(out: &mut [u8], l: Line, depth: usize, k: Known) -> usize
-    requires { ⌜ l .at < length (now out) ⌝ }
-    ensures { λ r. ⌜ r < length (now (out .exit)) ⌝ }
+fn led(out: &mut [u8; 65536], l: Line, depth: usize, k: Known) -> usize
+    requires { ⌜ l .at < 65536 ⌝ }
+    ensures { λ r. ⌜ r < 65536 ⌝ }
 {
     let lead = name_lead(k);
     if lead == 1 {
@@ -457,23 +457,30 @@ fn led(out: &mut [u8], l: Line, depth: usize, k: Known) -> usize
 
 // The spelling of a name.
 pub fn spelling(
-    out: &mut [u8],
+    out: &mut [u8; 65536],
     at: usize,
     names: &[u64],
     text: &[u8],
     number: usize,
     shape: usize,
 ) -> usize
-    requires { ⌜ at < length (now out) ⌝ }
-    ensures { λ r. ⌜ r < length (now (out .exit)) ⌝ }
+    requires { ⌜ at < 65536 ⌝ }
+    ensures { λ r. ⌜ r < 65536 ⌝ }
 {
     let n = name_at(names, number);
     copy(out, at, text, n.start, n.start + n.size, shape)
 }
 
-fn name(out: &mut [u8], l: Line, open: &mut [u64], names: &[u64], text: &[u8], v: Visit) -> Line
-    requires { ⌜ l .at < length (now out) ⌝ }
-    ensures { λ r. ⌜ r .at < length (now (out .exit)) ⌝ }
+fn name(
+    out: &mut [u8; 65536],
+    l: Line,
+    open: &mut [u64; 260],
+    names: &[u64],
+    text: &[u8],
+    v: Visit,
+) -> Line
+    requires { ⌜ l .at < 65536 ⌝ }
+    ensures { λ r. ⌜ r .at < 65536 ⌝ }
 {
     let d = owner(v.depth);
     let k = known_at(open, d);
@@ -493,9 +500,9 @@ fn name(out: &mut [u8], l: Line, open: &mut [u64], names: &[u64], text: &[u8], v
 
 // A visit by its kind.
 fn visited(
-    out: &mut [u8],
+    out: &mut [u8; 65536],
     l: Line,
-    open: &mut [u64],
+    open: &mut [u64; 260],
     nodes: &[u64],
     names: &[u64],
     text: &[u8],
@@ -503,8 +510,8 @@ fn visited(
     at: usize,
     bare: bool,
 ) -> Line
-    requires { ⌜ l .at < length (now out) ⌝ }
-    ensures { λ r. ⌜ r .at < length (now (out .exit)) ⌝ }
+    requires { ⌜ l .at < 65536 ⌝ }
+    ensures { λ r. ⌜ r .at < 65536 ⌝ }
 {
     let v = visit_at(visits, at);
     if v.kind == NODE {
@@ -518,9 +525,9 @@ fn visited(
 
 // The lines of n visits.
 fn all(
-    out: &mut [u8],
+    out: &mut [u8; 65536],
     at: usize,
-    open: &mut [u64],
+    open: &mut [u64; 260],
     nodes: &[u64],
     names: &[u64],
     text: &[u8],
@@ -528,8 +535,8 @@ fn all(
     n: usize,
     bare: bool,
 ) -> Line
-    requires { ⌜ at < length (now out) ⌝ }
-    ensures { λ r. ⌜ r .at < length (now (out .exit)) ⌝ }
+    requires { ⌜ at < 65536 ⌝ }
+    ensures { λ r. ⌜ r .at < 65536 ⌝ }
 {
     let mut l = Line { at, of: 0 };
     let mut i: usize = 0;
@@ -541,9 +548,9 @@ fn all(
 }
 
 // A line that says what is left out.
-fn rest(out: &mut [u8], at: usize, shown: usize, size: usize) -> usize
-    requires { ⌜ at < length (now out) ⌝ }
-    ensures { λ r. ⌜ r < length (now (out .exit)) ⌝ }
+fn rest(out: &mut [u8; 65536], at: usize, shown: usize, size: usize) -> usize
+    requires { ⌜ at < 65536 ⌝ }
+    ensures { λ r. ⌜ r < 65536 ⌝ }
 {
     if size <= shown {
         return at;
@@ -557,7 +564,7 @@ fn rest(out: &mut [u8], at: usize, shown: usize, size: usize) -> usize
 
 // The lines of a tree whose visits have so many words, of which some are there; without bytes where it is taken back from a key.
 pub fn tree(
-    out: &mut [u8],
+    out: &mut [u8; 65536],
     at: usize,
     nodes: &[u64],
     names: &[u64],
@@ -566,8 +573,8 @@ pub fn tree(
     size: usize,
     bare: bool,
 ) -> usize
-    requires { ⌜ at < length (now out) ⌝ }
-    ensures { λ r. ⌜ r < length (now (out .exit)) ⌝ }
+    requires { ⌜ at < 65536 ⌝ }
+    ensures { λ r. ⌜ r < 65536 ⌝ }
 {
     let mut open = [0u64; 260];
     let shown = crate::put::least(size, visits.len()) / 3;

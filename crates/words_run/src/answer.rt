@@ -6,6 +6,7 @@ ghost use Rattle.words.specs.Class.{classWords};
 use lines::line::bytes;
 use lines::line::next;
 use lines::line::number;
+use lines::line::three;
 use words::ahead::FunctionStart;
 use words::ahead::function_start;
 use words::ahead::mapped_start;
@@ -21,9 +22,9 @@ fn bit(b: bool) -> u64 {
 }
 
 // `sound`, or the refusal's number and place.
-fn checked(out: &mut [u8], at: usize, c: Checked) -> usize
-    requires { ⌜ at < length (now out) ⌝ }
-    ensures { λ r. ⌜ r < length (now (out .exit)) ⌝ }
+fn checked(out: &mut [u8; 65536], at: usize, c: Checked) -> usize
+    requires { ⌜ at < 65536 ⌝ }
+    ensures { λ r. ⌜ r < 65536 ⌝ }
 {
     match c {
         Checked::Sound => bytes(out, at, b"sound"),
@@ -33,18 +34,18 @@ fn checked(out: &mut [u8], at: usize, c: Checked) -> usize
 }
 
 // Two numbers.
-fn pair(out: &mut [u8], at: usize, first: u64, second: usize) -> usize
-    requires { ⌜ at < length (now out) ⌝ }
-    ensures { λ r. ⌜ r < length (now (out .exit)) ⌝ }
+fn pair(out: &mut [u8; 65536], at: usize, first: u64, second: usize) -> usize
+    requires { ⌜ at < 65536 ⌝ }
+    ensures { λ r. ⌜ r < 65536 ⌝ }
 {
     let p = number(out, at, first);
     next(out, p, second as u64)
 }
 
 // The seven classes of a kind, in the order of their bits.
-fn classes_of(out: &mut [u8], at: usize, classes: &[u16; 256], kind: usize) -> usize
-    requires { ⌜ (at < length (now out)) × (now classes ≡ classWords) × (kind < 256) ⌝ }
-    ensures { λ r. ⌜ r < length (now (out .exit)) ⌝ }
+fn classes_of(out: &mut [u8; 65536], at: usize, classes: &[u16; 256], kind: usize) -> usize
+    requires { ⌜ (at < 65536) × (now classes ≡ classWords) × (kind < 256) ⌝ }
+    ensures { λ r. ⌜ r < 65536 ⌝ }
 {
     let mut p = number(out, at, bit(in_class(classes, kind, 0)));
     let mut class = 1;
@@ -56,9 +57,9 @@ fn classes_of(out: &mut [u8], at: usize, classes: &[u16; 256], kind: usize) -> u
 }
 
 // The number of the case, by its place in the enum from 1 and 0 for none, and the index that it holds or 0.
-fn function_case(out: &mut [u8], at: usize, start: FunctionStart) -> usize
-    requires { ⌜ at < length (now out) ⌝ }
-    ensures { λ r. ⌜ r < length (now (out .exit)) ⌝ }
+fn function_case(out: &mut [u8; 65536], at: usize, start: FunctionStart) -> usize
+    requires { ⌜ at < 65536 ⌝ }
+    ensures { λ r. ⌜ r < 65536 ⌝ }
 {
     match start {
         FunctionStart::TypeParameters => pair(out, at, 1, 0),
@@ -73,9 +74,9 @@ fn function_case(out: &mut [u8], at: usize, start: FunctionStart) -> usize
 }
 
 // Kind, same line, first byte and end byte at a cursor, and the cursor one step further.
-fn cursor_facts(out: &mut [u8], at: usize, words: &[u64], c: Cursor) -> usize
-    requires { ⌜ (at < length (now out)) × (c .half ≤ 1) × (c .at < 2 ^ 32) ⌝ }
-    ensures { λ r. ⌜ r < length (now (out .exit)) ⌝ }
+fn cursor_facts(out: &mut [u8; 65536], at: usize, words: &[u64], c: Cursor) -> usize
+    requires { ⌜ (at < 65536) × (c .half ≤ 1) × (c .at < 2 ^ 32) ⌝ }
+    ensures { λ r. ⌜ r < 65536 ⌝ }
 {
     let p = number(out, at, c.kind(words) as u64);
     let q = next(out, p, bit(c.same_line(words)));
@@ -85,18 +86,18 @@ fn cursor_facts(out: &mut [u8], at: usize, words: &[u64], c: Cursor) -> usize
 }
 
 // A cursor.
-fn after(out: &mut [u8], at: usize, c: Cursor) -> usize
-    requires { ⌜ at < length (now out) ⌝ }
-    ensures { λ r. ⌜ r < length (now (out .exit)) ⌝ }
+fn after(out: &mut [u8; 65536], at: usize, c: Cursor) -> usize
+    requires { ⌜ at < 65536 ⌝ }
+    ensures { λ r. ⌜ r < 65536 ⌝ }
 {
     let p = next(out, at, c.at as u64);
     next(out, p, c.half as u64)
 }
 
 // The five fields of a word, and the word made of them again.
-fn fields(out: &mut [u8], at: usize, word: u64) -> usize
-    requires { ⌜ at < length (now out) ⌝ }
-    ensures { λ r. ⌜ r < length (now (out .exit)) ⌝ }
+fn fields(out: &mut [u8; 65536], at: usize, word: u64) -> usize
+    requires { ⌜ at < 65536 ⌝ }
+    ensures { λ r. ⌜ r < 65536 ⌝ }
 {
     let kind = token::kind(word) as u64;
     let newline = token::newline(word) as u64;
@@ -108,20 +109,10 @@ fn fields(out: &mut [u8], at: usize, word: u64) -> usize
     three(out, p, length, start, again)
 }
 
-// Three numbers more.
-fn three(out: &mut [u8], at: usize, a: u64, b: u64, c: u64) -> usize
-    requires { ⌜ at < length (now out) ⌝ }
-    ensures { λ r. ⌜ r < length (now (out .exit)) ⌝ }
-{
-    let p = next(out, at, a);
-    let q = next(out, p, b);
-    next(out, q, c)
-}
-
 // How many words there are, and each word's fields.
-fn all_fields(out: &mut [u8], at: usize, words: &[u64]) -> usize
-    requires { ⌜ at < length (now out) ⌝ }
-    ensures { λ r. ⌜ r < length (now (out .exit)) ⌝ }
+fn all_fields(out: &mut [u8; 65536], at: usize, words: &[u64]) -> usize
+    requires { ⌜ at < 65536 ⌝ }
+    ensures { λ r. ⌜ r < 65536 ⌝ }
 {
     let mut p = number(out, at, words.len() as u64);
     let mut i = 0;
@@ -134,7 +125,7 @@ fn all_fields(out: &mut [u8], at: usize, words: &[u64]) -> usize
 
 // A record's answer, without the line's end.
 pub fn answer(
-    out: &mut [u8],
+    out: &mut [u8; 65536],
     at: usize,
     op: u8,
     a: usize,
@@ -143,8 +134,8 @@ pub fn answer(
     words: &[u64],
     classes: &[u16; 256],
 ) -> usize
-    requires { ⌜ (at < length (now out)) × (a < 2 ^ 32) × (now classes ≡ classWords) ⌝ }
-    ensures { λ r. ⌜ r < length (now (out .exit)) ⌝ }
+    requires { ⌜ (at < 65536) × (a < 2 ^ 32) × (now classes ≡ classWords) ⌝ }
+    ensures { λ r. ⌜ r < 65536 ⌝ }
 {
     match op {
         0 => checked(out, at, check(text, words, a)),

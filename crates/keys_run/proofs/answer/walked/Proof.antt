@@ -20,9 +20,6 @@ slice-aggregate-visited c = simp length-take (omega arith)
 visited-requires : tie.Need-visited-requires
 visited-requires c κs = (search needs, simp length-take (omega arith))
 
-same-length : tie.Need-same-length
-same-length c = search needs
-
 returns : tie.Need-returns
 returns c = search needs
 
@@ -35,5 +32,4 @@ walked-spec =
     array-borrow-prefix-room
     slice-aggregate-visited
     visited-requires
-    same-length
     returns)

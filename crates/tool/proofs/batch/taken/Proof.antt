@@ -1,13 +1,11 @@
--- `batch::taken` is safe and ends: the text keeps its length, and the input that is left falls. Assumes nothing.
+-- `batch::taken` is safe and ends: the input that is left falls. Assumes nothing.
 use borrow.Author.Needs.{needs}
 use Prim.Native.Nat.{_-_}
-use mathlib.Core.Path.{_≡_}
-use lib.ListN.{length}
 use Rattle.tool.proofs.batch.taken.Statement.{statement}
 use Rattle.tool.proofs.batch.taken.Tie as tie
 
 abbrev Inv-loop : tie.InvT-loop
-Inv-loop text₀ size input f at n₀ i₀ text n i = (length text ≡ length text₀)
+Inv-loop text₀ size input f at n₀ i₀ text n i = Unit {0}
 
 abbrev μ-loop : tie.MeasureT-loop
 μ-loop text₀ size input f at n₀ i₀ text n i = f .end - i
@@ -21,9 +19,6 @@ byte-at-requires c κs = search needs
 add-i : tie.Need-add-i Inv-loop μ-loop
 add-i c = search needs
 
-same-length : tie.Need-same-length Inv-loop μ-loop
-same-length c = search needs
-
 returns : tie.Need-returns Inv-loop μ-loop
 returns c = search needs
 
@@ -35,9 +30,6 @@ loop-less c = search needs
 
 loop-again : tie.Need-loop-again Inv-loop μ-loop
 loop-again c = search needs
-
-same-length-2 : tie.Need-same-length-2 Inv-loop μ-loop
-same-length-2 c = search needs
 
 returns-2 : tie.Need-returns-2 Inv-loop μ-loop
 returns-2 c = search needs
@@ -51,10 +43,8 @@ taken-spec =
     loop-holds
     byte-at-requires
     add-i
-    same-length
     returns
     kept-requires
     loop-less
     loop-again
-    same-length-2
     returns-2)

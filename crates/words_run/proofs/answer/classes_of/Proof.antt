@@ -7,7 +7,7 @@ use Rattle.words_run.proofs.answer.classes_of.Statement.{statement}
 use Rattle.words_run.proofs.answer.classes_of.Tie as tie
 
 abbrev Inv-loop : tie.InvT-loop
-Inv-loop out₀ at classes kind p₀ class₀ out p class = (p < length out) × (class ≤ 7) × (length out ≡ length out₀)
+Inv-loop out₀ at classes kind p₀ class₀ out p class = (p < 65536) × (class ≤ 7)
 
 abbrev μ-loop : tie.MeasureT-loop
 μ-loop out₀ at classes kind p₀ class₀ out p class = 7 - class
@@ -42,9 +42,6 @@ loop-less c = search needs
 loop-again : tie.Need-loop-again Inv-loop μ-loop
 loop-again c = search needs
 
-same-length : tie.Need-same-length Inv-loop μ-loop
-same-length c = search needs
-
 returns : tie.Need-returns Inv-loop μ-loop
 returns c = search needs
 
@@ -64,5 +61,4 @@ classes-of-spec =
     add-class
     loop-less
     loop-again
-    same-length
     returns)

@@ -1,9 +1,9 @@
--- `record::node_room` has as many words as it says. Assumes nothing.
+-- `room::node_room` has as many words as it says. Assumes nothing.
 use Prim.Native.Nat.{ℕ}
 use mathlib.Core.Path.{sym}
 use lib.ListN.{length-replicate}
-use Rattle.rows.proofs.record.node_room.Statement.{statement}
-use Rattle.rows.proofs.record.node_room.Tie as tie
+use Rattle.lines.proofs.room.node_room.Statement.{statement}
+use Rattle.lines.proofs.room.node_room.Tie as tie
 
 returns : tie.Need-returns
 returns c = sym (length-replicate {0} {A = ℕ} 838860 0)
