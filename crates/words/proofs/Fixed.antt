@@ -10,44 +10,65 @@ use lib.ListN.{length, getD, take, drop}
 use mathlib.Core.Logic.{⊎-elim}
 use Rattle.words.specs.Test.{_and_, _or_, same, someBelow, between}
 use Rattle.words.specs.Kind.{LCurly, Star, Any, Unique, Extends, Const}
-use Rattle.words.specs.Class.{fixed, table}
-use Rattle.words.specs.Spelling.{spelling, spelledAs, spelledAsAny, place, fixedLetters, fixedPlaces}
+use Rattle.words.specs.Class.{fixed}
+use Rattle.words.specs.Spelling.{spelling, spelledAs, spelledAsAny, fixedLetters, fixedPlaces}
 use Rattle.words.specs.Check.{part}
-use Rattle.words.proofs.Tests.{every-below, below-each, both-true, table-at, lt-or-le}
+use Rattle.words.proofs.Tests.{every-below, below-each, both-true, lt-or-le}
 use Rattle.words.proofs.Bytes.{same-eq}
 
 abbrev empty : List ℕ → Bool
 empty [] = true
 empty (x ∷ s) = false
 
--- a kind's spelling stands among the letters at its place; only a kind of fixed spelling has one
-abbrev stands : ℕ → Bool
-stands k =
-    eqb (place k % 16) (length (spelling k))
-    and leb (place k / 16 + place k % 16) 189
-    and same (part fixedLetters (place k / 16) (length (spelling k))) (spelling k)
-    and (fixed k or empty (spelling k))
+-- kind k's spelling stands among the letters at the place p
+abbrev stands : List ℕ → ℕ → ℕ → Bool
+stands letters k p =
+    eqb (p % 16) (length (spelling k))
+    and leb (p / 16 + p % 16) 189
+    and same (part letters (p / 16) (p % 16)) (spelling k)
+    and ltb p 65536
 
-all-stand : every-below 107 stands ≡ true
-all-stand = refl
+-- the same of each place of a list, whose first is that of kind k
+abbrev all-stand : List ℕ → ℕ → List ℕ → Bool
+all-stand letters k [] = true
+all-stand letters k (p ∷ ps) = stands letters k p and all-stand letters (suc k) ps
 
-record Stands (k : ℕ) : Type 0 where
-  size : place k % 16 ≡ length (spelling k)
-  inside : place k / 16 + place k % 16 ≤ 189
-  is : part fixedLetters (place k / 16) (length (spelling k)) ≡ spelling k
-  only : (fixed k or empty (spelling k)) ≡ true
+fixed-stand : all-stand fixedLetters 0 fixedPlaces ≡ true
+fixed-stand = refl
 
-stand : (k : ℕ) → k < 107 → Stands k
-stand k h =
-    let a = both-true _ _ (below-each 107 stands all-stand k h) in
+each-stands : (letters : List ℕ) (k : ℕ) (ps : List ℕ) (i : ℕ) → all-stand letters k ps ≡ true → i < length ps → stands letters (k + i) (getD ps i 0) ≡ true
+each-stands letters k [] i e h = absurd (omega arith)
+each-stands letters k (p ∷ ps) zero e h = ap (λ (j : ℕ). stands letters j p) same-kind ∙ both-true _ _ e .0
+  where
+    same-kind : k + 0 ≡ k
+    same-kind = omega arith
+each-stands letters k (p ∷ ps) (suc i) e h =
+    ap (λ (j : ℕ). stands letters j (getD ps i 0)) next-kind ∙ each-stands letters (suc k) ps i (both-true (stands letters k p) _ e .1) (omega arith)
+  where
+    next-kind : k + suc i ≡ suc k + i
+    next-kind = omega arith
+
+record Stands (letters : List ℕ) (k p : ℕ) : Type 0 where
+  size : p % 16 ≡ length (spelling k)
+  inside : p / 16 + p % 16 ≤ 189
+  is : part letters (p / 16) (p % 16) ≡ spelling k
+  small : p < 65536
+
+stand : (letters : List ℕ) (k p : ℕ) → stands letters k p ≡ true → Stands letters k p
+stand letters k p e =
+    let a = both-true _ _ e in
     let b = both-true _ _ (a .1) in
     let d = both-true _ _ (b .1) in
     record {
-      size = eqb-true (place k % 16) (length (spelling k)) (a .0);
-      inside = leb-true (place k / 16 + place k % 16) 189 (b .0);
-      is = same-eq (part fixedLetters (place k / 16) (length (spelling k))) (spelling k) (d .0);
-      only = d .1;
+      size = eqb-true (p % 16) (length (spelling k)) (a .0);
+      inside = leb-true (p / 16 + p % 16) 189 (b .0);
+      is = same-eq (part letters (p / 16) (p % 16)) (spelling k) (d .0);
+      small = ltb-true p 65536 (d .1);
     }
+
+-- only a kind of fixed spelling has one
+fixed-spelled : every-below 107 (λ k. fixed k or empty (spelling k)) ≡ true
+fixed-spelled = refl
 
 -- a string of some bytes is a kind's spelling only where that is fixed
 only-fixed : (f : Bool) (t s : List ℕ) → 1 ≤ length s → (f or empty t) ≡ true → (f and same t s) ≡ same t s
@@ -57,34 +78,39 @@ only-fixed false [] (x ∷ s) h e = refl
 only-fixed false (y ∷ t) s h e = let z : _≡_ {A = ℕ} 0 1 = cc in absurd (omega arith)
 
 spelled-is : (s : List ℕ) (k : ℕ) → 1 ≤ length s → k < 107 → spelledAs s k ≡ same (spelling k) s
-spelled-is s k h l = only-fixed (fixed k) (spelling k) s h (stand k l .only)
-
--- a place fits 16 bits
-small : every-below 107 (λ k. ltb (place k) 65536) ≡ true
-small = refl
-
-place-small : (k : ℕ) → k < 107 → place k < 65536
-place-small k h = ltb-true (place k) 65536 (below-each 107 (λ i. ltb (place i) 65536) small k h)
+spelled-is s k h l =
+    only-fixed (fixed k) (spelling k) s h (below-each 107 (λ i. fixed i or empty (spelling i)) fixed-spelled k l)
 
 -- what the table of places and the letters say of a kind
 module _ (places letters : List ℕ) (k : ℕ) (p : places ≡ fixedPlaces) (q : letters ≡ fixedLetters) (h : k < 107) where
   abbrev entry : ℕ
   entry = getD places k 0
 
-  is-place : entry ≡ place k
-  is-place = ap (λ (l : List ℕ). getD l k 0) p ∙ table-at 256 place k (omega arith)
+  long : length places ≡ 256
+  long = ap (λ (l : List ℕ). length l) p
+
+  there : stands letters k entry ≡ true
+  there =
+      ap (λ (i : ℕ). stands letters i entry) from-zero
+      ∙ each-stands letters 0 places k ((λ i. all-stand (q i) 0 (p i)) ∙ fixed-stand) (omega (arith, long))
+    where
+      from-zero : k ≡ 0 + k
+      from-zero = omega arith
+
+  abbrev here : Stands letters k entry
+  here = stand letters k entry there
 
   pub entry-small : entry < 65536
-  entry-small = omega (arith, is-place, place-small k h)
+  entry-small = here .small
 
   pub entry-size : entry % 16 ≡ length (spelling k)
-  entry-size = ap (λ (x : ℕ). x % 16) is-place ∙ stand k h .size
+  entry-size = here .size
 
   pub entry-inside : entry / 16 + entry % 16 ≤ 189
-  entry-inside = omega (arith, is-place, stand k h .inside)
+  entry-inside = here .inside
 
   pub entry-spells : (n : ℕ) → entry % 16 ≡ n → part letters (entry / 16) n ≡ spelling k
-  entry-spells n e = (λ i. part (q i) (is-place i / 16) ((sym e ∙ entry-size) i)) ∙ stand k h .is
+  entry-spells n e = ap (part letters (entry / 16)) (sym e) ∙ here .is
 
 -- only kinds below 107 are fixed
 pub fixed-low : (k : ℕ) → fixed k ≡ true → k < 107

@@ -9,7 +9,7 @@ use lib.Dec.{eqb, leb}
 use lib.ListN.{getD, length}
 use Rattle.words.specs.Test.{_and_, _or_, same, test, someBelow, among}
 use Rattle.words.specs.Kind.{Word, LCurly, Any, Extends, OtherReserved}
-use Rattle.words.specs.Class.{fixed, other, table}
+use Rattle.words.specs.Class.{fixed, other}
 
 -- the bytes of a text of ASCII
 abbrev pub bytes : String → List ℕ
@@ -60,16 +60,19 @@ spelledRight k s =
     true))
 
 -- ---- the spellings one after the other, as the code keeps them
-abbrev pub lettersBelow : ℕ → List ℕ
-lettersBelow zero = []
-lettersBelow (suc k) = lettersBelow k ++ spelling k
 
--- where a kind's spelling stands among them, and its length
-abbrev pub place : ℕ → ℕ
-place k = length (lettersBelow k) * 16 + length (spelling k)
+-- the spellings of n kinds, from kind k on
+abbrev pub lettersFrom : ℕ → ℕ → List ℕ
+lettersFrom zero k = []
+lettersFrom (suc n) k = spelling k ++ lettersFrom n (suc k)
 
 abbrev pub fixedLetters : List ℕ
-fixedLetters = lettersBelow OtherReserved
+fixedLetters = lettersFrom OtherReserved 0
+
+-- where the spellings of n kinds, from kind k on, stand among them if the first stands at `at`, each with its length
+abbrev pub placesFrom : ℕ → ℕ → ℕ → List ℕ
+placesFrom zero k at = []
+placesFrom (suc n) k at = (at * 16 + length (spelling k)) ∷ placesFrom n (suc k) (at + length (spelling k))
 
 abbrev pub fixedPlaces : List ℕ
-fixedPlaces = table 256 place
+fixedPlaces = placesFrom 256 0 0
