@@ -20,11 +20,11 @@ use Rattle.rules.specs.State.{Result, State, read as got, refuse}
 use Rattle.rules.specs.Reading.{readType, reading}
 use Rattle.rules.specs.Read as rules
 use Rattle.rules.specs.Read.{Lent, lend, given, denied, withKey, Called, written}
-use Rattle.rules.specs.TokenLaws.{text-few, words-few, word-inside, word-sized}
-use Rattle.rules.specs.Theorems.{tree-fits, tree-low, nodes-used, nodes-few, notes-few, key-short, names-spelled}
-use Rattle.parts.specs.Marks.{noteAt, notingWords, notesOf, view, Sound, Spelt}
+use Rattle.rules.proofs.TokenLaws.{text-few, words-few, word-inside, word-sized}
+use Rattle.rules.proofs.Theorems.{tree-fits, tree-low, nodes-used, nodes-few, notes-few, key-short, names-spelled}
+use Rattle.parts.specs.State.{noteAt, notingWords, notesOf, view, Sound, Spelt}
 use Rattle.parts.specs.Laid.{runIn, wasAt, Laid}
-use Rattle.parts.specs.LaidLaws.{length-notes}
+use Rattle.parts.proofs.LaidLaws.{length-notes}
 use Rattle.parts.specs.declared.state.Mark.{Mark}
 use Rattle.calls.specs.Reading.{HeldIn}
 

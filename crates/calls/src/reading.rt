@@ -6,7 +6,7 @@ ghost use Rattle.words.specs.Check.{sound, check as checkOf};
 ghost use Rattle.keys.specs.Limits.{recordWords};
 ghost use Rattle.keys.specs.Placed.{Placed};
 ghost use Rattle.rules.specs.Notes.{noteWidth};
-ghost use Rattle.parts.specs.Marks.{noteAt, notingWords};
+ghost use Rattle.parts.specs.State.{noteAt, notingWords};
 ghost use Rattle.calls.specs.Reading.{Reads, Refuses, NoSpace, Held, Finishes, Wrote};
 use key_out::out::put_key;
 use keys::store;

@@ -14,7 +14,7 @@ use Rattle.keys.specs.Placed.{Placed, tree, second, isSet, Spelling, Opt, absen
 use Rattle.keys.specs.Store.{Run, done, chose, name, kid, plant, under, called, packed, firstKid, records, namesIn, _⊕_}
 use Rattle.keys.specs.Words.{firstNodes, firstNames}
 use Rattle.rules.specs.Notes.{Note}
-use Rattle.parts.specs.Marks.{notesOf}
+use Rattle.parts.specs.State.{notesOf}
 use Rattle.parts.specs.declared.state.Mark.{Mark}
 use Rattle.parts.specs.declared.state.Kids.{Kids}
 

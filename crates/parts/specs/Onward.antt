@@ -16,9 +16,9 @@ use Rattle.rules.specs.Arguments.{named, importType}
 use Rattle.rules.specs.Tuple.{tuple}
 use Rattle.rules.specs.Template.{template}
 use Rattle.rules.specs.Primary as primary
-use Rattle.parts.specs.Marks.{nextMark}
-use Rattle.parts.specs.Lists.{here}
-use Rattle.parts.specs.Primaries.{isLiteral}
+use Rattle.parts.specs.State.{nextMark}
+use Rattle.parts.specs.List.{here}
+use Rattle.parts.specs.Primary.{isLiteral}
 use Rattle.parts.specs.declared.state.Mark.{Mark}
 use Rattle.parts.specs.declared.primary.Start.{Start}
 use Rattle.parts.specs.declared.primary.Start.the-variants.{Keyword, Literal, This, Asserts, Name, Mapped, Tuple, Parens, Template, Nothing}

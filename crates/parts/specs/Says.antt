@@ -9,7 +9,7 @@ use Rattle.keys.specs.Store.{Run, _⊕_}
 use Rattle.rules.specs.State as rule
 use Rattle.rules.specs.State.{State, Result, read, refuse}
 use Rattle.rules.specs.List.{count}
-use Rattle.parts.specs.Marks.{view, givenOf, Spelt}
+use Rattle.parts.specs.State.{view, givenOf, Spelt}
 use Rattle.parts.specs.Laid.{runIn, runOpt, optBit, runsOpt, IsNode, IsOpt, AllOpt, Was, was, BuiltAt, Stands, Spoken}
 use Rattle.parts.specs.declared.state.Given.{Given}
 use Rattle.parts.specs.declared.state.Mark.{Mark}

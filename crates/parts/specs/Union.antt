@@ -7,8 +7,8 @@ use lib.Dec.{eqb}
 use Rattle.words.specs.Test.{_and_}
 use Rattle.words.specs.Limits.{tallest}
 use Rattle.words.specs.Cursor.{firstByte}
-use Rattle.parts.specs.Nodes.{Links, MakesList}
-use Rattle.parts.specs.Lists.{here}
+use Rattle.parts.specs.Node.{Links, MakesList}
+use Rattle.parts.specs.List.{here}
 use Rattle.parts.specs.declared.state.Given.{Given}
 use Rattle.parts.specs.declared.state.Mark.{Mark}
 use Rattle.parts.specs.declared.state.Begin.{Begin}

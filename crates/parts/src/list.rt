@@ -1,8 +1,8 @@
 // Lists: what stands between entries, and their end.
 ghost use Prim.Native.Nat.{_*_, _≤_, _<_};
 ghost use lib.ListN.{length};
-ghost use Rattle.parts.specs.Marks.{notingWords, Sound, Inside, Fine, Moved, Under};
-ghost use Rattle.parts.specs.Lists.{Follows, Ends, EndsAt};
+ghost use Rattle.parts.specs.State.{notingWords, Sound, Inside, Fine, Moved, Under};
+ghost use Rattle.parts.specs.List.{Follows, Ends, EndsAt};
 use crate::notes::report_if;
 use crate::refusal::Refusal;
 use crate::state::Answer;

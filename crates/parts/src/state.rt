@@ -6,7 +6,7 @@ ghost use lib.Dec.{eqb};
 ghost use lib.ListN.{length};
 ghost use Rattle.words.specs.Cursor.{kindAt, wholeKind, sameLine, firstByte, endByte};
 ghost use Rattle.words.specs.Limits.{mostText};
-ghost use Rattle.parts.specs.Marks.{Sound, Inside, Moved, nextMark, pastMark};
+ghost use Rattle.parts.specs.State.{Sound, Inside, Moved, nextMark, pastMark};
 use words::cursor::Cursor;
 use words::cursor::whole_kind;
 use words::cursor::word_at;

@@ -3,7 +3,7 @@ ghost use mathlib.Core.Path.{_≡_};
 ghost use Prim.Native.Nat.{_*_, _≤_, _<_};
 ghost use lib.ListN.{length};
 ghost use Rattle.words.specs.Limits.{mostTokens, tallest};
-ghost use Rattle.parts.specs.Marks.{Sound, Fine, Under};
+ghost use Rattle.parts.specs.State.{Sound, Fine, Under};
 ghost use Rattle.parts.specs.Union.{isAlone, Joins, JoinedAt};
 use crate::node::link;
 use crate::node::put_list;

@@ -1,23 +1,2 @@
--- What the readers are proved with: what their loops keep, the numbers of equal structs, and the laws of each rule as its reader takes it.
-pub mod Kept
+-- What the readers ask and answer.
 pub mod Ring
-pub mod ReadyLaws
-pub mod Fields
-pub mod MovedLaws
-pub mod ChildLaws
-pub mod Loops
-pub mod TypeLaws
-pub mod SignatureLaws
-pub mod PredicateLaws
-pub mod ParameterTurns
-pub mod ParamsLaws
-pub mod PartsLaws
-pub mod OperandLaws
-pub mod TrialLaws
-pub mod SuffixLaws
-pub mod StartLaws
-pub mod NamedLaws
-pub mod ListTurns
-pub mod MappedLaws
-pub mod TupleTurns
-pub mod PieceTurns

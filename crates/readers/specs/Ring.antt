@@ -9,16 +9,16 @@ use denote.Triple.Both.{Both}
 use Rattle.words.specs.Limits.{mostTokens, tallest}
 use Rattle.words.specs.Class.{classWords}
 use Rattle.keys.specs.Placed.{Placed, Opt}
-use Rattle.keys.specs.Store.{Run, done}
+use Rattle.keys.specs.Store.{Run, done, _⊕_}
 use Rattle.rules.specs.State as rule
-use Rattle.rules.specs.State.{State, Result, turns}
+use Rattle.rules.specs.State.{State, Result, Reader, read, refuse, turns}
 use Rattle.rules.specs.Function as function
-use Rattle.rules.specs.Function.{ThisParameter}
-use Rattle.parts.specs.Marks.{view, givenOf, Sound, Spelt, Room, Fine, Under, placeOf}
-use Rattle.parts.specs.Laid.{Was, was, BuiltAt, Stands}
+use Rattle.rules.specs.Function.{ThisParameter, Parameters, parametersOf}
+use Rattle.rules.specs.Reading.{readType}
+use Rattle.parts.specs.State.{view, givenOf, Sound, Spelt, Room, Fine, Under, placeOf}
+use Rattle.parts.specs.Laid.{runs, AllNodes, Was, was, BuiltAt, Stands}
 use Rattle.parts.specs.Says.{Says, SaysList, SaysChild, SaysOption}
-use Rattle.parts.specs.Functions.{ThisIs, thisRun, SaysParams}
-use Rattle.parts.specs.Ring.{below, SaysRest}
+use Rattle.parts.specs.Function.{ThisIs, thisRun, SaysParams}
 use Rattle.parts.specs.declared.state.Given.{Given}
 use Rattle.parts.specs.declared.state.Mark.{Mark}
 use Rattle.parts.specs.declared.state.Begin.{Begin}
@@ -27,11 +27,35 @@ use Rattle.parts.specs.declared.state.Answer.{Answer}
 use Rattle.parts.specs.declared.state.Listed.{Listed}
 use Rattle.parts.specs.declared.function.This.{This}
 use Rattle.parts.specs.declared.function.Params.{Params}
-use Rattle.readers.specs.Kept.{Past}
 
 -- A slice at a function's two moments.
 abbrev pub Lent : Type 0
 Lent = Both (RefT (List ℕ)) (RefT (List ℕ))
+
+-- ---- Words of the contracts
+
+-- The reader of types one type rule deeper.
+abbrev pub below : Given → rule.Given → Reader
+below given g = readType g (given .left)
+
+-- Reading went on at least to a place, counted in halves of tokens, with so many nodes in use.
+pub record Past (place used : ℕ) (q : Mark) : Type 0 where
+  pub onward : place ≤ q .at * 2 + q .half
+  pub more : used ≤ q .used
+
+-- The other parameters behind a `this` were read, and stand behind the run t.
+pub record GotRest (B : Was) (t : Run) (th : Opt ThisParameter) (x : Result Parameters) (p : Params) (N M O : List ℕ) : Type 0 where
+  pub list : List Placed
+  pub is : x ≡ read (parametersOf th list) (view (p .m) O)
+  pub this-is : ThisIs (p .this) th
+  pub count-is : p .count ≡ length list
+  pub each : AllNodes 5 list
+  pub built : BuiltAt B (t ⊕ runs 5 list) (p .kids) (p .m) N M O
+
+-- They were read, or refused.
+pub record SaysRest (B : Was) (t : Run) (th : Opt ThisParameter) (x : Result Parameters) (p : Params) (N M O : List ℕ) : Type 0 where
+  pub done : p .why ≡ 0 → GotRest B t th x p N M O
+  pub refused : (p .why ≡ 0 → ⊥) → x ≡ refuse (p .why) (p .m .at) (p .m .half)
 
 -- ---- What is asked
 
@@ -123,15 +147,15 @@ Behind r text words given b high m nodes names notes a =
     (B : Was) (u : Placed) → StoodIn B u high m nodes names notes → b .name ≡ B .named → SaysSince 0 B (r u) text words given m nodes names notes a
 
 -- Parameters in their brackets behind children; the type of a constructor's `this` is none of them.
-abbrev pub Parameters : (text words : Lent) → Given → (isNew : Bool) → Kids → Mark → (nodes names notes : Lent) → Params → Type 0
-Parameters text words given isNew k m nodes names notes p =
+abbrev pub ReadsParams : (text words : Lent) → Given → (isNew : Bool) → Kids → Mark → (nodes names notes : Lent) → Params → Type 0
+ReadsParams text words given isNew k m nodes names notes p =
     (B : Was) (t : Run) → BuiltIn B t k m nodes names notes
     → SaysParams B t (thisRun isNew) (at (λ g. function.parameters g (below given g) isNew) text words given m notes) p
     (nodes .exit .now) (names .exit .now) (notes .exit .now)
 
 -- The others behind a `this`.
-abbrev pub Others : (text words : Lent) → Given → This → Kids → Mark → (nodes names notes : Lent) → Params → Type 0
-Others text words given this k m nodes names notes p =
+abbrev pub ReadsOthers : (text words : Lent) → Given → This → Kids → Mark → (nodes names notes : Lent) → Params → Type 0
+ReadsOthers text words given this k m nodes names notes p =
     (B : Was) (t : Run) (th : Opt ThisParameter) → BuiltIn B t k m nodes names notes → ThisIs this th
     → SaysRest B t th (at (λ g. function.parametersFrom g (below given g) th (turns g) []) text words given m notes) p
     (nodes .exit .now) (names .exit .now) (notes .exit .now)

@@ -20,11 +20,9 @@ ghost use Rattle.rules.specs.Arguments as arguments;
 ghost use Rattle.rules.specs.Mapped as mapped;
 ghost use Rattle.rules.specs.Tuple as tuple;
 ghost use Rattle.rules.specs.Template as template;
-ghost use Rattle.parts.specs.Marks.{Under, placeOf};
+ghost use Rattle.parts.specs.State.{Under, placeOf};
 ghost use Rattle.parts.specs.Onward as onward;
-ghost use Rattle.parts.specs.Ring.{below};
-ghost use Rattle.readers.specs.Kept.{Past};
-ghost use Rattle.readers.specs.Ring.{Ready, Begun, Reads, ReadsList, Child, OnwardChild, Option, Behind, Parameters, Others, Within, WithinList, WithinParams, Onward};
+ghost use Rattle.readers.specs.Ring.{below, Past, Ready, Begun, Reads, ReadsList, Child, OnwardChild, Option, Behind, ReadsParams, ReadsOthers, Within, WithinList, WithinParams, Onward};
 use parts::arguments::named_head;
 use parts::arguments::named_node;
 use parts::arguments::opened;
@@ -508,7 +506,7 @@ fn params(
     m: Mark,
 ) -> Params
     requires { ⌜ Ready (now text) (now words) (now classes) (now nodes) (now notes) given m × Under (m .used) kids ⌝ }
-    ensures { λ r. ⌜ Parameters text words given «is_new» kids m nodes names notes r ⌝ }
+    ensures { λ r. ⌜ ReadsParams text words given «is_new» kids m nodes names notes r ⌝ }
     ensures { λ r. ⌜ WithinParams words given r ⌝ }
     ensures { λ r. ⌜ (r .why ≡ 0 → Past (placeOf m + 1) (m .used) (r .m)) ⌝ }
 {
@@ -570,7 +568,7 @@ fn plist(
     m: Mark,
 ) -> Params
     requires { ⌜ Ready (now text) (now words) (now classes) (now nodes) (now notes) given m × Under (m .used) kids × (this .bits ≤ 3) ⌝ }
-    ensures { λ r. ⌜ Others text words given this kids m nodes names notes r ⌝ }
+    ensures { λ r. ⌜ ReadsOthers text words given this kids m nodes names notes r ⌝ }
     ensures { λ r. ⌜ WithinParams words given r ⌝ }
     ensures { λ r. ⌜ (r .why ≡ 0 → Past (placeOf m + 1) (m .used) (r .m)) ⌝ }
 {

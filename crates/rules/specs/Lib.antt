@@ -21,17 +21,7 @@ pub mod Rules
 pub mod Read
 pub mod Rows
 pub mod FurtherRows
-pub mod TokenLaws
 pub mod Places
-pub mod PlaceLaws
-pub mod FewLaws
 pub mod Told
-pub mod ToldLaws
 pub mod Weight
-pub mod WeightLaws
-pub mod Gives
-pub mod PartLaws
-pub mod RuleLaws
 pub mod Call
-pub mod CallLaws
-pub mod Theorems

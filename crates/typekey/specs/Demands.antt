@@ -21,7 +21,7 @@ use Rattle.keys.proofs.Theorems.{one-standing}
 use Rattle.rules.specs.State.{State}
 use Rattle.rules.specs.Read.{granted, refuses, Called, written}
 use Rattle.rules.specs.Call.{Call, left, grants, keyLeft, Granted, Kept, AllZero, IsRefusal}
-use Rattle.rules.specs.Theorems as rules
+use Rattle.rules.proofs.Theorems as rules
 use Rattle.calls.specs.Reading as reading
 use Rattle.typekey.specs.Taking as taking
 use Rattle.calls.specs.declared.reading.Reading.{Reading}

@@ -15,7 +15,7 @@ use Rattle.rules.specs.Read as rules
 use Rattle.rules.specs.Read.{reads, refuses}
 use Rattle.rules.specs.Call as call
 use Rattle.rules.specs.Call.{Call, left}
-use Rattle.rules.specs.Theorems as theorems
+use Rattle.rules.proofs.Theorems as theorems
 use Rattle.typekey_c.specs.Words.{told, toldBack}
 
 -- ---- Reading

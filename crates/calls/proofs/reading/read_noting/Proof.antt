@@ -4,7 +4,7 @@ use native.Mathlib.Omega.{arith}
 use lib.ListN.{length}
 use Rattle.key_out.proofs.KeyedLaws.{bytes-of}
 use Rattle.rules.specs.Read.{lend}
-use Rattle.rules.specs.TokenLaws.{start-there}
+use Rattle.rules.proofs.TokenLaws.{start-there}
 use Rattle.calls.proofs.Ruled.{sound-list, spelt-list, reading-from, same-lent, few-used, noted-in, held, reads-read, reads-refused}
 use borrow.Author.Needs.{needs}
 use Rattle.calls.proofs.reading.read_noting.Statement.{statement}

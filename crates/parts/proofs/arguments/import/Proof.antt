@@ -4,10 +4,10 @@ use mathlib.Core.List.{[]}
 use Prim.Native.Nat.{_+_, _<_}
 use native.Mathlib.Omega.{arith}
 use lib.ListN.{length}
-use Rattle.parts.specs.Marks.{view, givenOf, Along}
-use Rattle.parts.specs.Naming.{NamedSmall}
-use Rattle.parts.specs.MarkLaws.{along-then}
-use Rattle.parts.specs.ArgumentLaws.{named-refused, import-refused, import-dots, import-read}
+use Rattle.parts.specs.State.{view, givenOf, Along}
+use Rattle.parts.specs.Arguments.{NamedSmall}
+use Rattle.parts.proofs.MarkLaws.{along-then}
+use Rattle.parts.proofs.ArgumentLaws.{named-refused, import-refused, import-dots, import-read}
 use Rattle.parts.specs.declared.arguments.Named.{Named}
 use borrow.Author.Needs.{needs}
 use Rattle.parts.proofs.arguments.import.Statement.{statement}

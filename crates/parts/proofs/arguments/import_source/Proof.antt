@@ -6,11 +6,11 @@ use lib.ListN.{length}
 use Rattle.words.specs.Kind.{RParen, Str, Comma}
 use Rattle.rules.specs.State as rule
 use Rattle.rules.specs.State.{spelling}
-use Rattle.parts.specs.Marks.{view, givenOf, nextMark, namedMark, Along}
-use Rattle.parts.specs.Reported.{takenAt, refusedAt}
-use Rattle.parts.specs.MarkLaws.{is-here, is-not-here, moved-same, moved-next, along-then, along-moved, inside-along}
-use Rattle.parts.specs.StepLaws.{is-at, not-at, answer-refused, answer-read}
-use Rattle.parts.specs.ArgumentLaws.{source-none, source-other, source-comma, source-open, source-read, source-spoken, along-source}
+use Rattle.parts.specs.State.{view, givenOf, nextMark, namedMark, Along}
+use Rattle.parts.specs.Notes.{takenAt, refusedAt}
+use Rattle.parts.proofs.MarkLaws.{is-here, is-not-here, moved-same, moved-next, along-then, along-moved, inside-along}
+use Rattle.parts.proofs.StepLaws.{is-at, not-at, answer-refused, answer-read}
+use Rattle.parts.proofs.ArgumentLaws.{source-none, source-other, source-comma, source-open, source-read, source-spoken, along-source}
 use Rattle.parts.specs.declared.state.Answer.{Answer}
 use Rattle.parts.specs.declared.state.Mark.{Mark}
 use borrow.Author.Needs.{needs}

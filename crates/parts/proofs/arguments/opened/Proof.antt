@@ -3,10 +3,10 @@ use mathlib.Core.Path.{refl, sym, ap, _∙_, subst}
 use mathlib.Core.Bool.{true, false}
 use native.Mathlib.Omega.{arith}
 use lib.ListN.{length}
-use Rattle.parts.specs.Marks.{view}
-use Rattle.parts.specs.Naming.{OpenedAt}
-use Rattle.parts.specs.MarkLaws.{is-here, is-not-here}
-use Rattle.parts.specs.ArgumentLaws.{opened-by}
+use Rattle.parts.specs.State.{view}
+use Rattle.parts.specs.Arguments.{OpenedAt}
+use Rattle.parts.proofs.MarkLaws.{is-here, is-not-here}
+use Rattle.parts.proofs.ArgumentLaws.{opened-by}
 use Rattle.parts.specs.declared.state.Mark.{Mark}
 use borrow.Author.Needs.{needs}
 use Rattle.parts.proofs.arguments.opened.Statement.{statement}

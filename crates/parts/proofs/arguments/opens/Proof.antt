@@ -4,7 +4,7 @@ use native.Mathlib.Omega.{arith}
 use borrow.Author.Tests.{not-true, not-false}
 use Rattle.words.specs.Test.{among}
 use Rattle.keys.proofs.BitsLaws.{clash}
-use Rattle.parts.specs.ArgumentLaws.{openers, no-opener, opens-off, opens-half, opens-by}
+use Rattle.parts.proofs.ArgumentLaws.{openers, no-opener, opens-off, opens-half, opens-by}
 use borrow.Author.Needs.{needs}
 use Rattle.parts.proofs.arguments.opens.Statement.{statement}
 use Rattle.parts.proofs.arguments.opens.Tie as tie

@@ -1,8 +1,8 @@
 -- The diagnostic has no record, or a list is too long, or the node.
 use mathlib.Core.Path.{refl, sym, _∙_}
 use native.Mathlib.Omega.{arith}
-use Rattle.parts.specs.FunctionLaws.{constructor-stops, constructor-long, constructor-put, both-fit, reached-reported}
-use Rattle.parts.specs.MarkLaws.{fine-noted, reached-refused, reached-put}
+use Rattle.parts.proofs.FunctionLaws.{constructor-stops, constructor-long, constructor-put, both-fit, reached-reported}
+use Rattle.parts.proofs.MarkLaws.{fine-noted, reached-refused, reached-put}
 use borrow.Author.Needs.{needs}
 use Rattle.parts.proofs.function.constructor_node.Statement.{statement}
 use Rattle.parts.proofs.function.constructor_node.Tie as tie

@@ -6,8 +6,8 @@ use lib.Dec.{eqb}
 use borrow.Author.Tests.{not-true, not-false, eq-eqb, ne-eqb}
 use Rattle.words.specs.Kind.{Is}
 use Rattle.words.specs.Class.{inClass}
-use Rattle.parts.specs.MarkLaws.{kind-small}
-use Rattle.parts.specs.HeadLaws.{predicates-is}
+use Rattle.parts.proofs.MarkLaws.{kind-small}
+use Rattle.parts.proofs.HeadLaws.{predicates-is}
 use borrow.Author.Needs.{needs}
 use Rattle.parts.proofs.function.predicates.Statement.{statement}
 use Rattle.parts.proofs.function.predicates.Tie as tie

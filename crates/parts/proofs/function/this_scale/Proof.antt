@@ -2,7 +2,7 @@
 use mathlib.Core.Path.{_≡_, refl}
 use Prim.Native.Nat.{ℕ, zero, suc}
 use native.Mathlib.Omega.{arith}
-use Rattle.parts.specs.Functions.{thisScale}
+use Rattle.parts.specs.Function.{thisScale}
 use borrow.Author.Needs.{needs}
 use Rattle.parts.proofs.function.this_scale.Statement.{statement}
 use Rattle.parts.proofs.function.this_scale.Tie as tie

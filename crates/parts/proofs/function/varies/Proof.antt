@@ -3,9 +3,9 @@ use mathlib.Core.Path.{refl, sym, ap, _∙_}
 use mathlib.Core.Bool.{Bool}
 use Rattle.words.specs.Class.{inClass}
 use Rattle.rules.specs.Refusal.{unsupported}
-use Rattle.parts.specs.Functions.{whyIf}
-use Rattle.parts.specs.MarkLaws.{is-here, is-not-here}
-use Rattle.parts.specs.HeadLaws.{varies-is}
+use Rattle.parts.specs.Function.{whyIf}
+use Rattle.parts.proofs.MarkLaws.{is-here, is-not-here}
+use Rattle.parts.proofs.HeadLaws.{varies-is}
 use borrow.Author.Needs.{needs}
 use Rattle.parts.proofs.function.varies.Statement.{statement}
 use Rattle.parts.proofs.function.varies.Tie as tie

@@ -2,10 +2,10 @@
 use mathlib.Core.Path.{subst}
 use native.Mathlib.Omega.{arith}
 use lib.ListN.{length}
-use Rattle.parts.specs.Marks.{givenOf, view, Along}
+use Rattle.parts.specs.State.{givenOf, view, Along}
 use Rattle.parts.specs.Says.{SaysNames, Any, one}
-use Rattle.parts.specs.Named.{oneName}
-use Rattle.parts.specs.LeafLaws.{says-next}
+use Rattle.parts.specs.Names.{oneName}
+use Rattle.parts.proofs.LeafLaws.{says-next}
 use Rattle.parts.specs.declared.state.Mark.{Mark}
 use borrow.Author.Needs.{needs}
 use Rattle.parts.proofs.infer.infer_head.Statement.{statement}

@@ -3,8 +3,8 @@ use mathlib.Core.Path.{sym, subst}
 use mathlib.Core.Bool.{true, false}
 use Prim.Native.Nat.{_≤_}
 use native.Mathlib.Omega.{arith}
-use Rattle.parts.specs.Lists.{EndsAt}
-use Rattle.parts.specs.ListLaws.{ends-refused, ends-done, ends-at}
+use Rattle.parts.specs.List.{EndsAt}
+use Rattle.parts.proofs.ListLaws.{ends-refused, ends-done, ends-at}
 use Rattle.parts.specs.declared.state.Mark.{Mark}
 use Rattle.parts.specs.declared.state.Listed.{Listed}
 use borrow.Author.Needs.{needs}

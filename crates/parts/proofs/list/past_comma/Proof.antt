@@ -2,10 +2,10 @@
 use mathlib.Core.Path.{sym, ap, _∙_, subst}
 use native.Mathlib.Omega.{arith}
 use lib.ListN.{length}
-use Rattle.parts.specs.Marks.{Moved}
-use Rattle.parts.specs.Reported.{takenAt}
-use Rattle.parts.specs.Lists.{closes, goes, stops}
-use Rattle.parts.specs.MarkLaws.{moved-same, moved-next, is-here, is-not-here}
+use Rattle.parts.specs.State.{Moved}
+use Rattle.parts.specs.Notes.{takenAt}
+use Rattle.parts.specs.List.{closes, goes, stops}
+use Rattle.parts.proofs.MarkLaws.{moved-same, moved-next, is-here, is-not-here}
 use Rattle.parts.specs.declared.state.Mark.{Mark}
 use Rattle.parts.specs.declared.state.Answer.{Answer}
 use borrow.Author.Needs.{needs}

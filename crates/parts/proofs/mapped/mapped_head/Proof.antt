@@ -6,12 +6,12 @@ use lib.ListN.{length}
 use Rattle.words.specs.Kind.{Readonly}
 use Rattle.rules.specs.State.{read}
 use Rattle.rules.specs.Mapped as rule
-use Rattle.parts.specs.Marks.{view, givenOf, nextMark, Moved, Along}
-use Rattle.parts.specs.Named.{oneName}
-use Rattle.parts.specs.BuiltLaws.{spoken-from}
-use Rattle.parts.specs.MarkLaws.{is-here, is-not-here, along-then, along-moved, inside-along}
-use Rattle.parts.specs.StepLaws.{names-refused, head-refused, names-read, moved-taken, moved-then, inside-taken, inside-moved, spoken-between}
-use Rattle.parts.specs.MappingLaws.{head-modifier, head-bracket, head-name, head-in, head-read}
+use Rattle.parts.specs.State.{view, givenOf, nextMark, Moved, Along}
+use Rattle.parts.specs.Names.{oneName}
+use Rattle.parts.proofs.BuiltLaws.{spoken-from}
+use Rattle.parts.proofs.MarkLaws.{is-here, is-not-here, along-then, along-moved, inside-along}
+use Rattle.parts.proofs.StepLaws.{names-refused, head-refused, names-read, moved-taken, moved-then, inside-taken, inside-moved, spoken-between}
+use Rattle.parts.proofs.MappingLaws.{head-modifier, head-bracket, head-name, head-in, head-read}
 use Rattle.parts.specs.declared.state.Head.{Head}
 use Rattle.parts.specs.declared.state.Mark.{Mark}
 use borrow.Author.Needs.{needs}

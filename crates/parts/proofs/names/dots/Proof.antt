@@ -7,9 +7,9 @@ use lib.ListN.{length}
 use Rattle.rules.specs.Names as rule
 use Rattle.rules.specs.State.{turns}
 use Rattle.keys.specs.Placed.{Spelling}
-use Rattle.parts.specs.Marks.{AnyGiven, view, givenOf, Spelt, Inside, Along, nextMark}
-use Rattle.parts.specs.MarkLaws.{is-here, is-not-here, moved-next, along-same, along-moved, along-then, inside-along, inside-next}
-use Rattle.parts.specs.NameLaws.{Dotting, dotting-none, dotting-step, dotting-stop, dotting-taken}
+use Rattle.parts.specs.State.{AnyGiven, view, givenOf, Spelt, Inside, Along, nextMark}
+use Rattle.parts.proofs.MarkLaws.{is-here, is-not-here, moved-next, along-same, along-moved, along-then, inside-along, inside-next}
+use Rattle.parts.proofs.NameLaws.{Dotting, dotting-none, dotting-step, dotting-stop, dotting-taken}
 use Rattle.parts.specs.declared.state.Mark.{Mark}
 use Rattle.parts.specs.declared.state.Answer.{Answer}
 use borrow.Author.Needs.{needs}

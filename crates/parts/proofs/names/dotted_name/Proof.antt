@@ -1,9 +1,9 @@
 -- A name, then dots.
 use mathlib.Core.List.{[], _∷_}
 use native.Mathlib.Omega.{arith}
-use Rattle.parts.specs.Marks.{givenOf, view}
-use Rattle.parts.specs.MarkLaws.{along-then}
-use Rattle.parts.specs.NameLaws.{dotted-refused, says-dotted}
+use Rattle.parts.specs.State.{givenOf, view}
+use Rattle.parts.proofs.MarkLaws.{along-then}
+use Rattle.parts.proofs.NameLaws.{dotted-refused, says-dotted}
 use borrow.Author.Needs.{needs}
 use Rattle.parts.proofs.names.dotted_name.Statement.{statement}
 use Rattle.parts.proofs.names.dotted_name.Tie as tie

@@ -5,10 +5,10 @@ use native.Mathlib.Omega.{arith}
 use lib.ListN.{length}
 use borrow.Author.Tests.{not-true, not-false}
 use Rattle.words.specs.Class.{inClass}
-use Rattle.parts.specs.Marks.{Along}
-use Rattle.parts.specs.Reported.{takenAt}
-use Rattle.parts.specs.MarkLaws.{kind-small, class-some, along-same, along-named}
-use Rattle.parts.specs.NameLaws.{says-unnamed, says-named}
+use Rattle.parts.specs.State.{Along}
+use Rattle.parts.specs.Notes.{takenAt}
+use Rattle.parts.proofs.MarkLaws.{kind-small, class-some, along-same, along-named}
+use Rattle.parts.proofs.NameLaws.{says-unnamed, says-named}
 use Rattle.parts.specs.declared.state.Mark.{Mark}
 use Rattle.parts.specs.declared.state.Answer.{Answer}
 use borrow.Author.Needs.{needs}

@@ -2,8 +2,8 @@
 use mathlib.Core.Path.{refl, ap, _∙_}
 use native.Mathlib.Omega.{arith}
 use Rattle.words.specs.Word as five
-use Rattle.parts.specs.MarkLaws.{start-small}
-use Rattle.parts.specs.NameLaws.{speaks-word}
+use Rattle.parts.proofs.MarkLaws.{start-small}
+use Rattle.parts.proofs.NameLaws.{speaks-word}
 use borrow.Author.Needs.{needs}
 use Rattle.parts.proofs.names.spell.Statement.{statement}
 use Rattle.parts.proofs.names.spell.Tie as tie

@@ -1,7 +1,7 @@
 -- The first child, or the next one.
 use mathlib.Core.Path.{refl}
 use native.Mathlib.Omega.{arith}
-use Rattle.parts.specs.NodeLaws.{links-first, links-next}
+use Rattle.parts.proofs.NodeLaws.{links-first, links-next}
 use borrow.Author.Needs.{needs}
 use Rattle.parts.proofs.node.link.Statement.{statement}
 use Rattle.parts.proofs.node.link.Tie as tie

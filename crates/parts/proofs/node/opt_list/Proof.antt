@@ -2,7 +2,7 @@
 use mathlib.Core.Path.{sym, ap}
 use mathlib.Core.Bool.{Bool}
 use native.Mathlib.Omega.{arith}
-use Rattle.parts.specs.Nodes.{optList}
+use Rattle.parts.specs.Node.{optList}
 use borrow.Author.Needs.{needs}
 use Rattle.parts.proofs.node.opt_list.Statement.{statement}
 use Rattle.parts.proofs.node.opt_list.Tie as tie

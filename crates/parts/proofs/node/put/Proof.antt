@@ -1,6 +1,6 @@
 -- The rules' making of a node, test by test.
 use native.Mathlib.Omega.{arith}
-use Rattle.parts.specs.NodeLaws.{makes-tall, makes-full, makes-done, put-refused}
+use Rattle.parts.proofs.NodeLaws.{makes-tall, makes-full, makes-done, put-refused}
 use borrow.Author.Needs.{needs}
 use Rattle.parts.proofs.node.put.Statement.{statement}
 use Rattle.parts.proofs.node.put.Tie as tie

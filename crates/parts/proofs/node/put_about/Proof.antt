@@ -1,8 +1,8 @@
 -- The one child is the tree that was read last.
 use mathlib.Core.Path.{sym, subst}
 use native.Mathlib.Omega.{arith}
-use Rattle.parts.specs.Marks.{Under}
-use Rattle.parts.specs.Nodes.{Makes}
+use Rattle.parts.specs.State.{Under}
+use Rattle.parts.specs.Node.{Makes}
 use Rattle.parts.specs.declared.state.Kids.{Kids}
 use borrow.Author.Needs.{needs}
 use Rattle.parts.proofs.node.put_about.Statement.{statement}

@@ -1,6 +1,6 @@
 -- The list's length first, then as any node.
 use native.Mathlib.Omega.{arith}
-use Rattle.parts.specs.NodeLaws.{makes-long, makes-short, put-refused}
+use Rattle.parts.proofs.NodeLaws.{makes-long, makes-short, put-refused}
 use borrow.Author.Needs.{needs}
 use Rattle.parts.proofs.node.put_list.Statement.{statement}
 use Rattle.parts.proofs.node.put_list.Tie as tie

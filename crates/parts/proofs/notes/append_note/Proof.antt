@@ -1,7 +1,7 @@
 -- Three words stored are one diagnostic.
 use native.Mathlib.Omega.{arith}
 use lib.ListN.{length-set}
-use Rattle.parts.specs.LaidLaws.{notes-three}
+use Rattle.parts.proofs.LaidLaws.{notes-three}
 use borrow.Author.Needs.{needs}
 use Rattle.parts.proofs.notes.append_note.Statement.{statement}
 use Rattle.parts.proofs.notes.append_note.Tie as tie

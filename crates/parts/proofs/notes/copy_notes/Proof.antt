@@ -2,7 +2,7 @@
 use Prim.Native.Nat.{_-_, _≤_}
 use mathlib.Core.Path.{_∙_}
 use native.Mathlib.Omega.{arith}
-use Rattle.parts.specs.RecordLaws.{Copying, copying-none, copying-more, copying-all}
+use Rattle.parts.proofs.RecordLaws.{Copying, copying-none, copying-more, copying-all}
 use Rattle.parts.proofs.notes.copy_notes.Statement.{statement}
 use Rattle.parts.proofs.notes.copy_notes.Tie as tie
 use Rattle.parts.proofs.notes.copy_notes.Reads as reads

@@ -1,8 +1,8 @@
 -- Full by either limit, or one diagnostic more.
 use mathlib.Core.Path.{refl}
 use native.Mathlib.Omega.{arith}
-use Rattle.parts.specs.Reported.{full, noted}
-use Rattle.parts.specs.ReportLaws.{full-most, full-records, full-not, noted-same, noted-one}
+use Rattle.parts.specs.Notes.{full, noted}
+use Rattle.parts.proofs.ReportLaws.{full-most, full-records, full-not, noted-same, noted-one}
 use borrow.Author.Needs.{needs}
 use Rattle.parts.proofs.notes.report.Statement.{statement}
 use Rattle.parts.proofs.notes.report.Tie as tie

@@ -1,7 +1,7 @@
 -- The report where the test holds, else nothing.
 use mathlib.Core.Path.{refl}
-use Rattle.parts.specs.Reported.{silent}
-use Rattle.parts.specs.ReportLaws.{reports-when, noted-same}
+use Rattle.parts.specs.Notes.{silent}
+use Rattle.parts.proofs.ReportLaws.{reports-when, noted-same}
 use borrow.Author.Needs.{needs}
 use Rattle.parts.proofs.notes.report_if.Statement.{statement}
 use Rattle.parts.proofs.notes.report_if.Tie as tie

@@ -1,5 +1,5 @@
 -- One of the three words.
-use Rattle.parts.specs.OperatorLaws.{is-keyof, is-unique, is-readonly}
+use Rattle.parts.proofs.OperatorLaws.{is-keyof, is-unique, is-readonly}
 use Rattle.parts.proofs.operator.operates.Statement.{statement}
 use Rattle.parts.proofs.operator.operates.Tie as tie
 

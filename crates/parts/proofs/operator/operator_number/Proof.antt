@@ -1,6 +1,6 @@
 -- The place among the three words, or behind them.
 use native.Mathlib.Omega.{arith}
-use Rattle.parts.specs.OperatorLaws.{is-keyof, is-unique, number-readonly, number-none}
+use Rattle.parts.proofs.OperatorLaws.{is-keyof, is-unique, number-readonly, number-none}
 use Rattle.parts.proofs.operator.operator_number.Statement.{statement}
 use Rattle.parts.proofs.operator.operator_number.Tie as tie
 

@@ -4,12 +4,12 @@ use mathlib.Core.List.{[]}
 use native.Mathlib.Omega.{arith}
 use Rattle.rules.specs.State.{make, end}
 use Rattle.keys.specs.Placed.{tree}
-use Rattle.parts.specs.Marks.{givenOf, view, nextMark}
-use Rattle.parts.specs.Answers.{says-same, says-as, says-refused}
-use Rattle.parts.specs.PrimaryLaws.{eq-at, ne-at}
-use Rattle.parts.specs.LeafLaws.{fine-next, makes-at}
-use Rattle.parts.specs.MarkLaws.{reached-put, reached-refused}
-use Rattle.parts.specs.RingLaws.{expect-yes}
+use Rattle.parts.specs.State.{givenOf, view, nextMark}
+use Rattle.parts.proofs.Answers.{says-same, says-as, says-refused}
+use Rattle.parts.proofs.PrimaryLaws.{eq-at, ne-at}
+use Rattle.parts.proofs.LeafLaws.{fine-next, makes-at}
+use Rattle.parts.proofs.MarkLaws.{reached-put, reached-refused}
+use Rattle.parts.proofs.RingLaws.{expect-yes}
 use borrow.Author.Needs.{needs}
 use Rattle.parts.proofs.postfix.bracketed.Statement.{statement}
 use Rattle.parts.proofs.postfix.bracketed.Tie as tie

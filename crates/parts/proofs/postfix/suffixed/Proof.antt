@@ -4,8 +4,8 @@ use mathlib.Core.Bool.{not}
 use Prim.Native.Nat.{ℕ, _+_}
 use lib.Dec.{eqb}
 use borrow.Author.Tests.{not-true, not-false}
-use Rattle.parts.specs.PrimaryLaws.{eq-at, ne-at}
-use Rattle.parts.specs.MarkLaws.{or-false}
+use Rattle.parts.proofs.PrimaryLaws.{eq-at, ne-at}
+use Rattle.parts.proofs.MarkLaws.{or-false}
 use Rattle.words.specs.Ahead as ahead
 use borrow.Author.Needs.{needs}
 use Rattle.parts.proofs.postfix.suffixed.Statement.{statement}

@@ -1,8 +1,8 @@
 -- By the look-ahead.
 use mathlib.Core.Path.{sym, _∙_}
 use native.Mathlib.Omega.{arith}
-use Rattle.parts.specs.Marks.{givenOf, view}
-use Rattle.parts.specs.PrimaryLaws.{enclosed-mapped, enclosed-curly}
+use Rattle.parts.specs.State.{givenOf, view}
+use Rattle.parts.proofs.PrimaryLaws.{enclosed-mapped, enclosed-curly}
 use borrow.Author.Needs.{needs}
 use Rattle.parts.proofs.primary.curly.Statement.{statement}
 use Rattle.parts.proofs.primary.curly.Tie as tie

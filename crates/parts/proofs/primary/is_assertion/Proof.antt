@@ -3,8 +3,8 @@ use mathlib.Core.Path.{sym, ap, _∙_}
 use Prim.Native.Nat.{_+_}
 use native.Mathlib.Omega.{arith}
 use borrow.Author.Tests.{not-true, not-false}
-use Rattle.parts.specs.PrimaryLaws.{eq-at, ne-at}
-use Rattle.parts.specs.MarkLaws.{kind-small}
+use Rattle.parts.proofs.PrimaryLaws.{eq-at, ne-at}
+use Rattle.parts.proofs.MarkLaws.{kind-small}
 use Rattle.words.specs.Class as class
 use borrow.Author.Needs.{needs}
 use Rattle.parts.proofs.primary.is_assertion.Statement.{statement}

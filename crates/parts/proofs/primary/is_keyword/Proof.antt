@@ -4,7 +4,7 @@ use mathlib.Core.Bool.{not}
 use Prim.Native.Nat.{ℕ, _+_}
 use lib.Dec.{eqb}
 use Rattle.words.specs.Cursor.{wholeKind}
-use Rattle.parts.specs.PrimaryLaws.{keyword-null, keyword-void, keyword-low, keyword-high, keyword-word}
+use Rattle.parts.proofs.PrimaryLaws.{keyword-null, keyword-void, keyword-low, keyword-high, keyword-word}
 use borrow.Author.Needs.{needs}
 use Rattle.parts.proofs.primary.is_keyword.Statement.{statement}
 use Rattle.parts.proofs.primary.is_keyword.Tie as tie

@@ -1,5 +1,5 @@
 -- Each arm is one of the list.
-use Rattle.parts.specs.PrimaryLaws.{no-literal}
+use Rattle.parts.proofs.PrimaryLaws.{no-literal}
 use Rattle.parts.proofs.primary.is_literal.Statement.{statement}
 use Rattle.parts.proofs.primary.is_literal.Tie as tie
 

@@ -3,8 +3,8 @@ use mathlib.Core.Path.{ap, _∙_}
 use Prim.Native.Nat.{ℕ, _+_}
 use lib.Dec.{eqb}
 use Rattle.words.specs.Cursor.{wholeKind}
-use Rattle.parts.specs.PrimaryLaws.{eq-at, ne-at}
-use Rattle.parts.specs.MarkLaws.{or-false}
+use Rattle.parts.proofs.PrimaryLaws.{eq-at, ne-at}
+use Rattle.parts.proofs.MarkLaws.{or-false}
 use borrow.Author.Needs.{needs}
 use Rattle.parts.proofs.primary.is_negative.Statement.{statement}
 use Rattle.parts.proofs.primary.is_negative.Tie as tie

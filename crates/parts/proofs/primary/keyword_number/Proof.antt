@@ -1,6 +1,6 @@
 -- Each arm is one place of the list.
 use native.Mathlib.Omega.{arith}
-use Rattle.parts.specs.PrimaryLaws.{no-keyword}
+use Rattle.parts.proofs.PrimaryLaws.{no-keyword}
 use Rattle.parts.proofs.primary.keyword_number.Statement.{statement}
 use Rattle.parts.proofs.primary.keyword_number.Tie as tie
 

@@ -5,13 +5,13 @@ use Prim.Native.Nat.{ℕ}
 use native.Mathlib.Omega.{arith}
 use Rattle.rules.specs.State.{spelling, make, end, next}
 use Rattle.keys.specs.Placed.{tree, pick, present, literalSpelling}
-use Rattle.parts.specs.Marks.{givenOf, view, nextMark}
+use Rattle.parts.specs.State.{givenOf, view, nextMark}
 use Rattle.parts.specs.Laid.{nameRun, Shape}
-use Rattle.parts.specs.Primaries.{literalChoices, SaysNegative}
-use Rattle.parts.specs.Answers.{says-same}
-use Rattle.parts.specs.PrimaryLaws.{eq-at, shape-truth, literal-true, literal-false, literal-minus, literal-named, minus-next, negative-is}
-use Rattle.parts.specs.LeafLaws.{fine-next, under-none, plain-says}
-use Rattle.parts.specs.MarkLaws.{reached-put, reached-less}
+use Rattle.parts.specs.Primary.{literalChoices, SaysNegative}
+use Rattle.parts.proofs.Answers.{says-same}
+use Rattle.parts.proofs.PrimaryLaws.{eq-at, shape-truth, literal-true, literal-false, literal-minus, literal-named, minus-next, negative-is}
+use Rattle.parts.proofs.LeafLaws.{fine-next, under-none, plain-says}
+use Rattle.parts.proofs.MarkLaws.{reached-put, reached-less}
 use Rattle.rules.specs.Primary as rule
 use Rattle.rules.specs.State as state
 use Rattle.parts.specs.declared.state.Mark.{Mark}

@@ -1,5 +1,5 @@
 -- By the kind.
-use Rattle.parts.specs.PrimaryLaws.{no-name}
+use Rattle.parts.proofs.PrimaryLaws.{no-name}
 use Rattle.parts.proofs.primary.literal_choices.Statement.{statement}
 use Rattle.parts.proofs.primary.literal_choices.Tie as tie
 

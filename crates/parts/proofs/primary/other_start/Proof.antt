@@ -3,8 +3,8 @@ use mathlib.Core.Path.{refl, sym, ap, _∙_}
 use mathlib.Core.List.{[], _∷_}
 use native.Mathlib.Omega.{arith}
 use Rattle.words.specs.Test.{among}
-use Rattle.parts.specs.PrimaryLaws.{no-mark, reference-name, reference-marked, reference-none}
-use Rattle.parts.specs.MarkLaws.{kind-inside}
+use Rattle.parts.proofs.PrimaryLaws.{no-mark, reference-name, reference-marked, reference-none}
+use Rattle.parts.proofs.MarkLaws.{kind-inside}
 use Rattle.words.specs.Class as class
 use borrow.Author.Needs.{needs}
 use Rattle.parts.proofs.primary.other_start.Statement.{statement}

@@ -2,13 +2,13 @@
 use mathlib.Core.Path.{_≡_, refl, ap, _∙_, subst}
 use Prim.Native.Nat.{_+_, _*_}
 use native.Mathlib.Omega.{arith}
-use Rattle.parts.specs.Marks.{givenOf, view}
+use Rattle.parts.specs.State.{givenOf, view}
 use Rattle.parts.specs.Laid.{Spoken}
 use Rattle.parts.specs.Says.{optNames}
-use Rattle.parts.specs.BuiltLaws.{spoken-from}
+use Rattle.parts.proofs.BuiltLaws.{spoken-from}
 use Rattle.keys.specs.Bits.{unit}
 use Rattle.rules.specs.Function.{subject}
-use Rattle.parts.specs.Lists.{here}
+use Rattle.parts.specs.List.{here}
 use Rattle.parts.specs.declared.state.Mark.{Mark}
 use borrow.Author.Needs.{needs}
 use Rattle.parts.proofs.primary.subject.Statement.{statement}

@@ -1,5 +1,5 @@
 -- The words' answer, and how far on it can be.
-use Rattle.parts.specs.MarkLaws.{end-small}
+use Rattle.parts.proofs.MarkLaws.{end-small}
 use borrow.Author.Needs.{needs}
 use Rattle.parts.proofs.state.end_byte.Statement.{statement}
 use Rattle.parts.proofs.state.end_byte.Tie as tie

@@ -1,6 +1,6 @@
 -- The words' answer, and how far on it can be.
 use native.Mathlib.Omega.{arith}
-use Rattle.parts.specs.MarkLaws.{start-small}
+use Rattle.parts.proofs.MarkLaws.{start-small}
 use borrow.Author.Needs.{needs}
 use Rattle.parts.proofs.state.first_byte.Statement.{statement}
 use Rattle.parts.proofs.state.first_byte.Tie as tie

@@ -2,8 +2,8 @@
 use mathlib.Core.Path.{sym, _∙_, subst}
 use native.Mathlib.Omega.{arith}
 use lib.ListN.{length}
-use Rattle.parts.specs.Marks.{Moved}
-use Rattle.parts.specs.MarkLaws.{moved-same, moved-next, past-here, past-none, is-here, is-not-here}
+use Rattle.parts.specs.State.{Moved}
+use Rattle.parts.proofs.MarkLaws.{moved-same, moved-next, past-here, past-none, is-here, is-not-here}
 use Rattle.parts.specs.declared.state.Mark.{Mark}
 use borrow.Author.Needs.{needs}
 use Rattle.parts.proofs.state.past.Statement.{statement}

@@ -1,7 +1,7 @@
 -- Optional, a rest, or neither: then the diagnostic, where the record says.
 use mathlib.Core.Path.{refl, sym, _∙_}
 use native.Mathlib.Omega.{arith}
-use Rattle.parts.specs.MemberLaws.{checks-optional, checks-rest, checks-other}
+use Rattle.parts.proofs.MemberLaws.{checks-optional, checks-rest, checks-other}
 use borrow.Author.Needs.{needs}
 use Rattle.parts.proofs.tuple.checked.Statement.{statement}
 use Rattle.parts.proofs.tuple.checked.Tie as tie

@@ -1,5 +1,5 @@
 -- By the tag of the last record.
-use Rattle.parts.specs.ElementLaws.{converts-none, converts-one}
+use Rattle.parts.proofs.ElementLaws.{converts-none, converts-one}
 use borrow.Author.Needs.{needs}
 use Rattle.parts.proofs.tuple.convert_type_to_tuple_element.Statement.{statement}
 use Rattle.parts.proofs.tuple.convert_type_to_tuple_element.Tie as tie

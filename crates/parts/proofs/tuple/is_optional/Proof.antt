@@ -1,6 +1,6 @@
 -- The tag first, then the `?` bit of a member.
 use mathlib.Core.Path.{sym, _∙_}
-use Rattle.parts.specs.ElementLaws.{optional-tag, optional-not, optional-bit}
+use Rattle.parts.proofs.ElementLaws.{optional-tag, optional-not, optional-bit}
 use borrow.Author.Needs.{needs}
 use Rattle.parts.proofs.tuple.is_optional.Statement.{statement}
 use Rattle.parts.proofs.tuple.is_optional.Tie as tie

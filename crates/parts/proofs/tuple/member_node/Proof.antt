@@ -2,8 +2,8 @@
 use mathlib.Core.Path.{sym, subst}
 use mathlib.Core.Bool.{Bool}
 use Prim.Native.Nat.{_-_}
-use Rattle.parts.specs.Nodes.{Makes}
-use Rattle.parts.specs.Elements.{memberChoices}
+use Rattle.parts.specs.Node.{Makes}
+use Rattle.parts.specs.Tuple.{memberChoices}
 use borrow.Author.Needs.{needs}
 use Rattle.parts.proofs.tuple.member_node.Statement.{statement}
 use Rattle.parts.proofs.tuple.member_node.Tie as tie

@@ -2,8 +2,8 @@
 use mathlib.Core.Path.{sym, subst}
 use native.Mathlib.Omega.{arith}
 use lib.ListN.{length}
-use Rattle.parts.specs.Marks.{Fine, Under}
-use Rattle.parts.specs.Nodes.{Put, MakesList}
+use Rattle.parts.specs.State.{Fine, Under}
+use Rattle.parts.specs.Node.{Put, MakesList}
 use Rattle.parts.specs.declared.state.Mark.{Mark}
 use borrow.Author.Needs.{needs}
 use Rattle.parts.proofs.tuple.tuple_node.Statement.{statement}

@@ -4,9 +4,9 @@ use native.Mathlib.Omega.{arith}
 use borrow.Author.Needs.{needs}
 use mathlib.Core.Path.{refl, sym, _∙_, ap}
 use Rattle.parts.specs.declared.state.Listed.{Listed}
-use Rattle.readers.specs.Fields.{same-listed}
-use Rattle.readers.specs.ChildLaws.{child-read, child-refused}
-use Rattle.readers.specs.ReadyLaws.{ready}
+use Rattle.readers.proofs.Fields.{same-listed}
+use Rattle.readers.proofs.ChildLaws.{child-read, child-refused}
+use Rattle.readers.proofs.ReadyLaws.{ready}
 use Rattle.parts.proofs.node.link.Reads as link-reads
 use Rattle.parts.proofs.state.Listed.refused.Reads as state-Listed-refused-reads
 use Rattle.readers.proofs.ring.child.Reads as child

@@ -1,8 +1,8 @@
 -- The needs of `elem`.
 use Prim.Native.Nat.{ℕ}
 use native.Mathlib.Omega.{arith}
-use Rattle.parts.specs.MemberLaws.{element-refused, element-says}
-use Rattle.readers.specs.ReadyLaws.{ready}
+use Rattle.parts.proofs.MemberLaws.{element-refused, element-says}
+use Rattle.readers.proofs.ReadyLaws.{ready}
 use Rattle.parts.proofs.tuple.element_head.Reads as element-head-reads
 use Rattle.parts.proofs.tuple.element_node.Reads as element-node-reads
 use Rattle.readers.proofs.ring.elem.Reads as elem

@@ -4,14 +4,14 @@ use native.Mathlib.Omega.{arith}
 use borrow.Author.Needs.{needs}
 use mathlib.Core.Path.{_∙_}
 use Rattle.keys.specs.Placed.{join}
-use Rattle.parts.specs.Answers.{says-same, says-as, says-refused, says-stop, then-read, then-refused}
-use Rattle.parts.specs.MarkLaws.{is-here, is-not-here}
-use Rattle.parts.specs.RingLaws.{conditional-is, question-is, colon-is}
-use Rattle.parts.specs.RingShapes.{shape-conditional}
-use Rattle.readers.specs.Fields.{same-kids, same-answer}
-use Rattle.readers.specs.ChildLaws.{built-child}
-use Rattle.readers.specs.TypeLaws.{question-none, question-some, colon-none, colon-some}
-use Rattle.readers.specs.ReadyLaws.{ready}
+use Rattle.parts.proofs.Answers.{says-same, says-as, says-refused, says-stop, then-read, then-refused}
+use Rattle.parts.proofs.MarkLaws.{is-here, is-not-here}
+use Rattle.parts.proofs.RingLaws.{conditional-is, question-is, colon-is}
+use Rattle.parts.proofs.RingShapes.{shape-conditional}
+use Rattle.readers.proofs.Fields.{same-kids, same-answer}
+use Rattle.readers.proofs.ChildLaws.{built-child}
+use Rattle.readers.proofs.TypeLaws.{question-none, question-some, colon-none, colon-some}
+use Rattle.readers.proofs.ReadyLaws.{ready}
 use Rattle.parts.proofs.node.put.Reads as put-reads
 use Rattle.parts.proofs.state.Answer.refused.Reads as state-Answer-refused-reads
 use Rattle.parts.proofs.state.Kids.one.Reads as one-reads

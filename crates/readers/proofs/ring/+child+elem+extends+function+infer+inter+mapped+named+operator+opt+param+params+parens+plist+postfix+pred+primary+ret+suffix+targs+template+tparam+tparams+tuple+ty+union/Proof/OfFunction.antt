@@ -3,14 +3,14 @@ use Prim.Native.Nat.{ℕ, _-_, _*_, _≤_}
 use native.Mathlib.Omega.{arith}
 use borrow.Author.Needs.{needs}
 use mathlib.Core.Path.{sym, _∙_, ap}
-use Rattle.parts.specs.RingLaws.{signature-is}
-use Rattle.parts.specs.Answers.{then-read, then-refused, says-same, says-as, says-refused, says-stop, says-stops}
-use Rattle.parts.specs.MarkLaws.{is-here, is-not-here}
+use Rattle.parts.proofs.RingLaws.{signature-is}
+use Rattle.parts.proofs.Answers.{then-read, then-refused, says-same, says-as, says-refused, says-stop, says-stops}
+use Rattle.parts.proofs.MarkLaws.{is-here, is-not-here}
 use Rattle.parts.specs.declared.function.This.{This}
-use Rattle.readers.specs.Fields.{same-mark, same-answer}
-use Rattle.readers.specs.MovedLaws.{says-moved}
-use Rattle.readers.specs.SignatureLaws.{function-from, signature-stops, signature-goes, signature-node}
-use Rattle.readers.specs.ReadyLaws.{ready}
+use Rattle.readers.proofs.Fields.{same-mark, same-answer}
+use Rattle.readers.proofs.MovedLaws.{says-moved}
+use Rattle.readers.proofs.SignatureLaws.{function-from, signature-stops, signature-goes, signature-node}
+use Rattle.readers.proofs.ReadyLaws.{ready}
 use Rattle.parts.proofs.function.Params.with.Reads as with-reads
 use Rattle.parts.proofs.function.function_head.Reads as function-head-reads
 use Rattle.parts.proofs.function.function_node.Reads as function-node-reads

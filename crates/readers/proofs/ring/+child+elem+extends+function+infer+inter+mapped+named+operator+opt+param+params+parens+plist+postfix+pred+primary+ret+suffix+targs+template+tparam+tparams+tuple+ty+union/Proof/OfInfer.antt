@@ -2,14 +2,14 @@
 use Prim.Native.Nat.{ℕ}
 use native.Mathlib.Omega.{arith}
 use borrow.Author.Needs.{needs}
-use Rattle.parts.specs.Marks.{view, givenOf}
-use Rattle.parts.specs.Ring.{below}
-use Rattle.parts.specs.Answers.{says-as, says-stop}
-use Rattle.parts.specs.MarkLaws.{is-here, is-not-here}
-use Rattle.parts.specs.PostfixLaws.{infer-refused}
-use Rattle.readers.specs.Fields.{same-kids, same-answer}
-use Rattle.readers.specs.TrialLaws.{bare-put, trial-refused, trial-put}
-use Rattle.readers.specs.ReadyLaws.{ready}
+use Rattle.parts.specs.State.{view, givenOf}
+use Rattle.readers.specs.Ring.{below}
+use Rattle.parts.proofs.Answers.{says-as, says-stop}
+use Rattle.parts.proofs.MarkLaws.{is-here, is-not-here}
+use Rattle.parts.proofs.PostfixLaws.{infer-refused}
+use Rattle.readers.proofs.Fields.{same-kids, same-answer}
+use Rattle.readers.proofs.TrialLaws.{bare-put, trial-refused, trial-put}
+use Rattle.readers.proofs.ReadyLaws.{ready}
 use Rattle.parts.proofs.infer.dropped.Reads as dropped-reads
 use Rattle.parts.proofs.infer.infer_head.Reads as infer-head-reads
 use Rattle.parts.proofs.infer.infer_node.Reads as infer-node-reads

@@ -8,17 +8,17 @@ use Rattle.words.specs.Kind.{Amp}
 use Rattle.keys.specs.Placed as node
 use Rattle.rules.specs.Union as unions
 use Rattle.rules.specs.Operator as operators
-use Rattle.parts.specs.Marks.{view, givenOf, Under, placeOf}
+use Rattle.parts.specs.State.{view, givenOf, Under, placeOf}
 use Rattle.parts.specs.Laid.{was}
-use Rattle.parts.specs.Ring.{below}
-use Rattle.parts.specs.MarkLaws.{is-here, is-not-here}
-use Rattle.parts.specs.RingLaws.{intersection-is}
-use Rattle.parts.specs.RingShapes.{shape-intersection}
-use Rattle.readers.specs.Kept.{Kept}
-use Rattle.readers.specs.Fields.{same-kids}
-use Rattle.readers.specs.Loops.{PartsTurn}
-use Rattle.readers.specs.PartsLaws.{parts-start, part-refused, parts-again, parts-joined}
-use Rattle.readers.specs.ReadyLaws.{ready}
+use Rattle.readers.specs.Ring.{below}
+use Rattle.parts.proofs.MarkLaws.{is-here, is-not-here}
+use Rattle.parts.proofs.RingLaws.{intersection-is}
+use Rattle.parts.proofs.RingShapes.{shape-intersection}
+use Rattle.readers.proofs.Kept.{Kept}
+use Rattle.readers.proofs.Fields.{same-kids}
+use Rattle.readers.proofs.Loops.{PartsTurn}
+use Rattle.readers.proofs.PartsLaws.{parts-start, part-refused, parts-again, parts-joined}
+use Rattle.readers.proofs.ReadyLaws.{ready}
 use Rattle.parts.proofs.node.link.Reads as link-reads
 use Rattle.parts.proofs.state.Kids.none.Reads as state-Kids-none-reads
 use Rattle.parts.proofs.state.kind_at.Reads as kind-at-reads

@@ -3,13 +3,13 @@ use Prim.Native.Nat.{ℕ, _-_, _*_, _≤_}
 use native.Mathlib.Omega.{arith}
 use borrow.Author.Needs.{needs}
 use mathlib.Core.Path.{refl, _∙_}
-use Rattle.parts.specs.Answers.{then-read, then-refused, says-same, says-as, says-stop}
-use Rattle.parts.specs.MappingLaws.{mapped-step, behind-step, mappedContent}
-use Rattle.readers.specs.Fields.{same-kids, same-answer}
-use Rattle.readers.specs.MovedLaws.{built-moved}
-use Rattle.readers.specs.ChildLaws.{built-spoken}
-use Rattle.readers.specs.MappedLaws.{mapped-read, mapped-named, mapped-asked, mapped-typed, mapped-shaped}
-use Rattle.readers.specs.ReadyLaws.{ready}
+use Rattle.parts.proofs.Answers.{then-read, then-refused, says-same, says-as, says-stop}
+use Rattle.parts.proofs.MappingLaws.{mapped-step, behind-step, mappedContent}
+use Rattle.readers.proofs.Fields.{same-kids, same-answer}
+use Rattle.readers.proofs.MovedLaws.{built-moved}
+use Rattle.readers.proofs.ChildLaws.{built-spoken}
+use Rattle.readers.proofs.MappedLaws.{mapped-read, mapped-named, mapped-asked, mapped-typed, mapped-shaped}
+use Rattle.readers.proofs.ReadyLaws.{ready}
 use Rattle.parts.proofs.mapped.mapped_choices.Reads as mapped-choices-reads
 use Rattle.parts.proofs.mapped.mapped_head.Reads as mapped-head-reads
 use Rattle.parts.proofs.mapped.mapped_middle.Reads as mapped-middle-reads

@@ -3,14 +3,14 @@ use Prim.Native.Nat.{ℕ}
 use native.Mathlib.Omega.{arith}
 use borrow.Author.Needs.{needs}
 use mathlib.Core.Path.{_∙_}
-use Rattle.parts.specs.Naming.{namesOf}
-use Rattle.parts.specs.Answers.{then-read, then-refused, says-same, says-as, says-stop}
-use Rattle.parts.specs.NamingLaws.{name-at}
-use Rattle.parts.specs.BuiltLaws.{laid-spoken}
-use Rattle.readers.specs.Fields.{same-answer}
-use Rattle.readers.specs.ChildLaws.{built-behind}
-use Rattle.readers.specs.NamedLaws.{named-read}
-use Rattle.readers.specs.ReadyLaws.{ready}
+use Rattle.parts.specs.Arguments.{namesOf}
+use Rattle.parts.proofs.Answers.{then-read, then-refused, says-same, says-as, says-stop}
+use Rattle.parts.proofs.NamingLaws.{name-at}
+use Rattle.parts.proofs.BuiltLaws.{laid-spoken}
+use Rattle.readers.proofs.Fields.{same-answer}
+use Rattle.readers.proofs.ChildLaws.{built-behind}
+use Rattle.readers.proofs.NamedLaws.{named-read}
+use Rattle.readers.proofs.ReadyLaws.{ready}
 use Rattle.parts.proofs.arguments.named_head.Reads as named-head-reads
 use Rattle.parts.proofs.arguments.named_node.Reads as named-node-reads
 use Rattle.parts.proofs.state.Answer.refused.Reads as state-Answer-refused-reads

@@ -2,12 +2,12 @@
 use Prim.Native.Nat.{ℕ}
 use native.Mathlib.Omega.{arith}
 use borrow.Author.Needs.{needs}
-use Rattle.parts.specs.Marks.{view, givenOf}
-use Rattle.parts.specs.Ring.{below}
-use Rattle.parts.specs.MarkLaws.{is-here, is-not-here}
-use Rattle.parts.specs.RingLaws.{operand-infer, operand-postfix}
-use Rattle.readers.specs.OperandLaws.{operand-refused, operand-about}
-use Rattle.readers.specs.ReadyLaws.{ready}
+use Rattle.parts.specs.State.{view, givenOf}
+use Rattle.readers.specs.Ring.{below}
+use Rattle.parts.proofs.MarkLaws.{is-here, is-not-here}
+use Rattle.parts.proofs.RingLaws.{operand-infer, operand-postfix}
+use Rattle.readers.proofs.OperandLaws.{operand-refused, operand-about}
+use Rattle.readers.proofs.ReadyLaws.{ready}
 use Rattle.parts.proofs.operator.past_operators.Reads as past-operators-reads
 use Rattle.parts.proofs.operator.put_operators.Reads as put-operators-reads
 use Rattle.parts.proofs.state.kind_at.Reads as kind-at-reads

@@ -2,11 +2,11 @@
 use Prim.Native.Nat.{ℕ, _-_, _*_, _≤_}
 use native.Mathlib.Omega.{arith}
 use borrow.Author.Needs.{needs}
-use Rattle.parts.specs.Marks.{givenOf}
-use Rattle.parts.specs.MarkLaws.{is-here, is-not-here}
-use Rattle.parts.specs.Ring.{below}
-use Rattle.readers.specs.ChildLaws.{option-absent, option-there}
-use Rattle.readers.specs.ReadyLaws.{ready}
+use Rattle.parts.specs.State.{givenOf}
+use Rattle.parts.proofs.MarkLaws.{is-here, is-not-here}
+use Rattle.readers.specs.Ring.{below}
+use Rattle.readers.proofs.ChildLaws.{option-absent, option-there}
+use Rattle.readers.proofs.ReadyLaws.{ready}
 use Rattle.parts.proofs.state.kind_at.Reads as kind-at-reads
 use Rattle.readers.proofs.ring.child.Reads as child
 use Rattle.readers.proofs.ring.opt.Reads as opt

@@ -4,13 +4,13 @@ use native.Mathlib.Omega.{arith}
 use borrow.Author.Needs.{needs}
 use mathlib.Core.Path.{_∙_}
 use Rattle.words.specs.Kind.{Dot3}
-use Rattle.parts.specs.Lists.{here}
-use Rattle.parts.specs.Answers.{says-as, says-same, says-stop, then-read, then-refused}
-use Rattle.parts.specs.RingLaws.{parameter-is}
-use Rattle.parts.specs.ParameterLaws.{shape-parameter}
-use Rattle.readers.specs.Fields.{same-kids, same-answer}
-use Rattle.readers.specs.ChildLaws.{built-spoken, shape-as, make-first}
-use Rattle.readers.specs.ReadyLaws.{ready}
+use Rattle.parts.specs.List.{here}
+use Rattle.parts.proofs.Answers.{says-as, says-same, says-stop, then-read, then-refused}
+use Rattle.parts.proofs.RingLaws.{parameter-is}
+use Rattle.parts.proofs.ParameterLaws.{shape-parameter}
+use Rattle.readers.proofs.Fields.{same-kids, same-answer}
+use Rattle.readers.proofs.ChildLaws.{built-spoken, shape-as, make-first}
+use Rattle.readers.proofs.ReadyLaws.{ready}
 use Rattle.parts.proofs.function.param_head.Reads as param-head-reads
 use Rattle.parts.proofs.node.opt_bit.Reads as opt-bit-reads
 use Rattle.parts.proofs.node.put.Reads as put-reads

@@ -4,16 +4,16 @@ use native.Mathlib.Omega.{arith}
 use borrow.Author.Needs.{needs}
 use mathlib.Core.Path.{ap, subst, sym}
 use Rattle.keys.specs.Placed.{absent}
-use Rattle.parts.specs.Marks.{givenOf, Under}
-use Rattle.parts.specs.Functions.{freedUsed}
-use Rattle.parts.specs.Ring.{below}
-use Rattle.parts.specs.ParameterListLaws.{opens-refused, opens-plain}
+use Rattle.parts.specs.State.{givenOf, Under}
+use Rattle.parts.specs.Function.{freedUsed}
+use Rattle.readers.specs.Ring.{below}
+use Rattle.parts.proofs.ParameterListLaws.{opens-refused, opens-plain}
 use Rattle.parts.specs.declared.function.This.{This}
 use Rattle.parts.specs.declared.state.Kids.{Kids}
-use Rattle.readers.specs.Fields.{same-params, same-kids}
-use Rattle.readers.specs.MovedLaws.{built-moved}
-use Rattle.readers.specs.ParamsLaws.{freed-low, freed-high, bit-low, under-this, params-refused, this-none, params-plain, params-this-refused, params-this-stops, params-this}
-use Rattle.readers.specs.ReadyLaws.{ready}
+use Rattle.readers.proofs.Fields.{same-params, same-kids}
+use Rattle.readers.proofs.MovedLaws.{built-moved}
+use Rattle.readers.proofs.ParamsLaws.{freed-low, freed-high, bit-low, under-this, params-refused, this-none, params-plain, params-this-refused, params-this-stops, params-this}
+use Rattle.readers.proofs.ReadyLaws.{ready}
 use Rattle.parts.proofs.function.Params.refused.Reads as function-Params-refused-reads
 use Rattle.parts.proofs.function.This.none.Reads as function-This-none-reads
 use Rattle.parts.proofs.function.before_this.Reads as before-this-reads

@@ -1,10 +1,10 @@
 -- The needs of `parens`.
 use Prim.Native.Nat.{ℕ}
 use native.Mathlib.Omega.{arith}
-use Rattle.parts.specs.Answers.{says-stops, says-same}
-use Rattle.parts.specs.PrimaryLaws.{brackets-is}
-use Rattle.readers.specs.TypeLaws.{brackets-from}
-use Rattle.readers.specs.ReadyLaws.{ready}
+use Rattle.parts.proofs.Answers.{says-stops, says-same}
+use Rattle.parts.proofs.PrimaryLaws.{brackets-is}
+use Rattle.readers.proofs.TypeLaws.{brackets-from}
+use Rattle.readers.proofs.ReadyLaws.{ready}
 use Rattle.parts.proofs.primary.parens_node.Reads as parens-node-reads
 use Rattle.parts.proofs.state.Begin.at.Reads as at-reads
 use Rattle.readers.proofs.ring.parens.Reads as parens

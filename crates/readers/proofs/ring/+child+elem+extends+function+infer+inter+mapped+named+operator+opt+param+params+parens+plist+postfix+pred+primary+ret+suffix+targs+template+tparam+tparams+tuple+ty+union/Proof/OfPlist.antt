@@ -5,21 +5,21 @@ use borrow.Author.Needs.{needs}
 use mathlib.Core.Path.{_∙_}
 use mathlib.Core.List.{List}
 use lib.ListN.{length}
-use Rattle.parts.specs.ParameterListLaws.{parameters-refused, parameters-stop}
-use Rattle.parts.specs.MarkLaws.{is-here, is-not-here}
+use Rattle.parts.proofs.ParameterListLaws.{parameters-refused, parameters-stop}
+use Rattle.parts.proofs.MarkLaws.{is-here, is-not-here}
 use Rattle.words.specs.Kind.{Dot3}
 use Rattle.keys.specs.Placed.{Opt}
 use Rattle.keys.specs.Store.{Run}
 use Rattle.rules.specs.Function.{ThisParameter}
-use Rattle.parts.specs.Marks.{view, givenOf, Spelt, Under, placeOf}
+use Rattle.parts.specs.State.{view, givenOf, Spelt, Under, placeOf}
 use Rattle.parts.specs.Laid.{Was, BuiltAt}
-use Rattle.parts.specs.Ring.{below}
-use Rattle.readers.specs.Kept.{Kept}
-use Rattle.readers.specs.Fields.{same-params}
-use Rattle.readers.specs.MovedLaws.{built-moved}
-use Rattle.readers.specs.Loops.{ParametersTurn}
-use Rattle.readers.specs.ParameterTurns.{why-none, separates-as, rest-refused, turn-none, parameters-why, turn-parameter, rest-all}
-use Rattle.readers.specs.ReadyLaws.{ready}
+use Rattle.readers.specs.Ring.{below}
+use Rattle.readers.proofs.Kept.{Kept}
+use Rattle.readers.proofs.Fields.{same-params}
+use Rattle.readers.proofs.MovedLaws.{built-moved}
+use Rattle.readers.proofs.Loops.{ParametersTurn}
+use Rattle.readers.proofs.ParameterTurns.{why-none, separates-as, rest-refused, turn-none, parameters-why, turn-parameter, rest-all}
+use Rattle.readers.proofs.ReadyLaws.{ready}
 use Rattle.parts.proofs.function.Params.all.Reads as all-reads
 use Rattle.parts.proofs.function.Params.refused.Reads as function-Params-refused-reads
 use Rattle.parts.proofs.function.no_param.Reads as no-param-reads

@@ -5,16 +5,16 @@ use borrow.Author.Needs.{needs}
 use mathlib.Core.Path.{_∙_, ap}
 use Rattle.words.specs.Kind as kind
 use Rattle.rules.specs.Function as function
-use Rattle.parts.specs.Marks.{view, givenOf}
-use Rattle.parts.specs.Lists.{here}
+use Rattle.parts.specs.State.{view, givenOf}
+use Rattle.parts.specs.List.{here}
 use Rattle.parts.specs.Onward.{subjectAt, subjectMark}
-use Rattle.parts.specs.Primaries.{predicateChoices}
-use Rattle.parts.specs.Answers.{says-as, says-same, says-stop, then-read, then-refused}
-use Rattle.parts.specs.RingShapes.{shape-predicate}
-use Rattle.readers.specs.Fields.{same-kids, same-answer}
-use Rattle.readers.specs.ChildLaws.{built-spoken, shape-as, make-first}
-use Rattle.readers.specs.PredicateLaws.{predicate-small, predicate-starts, subject-this}
-use Rattle.readers.specs.ReadyLaws.{ready}
+use Rattle.parts.specs.Primary.{predicateChoices}
+use Rattle.parts.proofs.Answers.{says-as, says-same, says-stop, then-read, then-refused}
+use Rattle.parts.proofs.RingShapes.{shape-predicate}
+use Rattle.readers.proofs.Fields.{same-kids, same-answer}
+use Rattle.readers.proofs.ChildLaws.{built-spoken, shape-as, make-first}
+use Rattle.readers.proofs.PredicateLaws.{predicate-small, predicate-starts, subject-this}
+use Rattle.readers.proofs.ReadyLaws.{ready}
 use Rattle.parts.proofs.node.opt_bit.Reads as opt-bit-reads
 use Rattle.parts.proofs.node.put.Reads as put-reads
 use Rattle.parts.proofs.primary.subject.Reads as subject-reads

@@ -2,10 +2,10 @@
 use Prim.Native.Nat.{ℕ}
 use native.Mathlib.Omega.{arith}
 use borrow.Author.Needs.{needs}
-use Rattle.parts.specs.Answers.{says-same, says-as, says-stop}
-use Rattle.readers.specs.Fields.{same-answer}
-use Rattle.readers.specs.StartLaws.{start-is, start-has}
-use Rattle.readers.specs.ReadyLaws.{ready}
+use Rattle.parts.proofs.Answers.{says-same, says-as, says-stop}
+use Rattle.readers.proofs.Fields.{same-answer}
+use Rattle.readers.proofs.StartLaws.{start-is, start-has}
+use Rattle.readers.proofs.ReadyLaws.{ready}
 use Rattle.parts.proofs.primary.keyword.Reads as keyword-reads
 use Rattle.parts.proofs.primary.literal.Reads as literal-reads
 use Rattle.parts.proofs.primary.primary_start.Reads as primary-start-reads

@@ -4,11 +4,11 @@ use native.Mathlib.Omega.{arith}
 use borrow.Author.Needs.{needs}
 use mathlib.Core.Path.{sym, _∙_}
 use mathlib.Core.List.{[]}
-use Rattle.parts.specs.Marks.{view, givenOf}
-use Rattle.parts.specs.Answers.{says-same}
-use Rattle.parts.specs.PrimaryLaws.{return-type, return-predicate}
-use Rattle.readers.specs.PredicateLaws.{predicates-inside}
-use Rattle.readers.specs.ReadyLaws.{ready}
+use Rattle.parts.specs.State.{view, givenOf}
+use Rattle.parts.proofs.Answers.{says-same}
+use Rattle.parts.proofs.PrimaryLaws.{return-type, return-predicate}
+use Rattle.readers.proofs.PredicateLaws.{predicates-inside}
+use Rattle.readers.proofs.ReadyLaws.{ready}
 use Rattle.parts.proofs.function.predicates.Reads as predicates-reads
 use Rattle.readers.proofs.ring.pred.Reads as pred
 use Rattle.readers.proofs.ring.ret.Reads as ret

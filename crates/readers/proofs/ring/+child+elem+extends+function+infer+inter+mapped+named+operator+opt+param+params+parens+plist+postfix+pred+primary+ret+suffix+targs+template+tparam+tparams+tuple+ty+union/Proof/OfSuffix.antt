@@ -4,17 +4,17 @@ use native.Mathlib.Omega.{arith}
 use borrow.Author.Needs.{needs}
 use borrow.Author.Tests.{not-true, not-false}
 use mathlib.Core.Path.{refl, sym, _∙_}
-use Rattle.parts.specs.LeafLaws.{stands-on}
+use Rattle.parts.proofs.LeafLaws.{stands-on}
 use Rattle.keys.specs.Placed.{join}
-use Rattle.parts.specs.Marks.{view, givenOf}
+use Rattle.parts.specs.State.{view, givenOf}
 use Rattle.parts.specs.Laid.{runIn}
-use Rattle.parts.specs.Ring.{below}
-use Rattle.parts.specs.Answers.{says-as, says-stop, says-same, then-read, then-refused}
-use Rattle.parts.specs.MarkLaws.{is-here, is-not-here}
-use Rattle.parts.specs.PostfixLaws.{suffix-bang, suffix-asked, suffix-array, suffix-index, shape-non-null, shape-asked, shape-indexed}
-use Rattle.readers.specs.Fields.{same-kids, same-answer}
-use Rattle.readers.specs.ChildLaws.{built-child}
-use Rattle.readers.specs.ReadyLaws.{ready}
+use Rattle.readers.specs.Ring.{below}
+use Rattle.parts.proofs.Answers.{says-as, says-stop, says-same, then-read, then-refused}
+use Rattle.parts.proofs.MarkLaws.{is-here, is-not-here}
+use Rattle.parts.proofs.PostfixLaws.{suffix-bang, suffix-asked, suffix-array, suffix-index, shape-non-null, shape-asked, shape-indexed}
+use Rattle.readers.proofs.Fields.{same-kids, same-answer}
+use Rattle.readers.proofs.ChildLaws.{built-child}
+use Rattle.readers.proofs.ReadyLaws.{ready}
 use Rattle.parts.proofs.node.put_about.Reads as put-about-reads
 use Rattle.parts.proofs.postfix.array.Reads as array-reads
 use Rattle.parts.proofs.postfix.bracketed.Reads as bracketed-reads

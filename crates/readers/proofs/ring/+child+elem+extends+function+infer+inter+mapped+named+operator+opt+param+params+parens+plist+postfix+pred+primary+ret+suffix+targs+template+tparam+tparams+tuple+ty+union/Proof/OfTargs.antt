@@ -9,17 +9,17 @@ use mathlib.Core.List.{[]}
 use lib.ListN.{length}
 use Rattle.words.specs.Kind.{RAngle}
 use Rattle.rules.specs.State.{first, turns}
-use Rattle.parts.specs.MarkLaws.{is-here, is-not-here}
-use Rattle.parts.specs.RingLaws.{arguments-none, arguments-some, endArguments}
-use Rattle.parts.specs.Turns.{looped}
-use Rattle.parts.specs.Marks.{view, givenOf, Under, placeOf}
+use Rattle.parts.proofs.MarkLaws.{is-here, is-not-here}
+use Rattle.parts.proofs.RingLaws.{arguments-none, arguments-some, endArguments}
+use Rattle.parts.proofs.Turns.{looped}
+use Rattle.parts.specs.State.{view, givenOf, Under, placeOf}
 use Rattle.parts.specs.Laid.{was}
-use Rattle.parts.specs.Ring.{below}
-use Rattle.readers.specs.Kept.{Kept}
-use Rattle.readers.specs.Fields.{same-kids, same-listed}
-use Rattle.readers.specs.Loops.{ArgumentsTurn}
-use Rattle.readers.specs.ListTurns.{listed-absent, listed-refused, listed-stops, turn-starts, turn-refused, turn-stops, turn-child, turn-ends}
-use Rattle.readers.specs.ReadyLaws.{ready}
+use Rattle.readers.specs.Ring.{below}
+use Rattle.readers.proofs.Kept.{Kept}
+use Rattle.readers.proofs.Fields.{same-kids, same-listed}
+use Rattle.readers.proofs.Loops.{ArgumentsTurn}
+use Rattle.readers.proofs.ListTurns.{listed-absent, listed-refused, listed-stops, turn-starts, turn-refused, turn-stops, turn-child, turn-ends}
+use Rattle.readers.proofs.ReadyLaws.{ready}
 use Rattle.parts.proofs.arguments.opened.Reads as opened-reads
 use Rattle.parts.proofs.arguments.opens.Reads as opens-reads
 use Rattle.parts.proofs.list.list_end.Reads as list-end-reads

@@ -4,19 +4,19 @@ use native.Mathlib.Omega.{arith}
 use borrow.Author.Needs.{needs}
 use mathlib.Core.Path.{_≡_, sym, _∙_}
 use lib.ListN.{length}
-use Rattle.parts.specs.MarkLaws.{is-not-here}
-use Rattle.parts.specs.Answers.{says-as, says-same, says-stop}
+use Rattle.parts.proofs.MarkLaws.{is-not-here}
+use Rattle.parts.proofs.Answers.{says-as, says-same, says-stop}
 use Rattle.words.specs.Kind.{TemplateHead}
 use Rattle.words.specs.Cursor.{kindAt}
 use Rattle.rules.specs.State.{spelling}
-use Rattle.parts.specs.Marks.{view, givenOf, Under, placeOf}
+use Rattle.parts.specs.State.{view, givenOf, Under, placeOf}
 use Rattle.parts.specs.Laid.{nameRun, Was, was, Laid}
-use Rattle.parts.specs.Ring.{below}
-use Rattle.readers.specs.Kept.{Kept}
-use Rattle.readers.specs.Fields.{same-mark, same-kids, same-answer}
-use Rattle.readers.specs.Loops.{PiecesTurn}
-use Rattle.readers.specs.PieceTurns.{laid-head, pieces-start, template-starts, pieces-refused, pieces-stop, pieces-again, pieces-end}
-use Rattle.readers.specs.ReadyLaws.{ready}
+use Rattle.readers.specs.Ring.{below}
+use Rattle.readers.proofs.Kept.{Kept}
+use Rattle.readers.proofs.Fields.{same-mark, same-kids, same-answer}
+use Rattle.readers.proofs.Loops.{PiecesTurn}
+use Rattle.readers.proofs.PieceTurns.{laid-head, pieces-start, template-starts, pieces-refused, pieces-stop, pieces-again, pieces-end}
+use Rattle.readers.proofs.ReadyLaws.{ready}
 use Rattle.parts.proofs.names.spell.Reads as spell-reads
 use Rattle.parts.proofs.node.put_list.Reads as put-list-reads
 use Rattle.parts.proofs.state.Answer.refused.Reads as state-Answer-refused-reads

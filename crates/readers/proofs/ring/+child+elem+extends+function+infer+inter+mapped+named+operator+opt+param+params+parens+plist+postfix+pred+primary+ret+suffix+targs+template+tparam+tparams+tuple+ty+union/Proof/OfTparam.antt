@@ -3,12 +3,12 @@ use Prim.Native.Nat.{ℕ, _-_, _*_, _≤_}
 use native.Mathlib.Omega.{arith}
 use borrow.Author.Needs.{needs}
 use mathlib.Core.Path.{_∙_}
-use Rattle.parts.specs.Answers.{says-as, says-same, says-stop, then-read, then-refused}
-use Rattle.parts.specs.RingLaws.{type-parameter}
-use Rattle.parts.specs.ParameterLaws.{shape-typeParameter}
-use Rattle.readers.specs.Fields.{same-kids, same-answer}
-use Rattle.readers.specs.ChildLaws.{built-spoken, shape-as, make-first}
-use Rattle.readers.specs.ReadyLaws.{ready}
+use Rattle.parts.proofs.Answers.{says-as, says-same, says-stop, then-read, then-refused}
+use Rattle.parts.proofs.RingLaws.{type-parameter}
+use Rattle.parts.proofs.ParameterLaws.{shape-typeParameter}
+use Rattle.readers.proofs.Fields.{same-kids, same-answer}
+use Rattle.readers.proofs.ChildLaws.{built-spoken, shape-as, make-first}
+use Rattle.readers.proofs.ReadyLaws.{ready}
 use Rattle.parts.proofs.function.type_param_head.Reads as type-param-head-reads
 use Rattle.parts.proofs.node.opt_bit.Reads as opt-bit-reads
 use Rattle.parts.proofs.node.put.Reads as put-reads

@@ -5,16 +5,16 @@ use borrow.Author.Needs.{needs}
 use mathlib.Core.Path.{refl}
 use mathlib.Core.List.{List}
 use lib.ListN.{length}
-use Rattle.parts.specs.MarkLaws.{is-here, is-not-here}
-use Rattle.parts.specs.RingLaws.{types-none, types-some}
-use Rattle.parts.specs.Marks.{view, givenOf, Spelt, Under, placeOf}
+use Rattle.parts.proofs.MarkLaws.{is-here, is-not-here}
+use Rattle.parts.proofs.RingLaws.{types-none, types-some}
+use Rattle.parts.specs.State.{view, givenOf, Spelt, Under, placeOf}
 use Rattle.parts.specs.Laid.{was}
-use Rattle.parts.specs.Ring.{below}
-use Rattle.readers.specs.Kept.{Kept}
-use Rattle.readers.specs.Fields.{same-kids, same-listed}
-use Rattle.readers.specs.Loops.{TypesTurn}
-use Rattle.readers.specs.ListTurns.{listed-absent, listed-refused, turn-starts, turn-refused, turn-stops, turn-again, turn-ends}
-use Rattle.readers.specs.ReadyLaws.{ready}
+use Rattle.readers.specs.Ring.{below}
+use Rattle.readers.proofs.Kept.{Kept}
+use Rattle.readers.proofs.Fields.{same-kids, same-listed}
+use Rattle.readers.proofs.Loops.{TypesTurn}
+use Rattle.readers.proofs.ListTurns.{listed-absent, listed-refused, turn-starts, turn-refused, turn-stops, turn-again, turn-ends}
+use Rattle.readers.proofs.ReadyLaws.{ready}
 use Rattle.parts.proofs.list.list_end.Reads as list-end-reads
 use Rattle.parts.proofs.list.past_comma.Reads as past-comma-reads
 use Rattle.parts.proofs.node.link.Reads as link-reads

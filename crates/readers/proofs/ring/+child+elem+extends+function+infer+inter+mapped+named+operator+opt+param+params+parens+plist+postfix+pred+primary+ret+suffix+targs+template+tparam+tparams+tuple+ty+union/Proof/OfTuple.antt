@@ -5,18 +5,18 @@ use borrow.Author.Needs.{needs}
 use mathlib.Core.Path.{_≡_}
 use mathlib.Core.List.{List}
 use lib.ListN.{length}
-use Rattle.parts.specs.Answers.{says-same, says-as, says-stop}
-use Rattle.parts.specs.MarkLaws.{is-here, is-not-here}
+use Rattle.parts.proofs.Answers.{says-same, says-as, says-stop}
+use Rattle.parts.proofs.MarkLaws.{is-here, is-not-here}
 use Rattle.words.specs.Kind.{LBrack}
 use Rattle.words.specs.Cursor.{kindAt}
-use Rattle.parts.specs.Marks.{view, givenOf, Spelt, Under, placeOf}
+use Rattle.parts.specs.State.{view, givenOf, Spelt, Under, placeOf}
 use Rattle.parts.specs.Laid.{was}
-use Rattle.parts.specs.Ring.{below}
-use Rattle.readers.specs.Kept.{Kept}
-use Rattle.readers.specs.Fields.{same-kids, same-answer}
-use Rattle.readers.specs.Loops.{TupleTurn}
-use Rattle.readers.specs.TupleTurns.{tuple-begins, tuple-refused, tuple-full, tuple-stops, tuple-again, tuple-closed, tuple-listed}
-use Rattle.readers.specs.ReadyLaws.{ready}
+use Rattle.readers.specs.Ring.{below}
+use Rattle.readers.proofs.Kept.{Kept}
+use Rattle.readers.proofs.Fields.{same-kids, same-answer}
+use Rattle.readers.proofs.Loops.{TupleTurn}
+use Rattle.readers.proofs.TupleTurns.{tuple-begins, tuple-refused, tuple-full, tuple-stops, tuple-again, tuple-closed, tuple-listed}
+use Rattle.readers.proofs.ReadyLaws.{ready}
 use Rattle.parts.proofs.list.past_comma.Reads as past-comma-reads
 use Rattle.parts.proofs.node.link.Reads as link-reads
 use Rattle.parts.proofs.state.Answer.refused.Reads as state-Answer-refused-reads

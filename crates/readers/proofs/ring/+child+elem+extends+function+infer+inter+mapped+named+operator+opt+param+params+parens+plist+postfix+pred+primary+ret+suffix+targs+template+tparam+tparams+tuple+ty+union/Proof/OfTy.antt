@@ -4,12 +4,12 @@ use native.Mathlib.Omega.{arith}
 use borrow.Author.Needs.{needs}
 use borrow.Author.Tests.{not-true, not-false}
 use mathlib.Core.Path.{sym, _∙_}
-use Rattle.parts.specs.Answers.{says-same, says-as, says-refused, says-stops, says-passed}
-use Rattle.parts.specs.MarkLaws.{is-here, is-not-here}
-use Rattle.parts.specs.RingLaws.{type-none, type-function, type-other, union-or}
-use Rattle.readers.specs.Fields.{same-answer}
-use Rattle.readers.specs.TypeLaws.{union-off, union-apart, union-alone, union-goes}
-use Rattle.readers.specs.ReadyLaws.{ready}
+use Rattle.parts.proofs.Answers.{says-same, says-as, says-refused, says-stops, says-passed}
+use Rattle.parts.proofs.MarkLaws.{is-here, is-not-here}
+use Rattle.parts.proofs.RingLaws.{type-none, type-function, type-other, union-or}
+use Rattle.readers.proofs.Fields.{same-answer}
+use Rattle.readers.proofs.TypeLaws.{union-off, union-apart, union-alone, union-goes}
+use Rattle.readers.proofs.ReadyLaws.{ready}
 use Rattle.parts.proofs.function.begins.Reads as begins-reads
 use Rattle.parts.proofs.state.Answer.refused.Reads as state-Answer-refused-reads
 use Rattle.parts.proofs.state.Begin.at.Reads as at-reads

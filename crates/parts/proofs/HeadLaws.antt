@@ -1,0 +1,108 @@
+-- Function types before their types: what the rules' tests come to, by what stands at the cursor.
+use mathlib.Core.Path.{_≡_, refl, sym, ap, _∙_}
+use mathlib.Core.Bool.{Bool, true, false}
+use mathlib.Core.List.{List}
+use Prim.Native.Nat.{ℕ, _+_, _*_}
+use native.Mathlib.Omega.{arith}
+use lib.Dec.{eqb}
+use Rattle.words.specs.Kind.{Question, Dot3, Const, In, Out, Is, This}
+use Rattle.words.specs.Test.{_and_, _or_, test}
+use Rattle.words.specs.Class as class
+use Rattle.words.specs.Cursor.{wholeKind, kindAt, sameLine}
+use Rattle.keys.specs.Bits.{unit}
+use Rattle.keys.specs.Placed.{Spelling}
+use Rattle.rules.specs.Refusal.{unsupported}
+use Rattle.rules.specs.State as rule
+use Rattle.rules.specs.State.{State, Result, read, refuse, then, past}
+use Rattle.rules.specs.TypeParameters as types
+use Rattle.rules.specs.Function as function
+use Rattle.parts.specs.State.{view, givenOf, pastMark, Moved}
+use Rattle.parts.specs.Says.{SaysNames, Any, one}
+use Rattle.parts.specs.Names.{oneName}
+use Rattle.parts.specs.List.{here}
+use Rattle.parts.specs.Function.{whyIf, typeParameterHead, parameterHead}
+use Rattle.parts.proofs.Answers.{then-read, then-refused}
+use Rattle.parts.proofs.BuiltLaws.{spoken-from, spoken-to}
+use Rattle.parts.proofs.StepLaws.{view-past, names-refused, names-same}
+use Rattle.parts.specs.declared.state.Given.{Given}
+use Rattle.parts.specs.declared.state.Mark.{Mark}
+
+-- ---- Tests, by what each of their parts answers
+
+module _ (text W O : List ℕ) (given : Given) (m : Mark) where
+  pub varies-is : {a b c d : Bool} → here W Const m ≡ a → here W In m ≡ b → here W Out m ≡ c → class.bindingWord (wholeKind W (m .at + 1)) ≡ d
+      → types.varies (givenOf text W given) (view m O) ≡ (a or b or (c and d))
+  varies-is p q r s = rw (p, q, r, s)
+
+  pub predicates-is : {a b c : Bool} → class.name (kindAt W (m .at) (m .half)) ≡ a → eqb (wholeKind W (m .at + 1)) Is ≡ b → sameLine W (m .at + 1) 0 ≡ c
+      → function.predicates (givenOf text W given) (view m O) ≡ (a and b and c)
+  predicates-is p q r = rw (p, q, r)
+
+-- ---- A type parameter up to its constraint
+
+why-some : (b : Bool) (why : ℕ) → why ≡ whyIf b unsupported → (why ≡ 0 → ⊥) → (b ≡ true) × (why ≡ unsupported)
+why-some true why e n = (refl, e)
+why-some false why e n = absurd (n e)
+
+why-none : (b : Bool) (why : ℕ) → why ≡ whyIf b unsupported → why ≡ 0 → b ≡ false
+why-none true why e n = absurd (let z : unsupported ≡ 0 = sym e ∙ n in omega arith)
+why-none false why e n = refl
+
+module _ (g : rule.Given) (s : State) (why : ℕ) (e : why ≡ whyIf (types.varies g s) unsupported) where
+  type-head-refused : (why ≡ 0 → ⊥) → typeParameterHead g s ≡ refuse why (s .at) (s .half)
+  type-head-refused n = let w = why-some (types.varies g s) why e n in rw (w .0, w .1)
+
+  type-head-named : why ≡ 0 → typeParameterHead g s ≡ oneName 0 g s
+  type-head-named n = rw (why-none (types.varies g s) why e n)
+
+module _ (text W O : List ℕ) (given : Given) (m : Mark) (why : ℕ) (e : why ≡ whyIf (types.varies (givenOf text W given) (view m O)) unsupported) {M M' : List ℕ} where
+  pub type-head-stops : (why ≡ 0 → ⊥) → SaysNames one Any (typeParameterHead (givenOf text W given) (view m O)) why m m M M' O
+  type-head-stops n = names-refused n (type-head-refused (givenOf text W given) (view m O) why e n)
+
+  pub type-head-says : {w : ℕ} {q : Mark} → why ≡ 0 → SaysNames one Any (oneName 0 (givenOf text W given) (view m O)) w m q M M' O
+      → SaysNames one Any (typeParameterHead (givenOf text W given) (view m O)) w m q M M' O
+  type-head-says n w = names-same (type-head-named (givenOf text W given) (view m O) why e n) w
+
+-- ---- A parameter up to its type
+
+-- From behind the dots, if they stood there.
+abbrev headFrom : rule.Given → Bool → State → Result (Spelling × Bool)
+headFrom g isRest s =
+    test (isRest and rule.stands g This s) (λ _. rule.refused unsupported s) λ _.
+    then (oneName 0 g s) λ x q.
+    read (x, rule.stands g Question q) (past g Question q)
+
+module _ (text W O : List ℕ) (given : Given) (m p : Mark) (e : p ≡ pastMark W Dot3 m) where
+  head-from : parameterHead (givenOf text W given) (view m O) ≡ headFrom (givenOf text W given) (here W Dot3 m) (view p O)
+  head-from = ap (headFrom (givenOf text W given) (here W Dot3 m)) (sym (ap (λ (x : Mark). view x O) e ∙ view-past text W given Dot3 m O))
+
+  -- A `this` stands behind the dots.
+  pub head-this : (here W Dot3 m and here W This p) ≡ true → parameterHead (givenOf text W given) (view m O) ≡ refuse unsupported (p .at) (p .half)
+  head-this h = head-from ∙ rw h
+
+  head-named : (here W Dot3 m and here W This p) ≡ false
+      → parameterHead (givenOf text W given) (view m O)
+      ≡ then (oneName 0 (givenOf text W given) (view p O)) λ x q. read (x, rule.stands (givenOf text W given) Question q) (past (givenOf text W given) Question q)
+  head-named h = head-from ∙ rw h
+
+  module _ (h : (here W Dot3 m and here W This p) ≡ false) {why : ℕ} {q : Mark} {M M' : List ℕ} (w : SaysNames one Any (oneName 0 (givenOf text W given) (view p O)) why p q M M' O) where
+    -- No name stands there.
+    pub parameter-head-refused : (why ≡ 0 → ⊥) → parameterHead (givenOf text W given) (view m O) ≡ refuse why (q .at) (q .half)
+    parameter-head-refused n = head-named h ∙ then-refused _ (w .refused n)
+
+    -- The name was read, and a `?` passed if it stands there.
+    pub parameter-head-read : {len len' : ℕ} (r : Mark) (choices : ℕ) → why ≡ 0 → r ≡ pastMark W Question q → Moved len m p → Moved len' q r
+        → choices ≡ unit (here W Dot3 m) + 2 * unit (here W Question q)
+        → SaysNames (λ x. one (x .0)) (λ x. choices ≡ unit (here W Dot3 m) + 2 * unit (x .1)) (parameterHead (givenOf text W given) (view m O)) 0 m r M M' O
+    parameter-head-read r choices z f a b c =
+        let got = w .done z in
+        record {
+          done = λ _.
+              record {
+                what = (got .what, here W Question q);
+                is = head-named h ∙ then-read _ (got .is) ∙ ap (read (got .what, here W Question q)) (sym (ap (λ (x : Mark). view x O) f ∙ view-past text W given Question q O));
+                such = c;
+                spoken = spoken-from m (sym (a .used-is)) (sym (a .named-is)) (sym (a .noted-is)) (spoken-to r (b .used-is) (b .named-is) (b .noted-is) (got .spoken));
+              };
+          refused = λ n. absurd (n refl);
+        }

@@ -1,0 +1,117 @@
+-- Infer and postfix marks step by step: what the rules come to by what their tests answer, and the shapes of their nodes.
+use mathlib.Core.Path.{_≡_, refl, _∙_}
+use mathlib.Core.Bool.{Bool, true, false}
+use mathlib.Core.List.{[]}
+use Prim.Native.Nat.{ℕ, suc, _+_}
+use native.Mathlib.Omega.{arith}
+use Rattle.words.specs.Test.{_and_, test}
+use Rattle.words.specs.Ahead.{starter}
+use Rattle.words.specs.Kind.{Bang, Question, Extends}
+use Rattle.keys.specs.Placed as node
+use Rattle.keys.specs.Placed.{Placed, Spelling, spell, join, maybe, absent, present}
+use Rattle.keys.specs.Store.{done, _⊕_}
+use Rattle.rules.specs.State.{Given, State, Result, read, refuse, Reader, then, next, stands, first, end, make}
+use Rattle.rules.specs.Names.{bindingWord}
+use Rattle.rules.specs.Infer.{constraintOf, kept, dropped, trial, infer}
+use Rattle.rules.specs.Postfix as rule
+use Rattle.parts.specs.Laid.{nameRun, runIn, IsNode, node, Shape}
+use Rattle.parts.specs.Names.{oneName}
+use Rattle.parts.specs.Mapped.{closeSquare}
+use Rattle.parts.proofs.Answers.{then-read, then-refused}
+use Rattle.parts.proofs.ShapeLaws.{packed-node}
+
+-- ---- Postfix
+
+module _ (g : Given) (T : Reader) (b : ℕ) (t : Placed) (s : State) where
+  pub suffix-bang : stands g Bang s ≡ true → rule.suffix g T b t s ≡ make g [] (node.nonNull b (end g (next s)) t) (next s)
+  unfolding rule.suffix
+  suffix-bang e = rw e
+
+  pub suffix-asked : stands g Bang s ≡ false → stands g Question s ≡ true → rule.suffix g T b t s ≡ make g [] (node.asked b (end g (next s)) t) (next s)
+  unfolding rule.suffix
+  suffix-asked e f = rw (e, f)
+
+  pub suffix-array : stands g Bang s ≡ false → stands g Question s ≡ false → starter (g .words) (s .at + 1) ≡ false
+      → rule.suffix g T b t s ≡ closeSquare g (next s) λ q. make g [] (node.array b (end g q) t) q
+  unfolding rule.suffix rule.bracketed
+  suffix-array e f h = rw (e, f, h)
+
+  pub suffix-index : stands g Bang s ≡ false → stands g Question s ≡ false → starter (g .words) (s .at + 1) ≡ true
+      → rule.suffix g T b t s ≡ then (T true (next s)) (λ x q. closeSquare g q λ p. make g [] (node.indexed b (end g p) t x) p)
+  unfolding rule.suffix rule.bracketed
+  suffix-index e f h = rw (e, f, h)
+
+  pub postfix-more : (n : ℕ) → rule.suffixed g s ≡ true → rule.postfixFrom g T b (suc n) t s ≡ then (rule.suffix g T b t s) (λ u q. rule.postfixFrom g T b n u q)
+  unfolding rule.postfixFrom
+  postfix-more n e = rw e
+
+  pub postfix-end : (n : ℕ) → rule.suffixed g s ≡ false → rule.postfixFrom g T b (suc n) t s ≡ read t s
+  unfolding rule.postfixFrom
+  postfix-end n e = rw e
+
+-- ---- Infer
+
+module _ (g : Given) (T : Reader) (on : Bool) (s : State) where
+  -- Behind its name x, which ended at q: the constraint that was tried, put back or kept.
+  abbrev pub tried : Spelling → State → Result Placed
+  tried x q =
+      then (T false (next q)) λ t p.
+      test (on and stands g Question p) (λ _. make g [] (node.infer (first g s) (end g q) x absent) q) λ _.
+      make g [] (node.infer (first g s) (end g p) x (present t)) p
+
+  infer-name : infer g T on s ≡ then (oneName 0 g (next s)) (λ x q. then (trial g T on q) λ c p. make g [] (node.infer (first g s) (end g p) x (constraintOf c)) p)
+  unfolding infer bindingWord
+  infer-name = refl
+
+  pub infer-refused : {n i h : ℕ} → oneName 0 g (next s) ≡ refuse n i h → infer g T on s ≡ refuse n i h
+  infer-refused e = infer-name ∙ then-refused _ e
+
+  module _ {x : Spelling} {q : State} (named : oneName 0 g (next s) ≡ read x q) where
+    pub infer-none : stands g Extends q ≡ false → infer g T on s ≡ make g [] (node.infer (first g s) (end g q) x absent) q
+    unfolding trial
+    infer-none e = infer-name ∙ then-read _ named ∙ rw e
+
+    pub infer-tried : stands g Extends q ≡ true → infer g T on s ≡ tried x q
+    unfolding trial
+    infer-tried e = infer-name ∙ then-read _ named ∙ rw e (go (T false (next q)))
+      where
+        go : (r : Result Placed)
+            → then (then r λ t p. test (on and stands g Question p) (λ _. read (dropped (p .at)) q) (λ _. read (kept t) p))
+            (λ c p. make g [] (node.infer (first g s) (end g p) x (constraintOf c)) p)
+            ≡ then r λ t p. test (on and stands g Question p) (λ _. make g [] (node.infer (first g s) (end g q) x absent) q) (λ _. make g [] (node.infer (first g s) (end g p) x (present t)) p)
+        go (refuse n i h) = refl
+        go (read t p) = by (on and stands g Question p)
+          where
+            by : (d : Bool)
+                → then (test d (λ _. read (dropped (p .at)) q) (λ _. read (kept t) p)) (λ c p. make g [] (node.infer (first g s) (end g p) x (constraintOf c)) p)
+                ≡ test d (λ _. make g [] (node.infer (first g s) (end g q) x absent) q) (λ _. make g [] (node.infer (first g s) (end g p) x (present t)) p)
+            by true = refl
+            by false = refl
+
+    module _ {t : Placed} {p : State} (constrained : stands g Extends q ≡ true) (read-is : T false (next q) ≡ read t p) where
+      pub infer-dropped : (on and stands g Question p) ≡ true → infer g T on s ≡ make g [] (node.infer (first g s) (end g q) x absent) q
+      infer-dropped e = infer-tried constrained ∙ then-read _ read-is ∙ rw e
+
+      pub infer-kept : (on and stands g Question p) ≡ false → infer g T on s ≡ make g [] (node.infer (first g s) (end g p) x (present t)) p
+      infer-kept e = infer-tried constrained ∙ then-read _ read-is ∙ rw e
+
+-- ---- Shapes
+
+pub shape-array : {u : Placed} → IsNode 0 u → Shape 0 7 u (runIn 0 u) 7
+shape-array n = record { same = refl; choices-are = omega (arith, packed-node done n); allowed-is = tt }
+
+pub shape-non-null : {u : Placed} → IsNode 0 u → Shape 0 23 u (runIn 0 u) 23
+shape-non-null n = record { same = refl; choices-are = omega (arith, packed-node done n); allowed-is = tt }
+
+pub shape-asked : {u : Placed} → IsNode 0 u → Shape 0 24 u (runIn 0 u) 24
+shape-asked n = record { same = refl; choices-are = omega (arith, packed-node done n); allowed-is = tt }
+
+pub shape-indexed : {u x : Placed} → IsNode 0 u → IsNode 0 x → Shape 0 8 (join u x) (runIn 0 u ⊕ runIn 0 x) 8
+shape-indexed (node a) (node b) = record { same = refl; choices-are = refl; allowed-is = tt }
+
+-- An infer with no constraint, and with one.
+pub shape-infer : (s : Spelling) → Shape 0 10 (join (spell s) (maybe absent)) (nameRun s) 10
+shape-infer s = record { same = refl; choices-are = refl; allowed-is = tt }
+
+pub shape-constrained : {u : Placed} (s : Spelling) → IsNode 0 u → Shape 0 10 (join (spell s) (maybe (present u))) (nameRun s ⊕ runIn 0 u) 74
+shape-constrained s n = record { same = refl; choices-are = omega (arith, packed-node done n); allowed-is = tt }

@@ -1,0 +1,157 @@
+-- Function types: parameters and their `this`, the head, the choices, the node.
+use mathlib.Core.Path.{_≡_}
+use mathlib.Core.Bool.{Bool, true, false}
+use mathlib.Core.List.{List}
+use Prim.Native.Nat.{ℕ, zero, suc, _+_, _*_}
+use lib.ListN.{length}
+use Rattle.words.specs.Kind.{LParen, Question, Dot3, Abstract, New, This}
+use Rattle.words.specs.Test.{_and_, test}
+use Rattle.words.specs.Cursor.{firstByte}
+use Rattle.keys.specs.Bits.{unit}
+use Rattle.keys.specs.Placed.{Placed, Spelling, Opt, absent, present}
+use Rattle.keys.specs.Store.{Run, done, _⊕_}
+use Rattle.rules.specs.Refusal.{unexpected, unsupported}
+use Rattle.rules.specs.State as rule
+use Rattle.rules.specs.State.{State, Result, Reader, read, refuse, refused, then, stands, past}
+use Rattle.rules.specs.List.{count}
+use Rattle.rules.specs.TypeParameters as types
+use Rattle.rules.specs.Function as function
+use Rattle.rules.specs.Function.{ThisParameter, Parameters}
+use Rattle.parts.specs.State.{view, givenOf, nextMark, pastMark}
+use Rattle.parts.specs.Laid.{runIn, runOpt, runs, runsOpt, IsNode, IsOpt, AllNodes, AllOpt, Was, BuiltAt}
+use Rattle.parts.specs.Says.{Says, isThere}
+use Rattle.parts.specs.Node.{optList}
+use Rattle.parts.specs.Names.{oneName}
+use Rattle.parts.specs.List.{here}
+use Rattle.parts.specs.declared.state.Given.{Given}
+use Rattle.parts.specs.declared.state.Mark.{Mark}
+use Rattle.parts.specs.declared.state.Kids.{Kids}
+use Rattle.parts.specs.declared.state.Head.{Head}
+use Rattle.parts.specs.declared.state.Answer.{Answer}
+use Rattle.parts.specs.declared.function.FunctionHead.{FunctionHead}
+use Rattle.parts.specs.declared.function.This.{This as ThisCode}
+use Rattle.parts.specs.declared.function.Params.{Params}
+
+-- A refusal's number where a test holds, else 0.
+abbrev pub whyIf : Bool → ℕ → ℕ
+whyIf true n = n
+whyIf false n = 0
+
+-- The bits of a `this`: 0 for none, 1 without a type, 3 with one.
+abbrev pub typeBits : Opt Placed → ℕ
+typeBits absent = 1
+typeBits (present u) = 3
+
+abbrev pub thisBits : Opt ThisParameter → ℕ
+thisBits absent = 0
+thisBits (present t) = typeBits (t .type)
+
+-- The first byte of a `this`, and its end byte.
+abbrev pub thisFirst : Opt ThisParameter → ℕ
+thisFirst absent = 0
+thisFirst (present t) = t .first
+
+abbrev pub thisEnd : Opt ThisParameter → ℕ
+thisEnd absent = 0
+thisEnd (present t) = t .end
+
+-- The code's `this` is the rules'.
+pub record ThisIs (r : ThisCode) (t : Opt ThisParameter) : Type 0 where
+  pub bits : r .bits ≡ thisBits t
+  pub first : r .first ≡ thisFirst t
+  pub end : r .end ≡ thisEnd t
+
+-- The type of a `this` is a node if it is there.
+abbrev pub IsThis : Opt ThisParameter → Type 0
+IsThis absent = Unit {0}
+IsThis (present t) = IsOpt 0 (t .type)
+
+-- The type of a `this` as a child, which a constructor's is not.
+abbrev pub thisRun : Bool → Opt ThisParameter → Run
+thisRun true t = done
+thisRun false absent = done
+thisRun false (present t) = runOpt 0 (t .type)
+
+-- Parameters were read, and stand behind the run t, the `this` too if its type is counted.
+pub record GotParams (B : Was) (t : Run) (R : Opt ThisParameter → Run) (x : Result Parameters) (p : Params) (N M O : List ℕ) : Type 0 where
+  pub what : Parameters
+  pub is : x ≡ read what (view (p .m) O)
+  pub this-is : ThisIs (p .this) (what .this)
+  pub is-this : IsThis (what .this)
+  pub count-is : p .count ≡ length (what .list)
+  pub each : AllNodes 5 (what .list)
+  pub built : BuiltAt B ((t ⊕ R (what .this)) ⊕ runs 5 (what .list)) (p .kids) (p .m) N M O
+
+pub record SaysParams (B : Was) (t : Run) (R : Opt ThisParameter → Run) (x : Result Parameters) (p : Params) (N M O : List ℕ) : Type 0 where
+  pub done : p .why ≡ 0 → GotParams B t R x p N M O
+  pub refused : (p .why ≡ 0 → ⊥) → x ≡ refuse (p .why) (p .m .at) (p .m .half)
+
+-- A function type up to its type parameters.
+pub record HeadIs (W : List ℕ) (m : Mark) (h : FunctionHead) : Type 0 where
+  pub first-is : h .b .first ≡ firstByte W (m .at) (m .half)
+  pub name-is : h .b .name ≡ m .named
+  pub abstract-is : h .«is_abstract» ≡ here W Abstract m
+  pub new-is : h .«is_new» ≡ here W New (pastMark W Abstract m)
+  pub mark-is : h .m ≡ pastMark W New (pastMark W Abstract m)
+
+-- A type parameter up to its constraint.
+abbrev pub typeParameterHead : rule.Given → State → Result Spelling
+typeParameterHead g s = test (types.varies g s) (λ _. refused unsupported s) (λ _. oneName 0 g s)
+
+-- A parameter up to its type: its name, and whether a `?` stands behind it.
+abbrev pub parameterHead : rule.Given → State → Result (Spelling × Bool)
+parameterHead g s =
+    test (stands g Dot3 s and stands g This (past g Dot3 s)) (λ _. refused unsupported (past g Dot3 s)) λ _.
+    then (oneName 0 g (past g Dot3 s)) λ x q.
+    read (x, stands g Question q) (past g Question q)
+
+-- The bracket of parameters, and a `this` behind it.
+pub data Opens (W : List ℕ) (m : Mark) (h : Head) : Type 0 where
+  stops : here W LParen m ≡ false → h ≡ record { why = unexpected; choices = 0; m = m } → Opens W m h
+  plain : here W LParen m ≡ true → here W This (nextMark m) ≡ false → h ≡ record { why = 0; choices = 0; m = nextMark m } → Opens W m h
+  this : here W LParen m ≡ true → here W This (nextMark m) ≡ true → h ≡ record { why = 0; choices = 1; m = nextMark (nextMark m) } → Opens W m h
+
+-- What a constructor's `this` took is free again, its diagnostics stay.
+abbrev pub freedMark : Bool → Mark → Mark → Mark
+freedMark true s q = record { at = q .at; half = q .half; used = s .used; named = s .named; noted = q .noted }
+freedMark false s q = q
+
+-- The children before a `this` to which its type is linked: a constructor's is no child.
+abbrev pub beforeThis : (isNew : Bool) → Kids → Kids
+beforeThis true k = record { first = 0; count = 0; high = 0 }
+beforeThis false k = k
+
+-- The children after it: those before it, if it is a constructor's.
+abbrev pub behindThis : (isNew : Bool) → (before after : Kids) → Kids
+behindThis true before after = before
+behindThis false before after = after
+
+-- How many nodes are in use then.
+abbrev pub freedUsed : Bool → ℕ → ℕ → ℕ
+freedUsed true used after = used
+freedUsed false used after = after
+
+-- How many numbers an optional list's choices can be, and the bits of a `this`.
+abbrev pub listScale : Bool → ℕ
+listScale true = 8192
+listScale false = 2
+
+abbrev pub thisScale : ℕ → ℕ
+thisScale zero = 2
+thisScale (suc bits) = 4
+
+-- The choices of a function type, and of a constructor type.
+abbrev pub functionChoices : (there : Bool) (many bits params : ℕ) → ℕ
+functionChoices there many bits params = 12 + 64 * (optList there many + listScale there * (bits + thisScale bits * params))
+
+abbrev pub constructorChoices : (isAbstract there : Bool) (many params : ℕ) → ℕ
+constructorChoices isAbstract there many params = 13 + 64 * (unit isAbstract + 2 * (optList there many + listScale there * params))
+
+-- All parts of a function type that stand since B, and the node that the rules make of them.
+abbrev pub MakesFunction : (W : List ℕ) (given : Given) (h : FunctionHead) (there : Bool) (many : ℕ) (p : Params) (N O : List ℕ) (a : Answer) (N' O' : List ℕ) → Type 0
+MakesFunction W given h there many p N O a N' O' =
+    (text : List ℕ) (T : Reader) (B : Was) (ts : Opt (List Placed)) (ps : Parameters) (u : Placed) (M : List ℕ)
+    → BuiltAt B (((runsOpt 4 ts ⊕ thisRun (h .«is_new») (ps .this)) ⊕ runs 5 (ps .list)) ⊕ runIn 0 u) (p .kids) (p .m) N M O
+    → h .b .name ≡ B .named → there ≡ isThere ts → many ≡ count ts → ThisIs (p .this) (ps .this) → p .count ≡ length (ps .list)
+    → AllOpt 4 ts → IsThis (ps .this) → AllNodes 5 (ps .list) → IsNode 0 u
+    → Says 0 B (function.functionNode (givenOf text W given) T (h .b .first) (h .«is_new») (h .«is_abstract») ts ps u (view (p .m) O)) a N' M O'

@@ -1,0 +1,34 @@
+-- What reading names comes to.
+use mathlib.Core.Path.{_≡_}
+use mathlib.Core.List.{List, [], _∷_, _++_}
+use Prim.Native.Nat.{ℕ}
+use Rattle.words.specs.Test.{test}
+use Rattle.words.specs.Class.{inClass}
+use Rattle.words.specs.Word.{start}
+use Rattle.words.specs.Check.{spelled}
+use Rattle.words.specs.Cursor.{wordAt}
+use Rattle.keys.specs.Placed.{Spelling}
+use Rattle.rules.specs.Refusal.{unexpected}
+use Rattle.rules.specs.State.{Given, State, Result, read, refuse, refused, next, kind, spelling}
+use Rattle.parts.specs.State.{view, Spelt, namedMark}
+use Rattle.parts.specs.Laid.{Spoken}
+use Rattle.parts.specs.declared.state.Mark.{Mark}
+
+-- The token at a mark is one name more.
+abbrev pub Speaks : (W : List ℕ) (m : Mark) (M M' : List ℕ) → Type 0
+Speaks W m M M' = (text : List ℕ) → Spelt text W → Spoken ((start (wordAt W (m .at)), spelled text (wordAt W (m .at))) ∷ []) m (namedMark m) M M'
+
+-- One name of a class: a binding word's is 0, a name's 1.
+abbrev pub oneName : ℕ → Given → State → Result Spelling
+oneName class g s = test (inClass class (kind g s)) (λ _. read (spelling g s) (next s)) (λ _. refused unexpected s)
+
+-- Names behind those of l were read, and nothing else was written.
+pub record GotDots (l : List Spelling) (x : Result (List Spelling)) (m q : Mark) (M M' O : List ℕ) : Type 0 where
+  pub more : List Spelling
+  pub is : x ≡ read (l ++ more) (view q O)
+  pub spoken : Spoken more m q M M'
+
+-- They were read, or refused.
+pub record SaysDots (l : List Spelling) (x : Result (List Spelling)) (why : ℕ) (m q : Mark) (M M' O : List ℕ) : Type 0 where
+  pub done : why ≡ 0 → GotDots l x m q M M' O
+  pub refused : (why ≡ 0 → ⊥) → x ≡ refuse why (q .at) (q .half)

@@ -1,0 +1,168 @@
+-- Tuple elements before and after their type.
+use mathlib.Core.Path.{_≡_}
+use mathlib.Core.Bool.{Bool, true, not}
+use mathlib.Core.List.{List, [], _∷_}
+use Prim.Native.Nat.{ℕ, _+_, _-_, _*_, _/_, _%_, _^_, _≤_, _<_}
+use lib.Dec.{eqb}
+use lib.ListN.{getD}
+use Rattle.words.specs.Kind.{Question, Colon, Dot3}
+use Rattle.words.specs.Class as class
+use Rattle.words.specs.Test.{_and_, _or_, test}
+use Rattle.words.specs.Cursor.{wholeKind, kindAt, firstByte}
+use Rattle.keys.specs.Bits.{unit}
+use Rattle.keys.specs.Placed as node
+use Rattle.keys.specs.Placed.{Placed, tree, Spelling}
+use Rattle.keys.specs.Store.{_⊕_}
+use Rattle.rules.specs.Notes.{note, requiredAfterOptional, restAfterLabel, askedAfterLabel, optionalAndRest}
+use Rattle.rules.specs.State as rule
+use Rattle.rules.specs.State.{State, Result, Reader, read, then, next, stands, first, end, spelling, past, make, reportIf}
+use Rattle.rules.specs.Tuple as tuple
+use Rattle.parts.specs.State.{view, givenOf, nextMark, pastMark, namedMark}
+use Rattle.parts.specs.Laid.{heights, runIn, namesRun, IsNode, Was, Laid, Stands}
+use Rattle.parts.specs.Says.{Says}
+use Rattle.parts.specs.List.{here}
+use Rattle.parts.specs.declared.state.Given.{Given}
+use Rattle.parts.specs.declared.state.Mark.{Mark}
+use Rattle.parts.specs.declared.state.Begin.{Begin}
+use Rattle.parts.specs.declared.state.Answer.{Answer}
+use Rattle.parts.specs.declared.tuple.Label.{Label}
+use Rattle.parts.specs.declared.tuple.Seen.{Seen}
+
+-- Behind the label of a member: past its `?` and its colon.
+abbrev pub typeMark : List ℕ → Mark → Mark
+typeMark W p = nextMark (pastMark W Question (nextMark p))
+
+-- An element up to its type, with a label or without.
+pub record LabelIs (W : List ℕ) (m : Mark) (l : Label) : Type 0 where
+  pub first-is : l .b .first ≡ firstByte W (m .at) (m .half)
+  pub name-is : l .b .name ≡ m .named
+  pub rest-is : l .rest ≡ here W Dot3 m
+  pub label-first : l .labelled ≡ true → l .first ≡ firstByte W (pastMark W Dot3 m .at) (pastMark W Dot3 m .half)
+  pub label-asked : l .labelled ≡ true → l .asked ≡ here W Question (nextMark (pastMark W Dot3 m))
+  pub type-first : l .labelled ≡ true → l .typed ≡ firstByte W (typeMark W (pastMark W Dot3 m) .at) (typeMark W (pastMark W Dot3 m) .half)
+  pub type-dots : l .labelled ≡ true → l .dots ≡ here W Dot3 (typeMark W (pastMark W Dot3 m))
+
+-- Its numbers are small.
+pub record LabelSmall (l : Label) : Type 0 where
+  pub first : l .b .first < 2 ^ 32
+  pub label : l .first < 2 ^ 32
+  pub typed : l .typed < 2 ^ 32
+
+-- Whether a label stands at a mark, with its colon, or question mark and colon.
+abbrev pub labelledAt : List ℕ → Mark → Bool
+labelledAt W m =
+    class.name (kindAt W (m .at) (m .half)) and (eqb (wholeKind W (m .at + 1)) Colon or (eqb (wholeKind W (m .at + 1)) Question and eqb (wholeKind W (m .at + 2)) Colon))
+
+-- Behind a label that was spelled, its `?` and its colon.
+abbrev pub colonMark : List ℕ → Mark → Mark
+colonMark W m = nextMark (pastMark W Question (namedMark m))
+
+-- The label at a mark, in an element that begins at b, with dots or not.
+abbrev pub labelAt : List ℕ → Begin → Bool → Mark → Label
+labelAt W b rest m =
+    record {
+      b = b;
+      rest = rest;
+      labelled = true;
+      first = firstByte W (m .at) (m .half);
+      asked = here W Question (namedMark m);
+      typed = firstByte W (colonMark W m .at) (colonMark W m .half);
+      dots = here W Dot3 (colonMark W m);
+      m = pastMark W Dot3 (colonMark W m);
+    }
+
+-- Where its type begins.
+abbrev pub elementStart : rule.Given → State → State
+elementStart g s =
+    test (tuple.labelled g (past g Dot3 s)) (λ _. past g Dot3 (next (past g Question (next (past g Dot3 s))))) (λ _. past g Dot3 s)
+
+-- The name of its label, if there is one.
+abbrev pub labelNames : rule.Given → State → List Spelling
+labelNames g s = test (tuple.labelled g (past g Dot3 s)) (λ _. spelling g (past g Dot3 s) ∷ []) (λ _. [])
+
+-- What it comes to once its type t was read.
+abbrev pub elementAfter : rule.Given → Reader → State → Placed → State → Result Placed
+elementAfter g T s t q =
+    test (tuple.labelled g (past g Dot3 s)) (λ _.
+    then (tuple.memberNode g T (past g Dot3 s) (next (past g Question (next (past g Dot3 s)))) (stands g Question (next (past g Dot3 s))) t q) λ e q.
+    test (stands g Dot3 s) (λ _. tuple.restOf g T s e q) λ _.
+    read e q) λ _.
+    test (stands g Dot3 s) (λ _. make g [] (node.rest (first g s) (end g q) t) q) λ _.
+    read (node.asElement t) q
+
+-- ---- The same by what is known of the label, whose name is x
+
+-- The member whose type t was read.
+abbrev pub memberAfter : rule.Given → Label → Spelling → Placed → State → Result Placed
+memberAfter g l x t q =
+    then (make g [] (node.named (l .first) (end g q) x (l .asked) (node.asElement t)) q) λ e q.
+    reportIf (l .dots) g (note restAfterLabel (l .typed) (end g q)) q λ q.
+    reportIf (node.isAsked t) g (note askedAfterLabel (l .typed) (end g q)) q λ q.
+    read e q
+
+-- The member e, or a rest about it.
+abbrev pub restAfter : rule.Given → Label → Placed → State → Result Placed
+restAfter g l e q =
+    test (l .rest) (λ _. reportIf (l .asked) g (note optionalAndRest (l .b .first) (end g q)) q λ q. make g [] (node.rest (l .b .first) (end g q) e) q) λ _.
+    read e q
+
+-- The choices of a member.
+abbrev pub memberChoices : Bool → ℕ
+memberChoices asked = 22 + 64 * unit asked
+
+-- A `?` node that was read last became an optional one; r says whether it was one.
+abbrev pub Converts : (used : ℕ) (N : List ℕ) (r : Bool) (N' : List ℕ) → Type 0
+Converts used N r N' =
+    (B : Was) (ss : List Spelling) (t : Placed) (named noted : ℕ) (M O : List ℕ) → IsNode 0 t → Laid B (namesRun ss ⊕ runIn 0 t) used named noted N M O
+    → (r ≡ node.isAsked t) × Laid B (namesRun ss ⊕ runIn 1 (node.asElement t)) used named noted N' M O
+
+-- Over its name and its type, which stand since B, the member or the rest about it.
+abbrev pub MakesMember : (W : List ℕ) (given : Given) (l : Label) (a : Answer) (N O : List ℕ) (r : Answer) (N' O' : List ℕ) → Type 0
+MakesMember W given l a N O r N' O' =
+    (text : List ℕ) (B : Was) (x : Spelling) (t : Placed) (M : List ℕ)
+    → B .named ≡ l .b .name → IsNode 0 t → a .high ≡ heights (runIn 0 t)
+    → Laid B (namesRun (x ∷ []) ⊕ runIn 0 t) (a .m .used) (a .m .named) (a .m .noted) N M O
+    → Says 1 B (then (memberAfter (givenOf text W given) l x t (view (a .m) O)) (restAfter (givenOf text W given) l)) r N' M O'
+
+-- Over a member that stands since B, itself or the rest about it.
+abbrev pub MakesRest : (W : List ℕ) (given : Given) (l : Label) (high : ℕ) (m : Mark) (N O : List ℕ) (r : Answer) (N' O' : List ℕ) → Type 0
+MakesRest W given l high m N O r N' O' =
+    (text : List ℕ) (B : Was) (first end : ℕ) (p : Placed) (M : List ℕ)
+    → B .named ≡ l .b .name → Stands 1 B (tree 22 first end p) high m N M O
+    → Says 1 B (restAfter (givenOf text W given) l (tree 22 first end p) (view m O)) r N' M O'
+
+-- ---- What elements make
+
+-- Over its label's name and its type, which stand since B, the element that the rules make; m is where it began, O the diagnostics' words then.
+abbrev pub MakesElement : (W : List ℕ) (given : Given) (l : Label) (a : Answer) (N O : List ℕ) (r : Answer) (N' O' : List ℕ) → Type 0
+MakesElement W given l a N O r N' O' =
+    (text : List ℕ) (T : Reader) (B : Was) (m : Mark) (s : State) (t : Placed) (M : List ℕ)
+    → LabelIs W m l → s .at ≡ m .at → s .half ≡ m .half → l .labelled ≡ tuple.labelled (givenOf text W given) (past (givenOf text W given) Dot3 s) → B .named ≡ m .named
+    → IsNode 0 t → a .high ≡ heights (runIn 0 t)
+    → Laid B (namesRun (labelNames (givenOf text W given) s) ⊕ runIn 0 t) (a .m .used) (a .m .named) (a .m .noted) N M O
+    → Says 1 B (elementAfter (givenOf text W given) T s t (view (a .m) O)) r N' M O'
+
+-- Whether a record's first word says that an element is optional, with or without a label.
+abbrev pub optionalWord : ℕ → Bool
+optionalWord w = eqb (w % 64) 20 or (eqb (w % 64) 22 and eqb (w / 64 % 2) 1)
+
+-- The first word of the node that was read last.
+abbrev pub lastWord : List ℕ → ℕ → ℕ
+lastWord N used = getD N (used * 4 - 4) 0
+
+-- Diagnostic 4 for an element, and whether an optional one was seen now.
+pub record Checks (given : Given) (seen : Bool) (m : Mark) (N O : List ℕ) (r : Seen) (O' : List ℕ) : Type 0 where
+  pub done : r .why ≡ 0 → (text W : List ℕ) (B : Was) (e : Placed) (high : ℕ) (M : List ℕ) → Stands 1 B e high m N M O
+      → (reportIf (seen and not (tuple.isOptionalElement e) and not (node.isRest e)) (givenOf text W given) (note requiredAfterOptional (node.firstOf e) (node.endOf e)) (view m O) (read e) ≡ read e (view (r .m) O'))
+      × (r .optional ≡ (seen or tuple.isOptionalElement e)) × Stands 1 B e high (r .m) N M O'
+  pub refused : (r .why ≡ 0 → ⊥) → (text W : List ℕ) (B : Was) (e : Placed) (high : ℕ) (M : List ℕ) → Stands 1 B e high m N M O
+      → reportIf (seen and not (tuple.isOptionalElement e) and not (node.isRest e)) (givenOf text W given) (note requiredAfterOptional (node.firstOf e) (node.endOf e)) (view m O) (read e) ≡ rule.refuse (r .why) (r .m .at) (r .m .half)
+
+-- Nothing but the number of diagnostics has changed, and it keeps its limit.
+pub record SeenAt (given : Given) (m : Mark) (r : Seen) : Type 0 where
+  pub at-is : r .m .at ≡ m .at
+  pub half-is : r .m .half ≡ m .half
+  pub used-is : r .m .used ≡ m .used
+  pub named-is : r .m .named ≡ m .named
+  pub more : m .noted ≤ r .m .noted
+  pub recorded : r .m .noted ≤ given .records

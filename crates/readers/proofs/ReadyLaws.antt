@@ -1,0 +1,13 @@
+-- What a reader asks is handed on, at other marks and over other slices.
+use mathlib.Core.List.{List}
+use Prim.Native.Nat.{ℕ}
+use lib.ListN.{length}
+use Rattle.parts.specs.State.{Room, Fine}
+use Rattle.parts.specs.declared.state.Given.{Given}
+use Rattle.parts.specs.declared.state.Mark.{Mark}
+use Rattle.readers.specs.Ring.{Ready}
+
+-- The tokens, their text and the classes stay as they are.
+pub ready : {text words classes N O N' O' : List ℕ} {given given' : Given} {m q : Mark} → Ready text words classes N O given m
+    → Room (length N') (length O') given' → Fine (length words) given' q → Ready text words classes N' O' given' q
+ready r a b = record { classes-are = r .classes-are; sound = r .sound; spelt = r .spelt; room = a; fine = b }

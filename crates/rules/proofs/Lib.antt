@@ -1,0 +1,10 @@
+pub mod TokenLaws
+pub mod PlaceLaws
+pub mod FewLaws
+pub mod ToldLaws
+pub mod WeightLaws
+pub mod Gives
+pub mod PartLaws
+pub mod RuleLaws
+pub mod CallLaws
+pub mod Theorems
