@@ -1,0 +1,1 @@
+// What two keys differ in: the check of a key that stores nothing, and the walk of two keys together.
