@@ -1,1 +1,3 @@
 pub mod Theorems
+pub mod Checking
+pub mod Nodes

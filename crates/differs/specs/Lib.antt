@@ -1,2 +1,3 @@
 pub mod Content
 pub mod Differ
+pub mod Sound
