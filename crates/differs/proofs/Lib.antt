@@ -1,3 +1,6 @@
 pub mod Theorems
 pub mod Checking
 pub mod Nodes
+pub mod Lined
+pub mod Enough
+pub mod Whole

@@ -4,13 +4,14 @@ use mathlib.Core.List.{List}
 use mathlib.Core.Path.{_≡_}
 use Prim.Native.Nat.{ℕ, zero, suc, _+_, _*_, _%_, _≤_, _<_, _^_}
 use lib.ListN.{length, drop}
-use Rattle.keys.specs.Bits.{Bits, Field, short, field, takeField, Row, cut, row, takeBytes}
+use Rattle.keys.specs.Bits.{Bits, bitsOfBytes, Field, short, field, takeField, Row, cut, row, takeBytes}
 use Rattle.keys.specs.Form.{Value, Form, never, one, word, choose, both, child, Grammar, isNever}
-use Rattle.keys.specs.Key.{Taken, taken, refused}
-use Rattle.keys.specs.Limits.{tooTall, badKey, widest}
+use Rattle.keys.specs.Key.{Taken, taken, refused, nodeTable}
+use Rattle.keys.specs.Limits.{tooTall, badKey, widest, longestKey, tallest, editionWidth}
 use Rattle.node_table.specs.Forms.{formOf, formBy, grammarOf, entryOf, entryAt, classAt, spellingsThen, spellingIf, nodesThen, Narrow}
 use Rattle.node_table.specs.declared.forms.Row.{Row as TableRow}
-use Rattle.differs.specs.Content.{Content, ends, chooses, spells, enters}
+use Rattle.differs.specs.Content.{Content, ends, chooses, spells, enters, contentOf}
+use Rattle.differs.specs.Differ.{checked}
 use Rattle.differs.specs.declared.sound.Check.{Check}
 use Rattle.differs.specs.declared.sound.Spot.{Spot}
 
@@ -162,3 +163,10 @@ pub record Verdict (x : Taken) (r : Check) : Type 0 where
   pub stopped : (r .why ≡ 0 → ⊥) → x ≡ refused (r .why) (r .bit)
   pub tree : Value
   pub good : r .why ≡ 0 → x ≡ taken tree
+
+-- The same by the table of words, and what a key that is one reads as.
+pub record Wholly (T key : List ℕ) (r : Check) : Type 0 where
+  pub verdict : Verdict (checked key) r
+  pub short : r .why ≡ 0 → length key ≤ longestKey
+  pub end : ℕ
+  pub read : r .why ≡ 0 → readNode (bitsOfBytes key) (grammarOf T) tallest 0 editionWidth ≡ reads (contentOf nodeTable (verdict .tree)) end

@@ -317,7 +317,7 @@ fn pad_end(key: &[u8], bit: usize) -> usize
 // A whole key by the table: not too long, its edition, its tree, zero bits to the byte and no byte more.
 pub fn check_whole(forms: &[u16], key: &[u8]) -> Check
     requires { ⌜ (now forms) ≡ tableWords countWidth ⌝ }
-    ensures { λ r. ⌜ check.Verdict (checked (now (key .entry))) r ⌝ }
+    ensures { λ r. ⌜ check.Wholly (now (forms .entry)) (now (key .entry)) r ⌝ }
 {
     if Key::MOST < key.len() {
         return stopped(Refusal::BAD_KEY, 0);
@@ -329,13 +329,7 @@ pub fn check_whole(forms: &[u16], key: &[u8]) -> Check
     if e != forms::EDITION {
         return stopped(Refusal::BAD_KEY, 0);
     }
-    let c = check_node(
-        forms,
-        key,
-        forms::TYPE,
-        Tree::TALLEST,
-        forms::EDITION_WIDTH,
-    );
+    let c = check_node(forms, key, forms::TYPE, Tree::TALLEST, forms::EDITION_WIDTH);
     if c.why != 0 {
         return c;
     }
