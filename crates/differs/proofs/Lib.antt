@@ -4,3 +4,6 @@ pub mod Nodes
 pub mod Lined
 pub mod Enough
 pub mod Whole
+pub mod Listed
+pub mod Walking
+pub mod Rests

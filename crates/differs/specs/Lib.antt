@@ -1,3 +1,4 @@
 pub mod Content
 pub mod Differ
 pub mod Sound
+pub mod Walk
