@@ -7,3 +7,4 @@ pub mod Whole
 pub mod Listed
 pub mod Walking
 pub mod Rests
+pub mod Differing

@@ -59,6 +59,7 @@ module _ (T key : List ℕ) where
       (record {
         verdict = record { stopped = λ _. e; tree = nothing; good = λ z. absurd (omega arith) };
         short = λ z. absurd (omega arith);
+        long = λ z. absurd (omega arith);
         end = 0;
         read = λ z. absurd (omega arith);
       })
@@ -132,6 +133,7 @@ module _ (T key : List ℕ) where
                           good = λ j. absurd (o j);
                         };
                     short = λ j. absurd (o j);
+                    long = λ j. absurd (o j);
                     end = 0;
                     read = λ j. absurd (o j);
                   }
@@ -173,6 +175,7 @@ module _ (T key : List ℕ) where
                         good = λ x. absurd (omega arith);
                       };
                   short = λ x. absurd (omega arith);
+                  long = λ x. absurd (omega arith);
                   end = 0;
                   read = λ x. absurd (omega arith);
                 })
@@ -187,6 +190,7 @@ module _ (T key : List ℕ) where
                         good = λ _. has-tree .padded ∙ ap (outcome (length bs)) (u .went (omega (arith, u .inside, length-bytes key)) (choice 1 (has-tree .tree)));
                       };
                   short = λ _. h;
+                  long = λ _. whole-four;
                   end = c .bit;
                   read = λ _. has-tree .read;
                 }

@@ -168,5 +168,6 @@ pub record Verdict (x : Taken) (r : Check) : Type 0 where
 pub record Wholly (T key : List ℕ) (r : Check) : Type 0 where
   pub verdict : Verdict (checked key) r
   pub short : r .why ≡ 0 → length key ≤ longestKey
+  pub long : r .why ≡ 0 → editionWidth ≤ length key * 8
   pub end : ℕ
   pub read : r .why ≡ 0 → readNode (bitsOfBytes key) (grammarOf T) tallest 0 editionWidth ≡ reads (contentOf nodeTable (verdict .tree)) end

@@ -112,4 +112,3 @@ pub record Parted (bs cs : Bits) (X Y : ℕ → ℕ → Outcome) (f f' : Form) (
   pub found : q .found ≡ first .found + 1
   pub puts : Puts l (first .found) (first .left) (first .right) m
   pub inside : Inside (length bs) (length cs) q
-

@@ -221,18 +221,7 @@ pub fn walk_node(
             p,
         );
     }
-    walk_rest(
-        forms,
-        others,
-        left,
-        right,
-        list,
-        high - 1,
-        steps,
-        j,
-        at,
-        p,
-    )
+    walk_rest(forms, others, left, right, list, high - 1, steps, j, at, p)
 }
 
 // What is left of two nodes whose choices so far are the same, from a form on; the nodes begin at `first`.
@@ -291,7 +280,19 @@ fn walk_rest(
             f = j;
         } else {
             if op == forms::NODES {
-                p = walk_nodes(forms, others, left, right, list, high, r.a, r.w, q.w, f.n, p);
+                p = walk_nodes(
+                    forms,
+                    others,
+                    left,
+                    right,
+                    list,
+                    high,
+                    r.a,
+                    r.w,
+                    q.w,
+                    f.n,
+                    p,
+                );
                 let g = Jump { form: r.b, n: 1 };
                 f = g;
             } else {
