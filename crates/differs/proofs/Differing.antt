@@ -45,16 +45,16 @@ one-result left right list r q l m a b =
 -- ---- Refusals
 
 module _ (left right list : List ℕ) where
-  seen-declined : (number side bit : ℕ) (now after : List ℕ) → length now ≡ length list → after ≡ filled (length now) (take 0 now) → differ (length list) left right ≡ declined (length list) number side bit
-      → Differs left right list (Refused number side bit) after
-  seen-declined number side bit now after l e d =
-      ap (λ (x : List ℕ). record { answer = no number side bit; list = x }) (e ∙ ap (λ (n : ℕ). filled n []) l) ∙ sym d
+  seen-declined : (number side bit : ℕ) (now after : List ℕ) → length now ≡ length list → after ≡ filled (length now) [] → differ (length list) left right ≡ declined (length list) number side bit
+      → (r : Differing) → r ≡ Refused number side bit → Differs left right list r after
+  seen-declined number side bit now after l e d r i =
+      ap (λ (x : Differing). seen x after) i ∙ ap (seen (Refused number side bit)) (e ∙ ap (λ (n : ℕ). filled n []) l) ∙ sym d
 
-  pub bad-left : (T : List ℕ) (c : Check) → Wholly T left c → (c .why ≡ 0 → ⊥) → (after : List ℕ) → after ≡ filled (length list) (take 0 list) → Differs left right list (Refused (c .why) 1 (c .bit)) after
+  pub bad-left : (T : List ℕ) (c : Check) → Wholly T left c → (c .why ≡ 0 → ⊥) → (after : List ℕ) → after ≡ filled (length list) [] → (r : Differing) → r ≡ Refused (c .why) leftSide (c .bit) → Differs left right list r after
   bad-left T c w z after e = seen-declined (c .why) leftSide (c .bit) list after refl e (ap (λ (x : Taken). begins (length list) x right) (w .verdict .stopped z))
 
   module _ (T : List ℕ) (c : Check) (w : Wholly T left c) (z : c .why ≡ 0) where
-    pub bad-right : (U : List ℕ) (d : Check) → Wholly U right d → (d .why ≡ 0 → ⊥) → (after : List ℕ) → after ≡ filled (length list) (take 0 list) → Differs left right list (Refused (d .why) 2 (d .bit)) after
+    pub bad-right : (U : List ℕ) (d : Check) → Wholly U right d → (d .why ≡ 0 → ⊥) → (after : List ℕ) → after ≡ filled (length list) [] → (r : Differing) → r ≡ Refused (d .why) rightSide (d .bit) → Differs left right list r after
     bad-right U d v y after e =
         seen-declined (d .why) rightSide (d .bit) list after refl e
         (ap (λ (x : Taken). begins (length list) x right) (w .verdict .good z) ∙ ap (besides (length list) (w .verdict .tree)) (v .verdict .stopped y))
@@ -89,7 +89,7 @@ module _ (left right list : List ℕ) where
         by-both : differ (length list) left right ≡ reported (length list) (leb (length (differences (contentOf nodeTable (w .verdict .tree)) (contentOf nodeTable (v .verdict .tree)))) (length list / 2)) (differences (contentOf nodeTable (w .verdict .tree)) (contentOf nodeTable (v .verdict .tree)))
         by-both = ap (λ (x : Taken). begins (length list) x right) (w .verdict .good z) ∙ ap (besides (length list) (w .verdict .tree)) (v .verdict .good y)
 
-        pub too-many : length now / 2 < q .found → (after : List ℕ) → after ≡ filled (length now) (take 0 now) → Differs left right list (Refused 29 0 0) after
+        pub too-many : length now / 2 < q .found → (after : List ℕ) → after ≡ filled (length now) [] → (r : Differing) → r ≡ Refused manyDifferences noSide 0 → Differs left right list r after
         too-many h after e =
             seen-declined manyDifferences noSide 0 now after (a .grows .long) e
             (by-both ∙ ap (λ (b : Bool). reported (length list) b pairs) (lt-leb (length pairs) (length list / 2) (omega (arith, found-is, a .grows .long))))

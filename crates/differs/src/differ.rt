@@ -1,4 +1,8 @@
 // The open call: what differs between two keys.
+ghost use mathlib.Core.Path.{_≡_};
+ghost use mathlib.Core.List.{[]};
+ghost use lib.ListN.{length};
+ghost use Rattle.keys.specs.Store.{filled};
 ghost use Rattle.differs.specs.Call.{Differs};
 use crate::sound;
 use crate::walk;
@@ -26,6 +30,14 @@ pub enum Differing {
     Refused(u32, u32, usize),
 }
 
+// A refusal, and zeros in the whole list.
+fn declined(list: &mut [u64], number: u32, side: u32, bit: usize) -> Differing
+    ensures { λ r. ⌜ (r ≡ Differing.Refused number side bit) × (now (list .exit) ≡ filled (length (now (list .entry))) []) ⌝ }
+{
+    store::clear_words(list, 0);
+    Differing::Refused(number, side, bit)
+}
+
 // Says what differs between two keys: the pairs of first bits, then zeros; all zeros on a refusal.
 pub fn differ(left: &[u8], right: &[u8], list: &mut [u64]) -> Differing
     ensures { λ r. ⌜ Differs (now (left .entry)) (now (right .entry)) (now (list .entry)) r (now (list .exit)) ⌝ }
@@ -34,13 +46,11 @@ pub fn differ(left: &[u8], right: &[u8], list: &mut [u64]) -> Differing
     let others = forms::words();
     let c = sound::check_whole(&forms, left);
     if c.why != 0 {
-        store::clear_words(list, 0);
-        return Differing::Refused(c.why, LEFT, c.bit);
+        return declined(list, c.why, LEFT, c.bit);
     }
     let d = sound::check_whole(&others, right);
     if d.why != 0 {
-        store::clear_words(list, 0);
-        return Differing::Refused(d.why, RIGHT, d.bit);
+        return declined(list, d.why, RIGHT, d.bit);
     }
     let start = Both {
         left: forms::EDITION_WIDTH,
@@ -58,8 +68,7 @@ pub fn differ(left: &[u8], right: &[u8], list: &mut [u64]) -> Differing
         start,
     );
     if list.len() / PAIR < p.found {
-        store::clear_words(list, 0);
-        return Differing::Refused(MANY_DIFFERENCES, NO_SIDE, 0);
+        return declined(list, MANY_DIFFERENCES, NO_SIDE, 0);
     }
     store::clear_words(list, p.found * PAIR);
     Differing::Found(p.found)
