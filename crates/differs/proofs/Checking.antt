@@ -1,24 +1,23 @@
 -- Steps of the check: spellings, choices, nodes, and how they join.
 use mathlib.Core.Path.{_≡_, refl, sym, ap, ap₂, _∙_, subst}
-use mathlib.Core.Bool.{Bool, true, false}
+use mathlib.Core.Bool.{true, false}
 use mathlib.Core.List.{List}
 use Prim.Native.Nat.{ℕ, zero, suc, _+_, _-_, _*_, _/_, _^_, _≤_, _<_}
 use native.Mathlib.Omega.{arith}
 use lib.ListN.{length, drop, length-drop}
-use Rattle.keys.specs.Bits.{Bits, Field, short, field, takeField, takeBytes, bitsOfBytes}
-use Rattle.keys.specs.BitsLaws.{clash, length-bytes}
-use Rattle.keys.specs.Form.{Form, never, one, word, choose, both, child, Grammar, isNever}
-use Rattle.keys.specs.Limits.{badKey, tooTall}
+use Rattle.keys.specs.Bits.{Bits, field, takeField, takeBytes, bitsOfBytes}
+use Rattle.keys.specs.BitsLaws.{length-bytes}
+use Rattle.keys.specs.Form.{Form, word, both, child, isNever}
+use Rattle.keys.specs.Limits.{badKey}
 use Rattle.fields.specs.Take.{answered}
 use Rattle.fields.specs.declared.take.TakenField.the-variants.{Number, Short}
 use Rattle.fields.proofs.Chunks.{Told, number-told, field-short}
-use Rattle.node_table.specs.Forms.{Entry, formOf, formBy, leads, listed, grammarOf, entryOf, entryAt, classAt, stepsOf, IsRow, Lists, spellingsThen, spellingIf, nodesThen, Narrow}
-use Rattle.node_table.specs.FormsLaws.{form-at}
+use Rattle.node_table.specs.Forms.{formOf, formBy, leads, entryOf, spellingsThen, spellingIf}
 use Rattle.node_table.specs.declared.forms.Row.{Row}
-use Rattle.key_in.proofs.Nevers.{before-one, some-times}
+use Rattle.key_in.proofs.Nevers.{before-one}
 use Rattle.key_in.proofs.Steps.{bytes-cut, bytes-whole, if-spelled}
 use Rattle.differs.specs.Content.{Content, ends, chooses, spells, enters}
-use Rattle.differs.specs.Sound.{Outcome, reads, fails, _⊕_, after, thenRead, asNode, readAllowed, readWhole, readLetters, readLength, readChoice, readSpelling, readForm, readNode, Checks, Onward, Placed, Sized, noForm, checkAt, SpellingsOn, AfterOn, Chosen, PlainOn, NodesOn}
+use Rattle.differs.specs.Sound.{Outcome, reads, fails, _⊕_, after, thenRead, readAllowed, readWhole, readLetters, readLength, readChoice, readSpelling, readForm, Checks, Onward, Placed, Sized, noForm, checkAt, SpellingsOn, AfterOn, Chosen, PlainOn}
 use Rattle.differs.specs.declared.sound.Check.{Check}
 use Rattle.differs.specs.declared.sound.Spot.{Spot}
 

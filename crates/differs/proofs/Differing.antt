@@ -1,22 +1,21 @@
 -- The whole call: each way in which it answers, and that there is one answer only.
-use mathlib.Core.Path.{_≡_, refl, sym, ap, ap₂, _∙_, subst}
-use mathlib.Core.Bool.{Bool, true, false}
-use mathlib.Core.List.{List, [], _∷_, _++_}
+use mathlib.Core.Path.{_≡_, refl, sym, ap, ap₂, _∙_}
+use mathlib.Core.Bool.{Bool}
+use mathlib.Core.List.{List, [], _∷_}
 use Prim.Native.Nat.{ℕ, zero, suc, _+_, _*_, _/_, _≤_, _<_}
 use native.Mathlib.Omega.{arith}
 use borrow.Author.Tests.{le-leb, lt-leb}
 use lib.Dec.{leb}
-use lib.ListN.{length, take, replicate}
-use Rattle.keys.specs.Bits.{Bits, bitsOfBytes}
+use lib.ListN.{length, take}
+use Rattle.keys.specs.Bits.{bitsOfBytes}
 use Rattle.keys.specs.BitsLaws.{clash}
-use Rattle.keys.specs.Form.{Value}
-use Rattle.keys.specs.Limits.{tallest, editionWidth}
-use Rattle.keys.specs.Key.{Taken, taken, refused, nodeTable}
+use Rattle.keys.specs.Limits.{tallest}
+use Rattle.keys.specs.Key.{Taken, nodeTable}
 use Rattle.keys.specs.Store.{filled}
 use Rattle.node_table.specs.Forms.{grammarOf}
 use Rattle.differs.specs.Content.{Content, ends, enters, contentOf, Pair, differences}
-use Rattle.differs.specs.Differ.{checked, wordsOf, Answer, found, no, Differed, declined, reported, besides, begins, differ, manyDifferences, noSide, leftSide, rightSide}
-use Rattle.differs.specs.Sound.{Outcome, reads, readNode, Wholly}
+use Rattle.differs.specs.Differ.{wordsOf, found, Differed, declined, reported, besides, begins, differ, manyDifferences, noSide, leftSide, rightSide}
+use Rattle.differs.specs.Sound.{reads, readNode, Wholly}
 use Rattle.differs.specs.Walk.{Kept, Read, Noded}
 use Rattle.differs.specs.Call.{answerOf, seen, Differs}
 use Rattle.differs.specs.declared.differ.Differing.{Differing}

@@ -1,5 +1,5 @@
 -- Where there is room enough, taking a key back and reading it come to the same.
-use mathlib.Core.Path.{_≡_, refl, sym, ap, ap₂, _∙_, subst, subst₂}
+use mathlib.Core.Path.{_≡_, refl, sym, ap, ap₂, _∙_, subst}
 use mathlib.Core.Bool.{Bool, true, false}
 use mathlib.Core.List.{List, _++_, append-assoc}
 use Prim.Native.Nat.{ℕ, zero, suc, _+_, _-_, _*_, _≤_, _<_}
@@ -12,9 +12,8 @@ use Rattle.keys.specs.Bits.{Bits, bitsOf, Field, short, field, takeField, bitsO
 use Rattle.keys.specs.BitsLaws.{clash, length-bits, length-bytes, take-back, bytes-back, Written, Spelled}
 use Rattle.keys.specs.Form.{Value, nothing, spelt, choice, pair, node, Form, never, one, word, choose, both, child, Grammar, isNever, write, State, state, Result, got, stop, stopAt, into, andThen, allowed, ifWhole, takeChoice, keep, takeLetters, takeLength, takeSpelling, takeRoom, takeForm, takeNode}
 use Rattle.keys.specs.Limits.{badKey, tooTall, noSpace}
-use Rattle.differs.specs.Content.{Content, ends, chooses, spells, enters, content}
+use Rattle.differs.specs.Content.{Content, ends, chooses, spells, content}
 use Rattle.differs.specs.Sound.{Outcome, reads, fails, _⊕_, after, thenRead, asNode, readAllowed, readWhole, readLetters, readLength, readChoice, readSpelling, readForm, readNode}
-use Rattle.differs.proofs.Checking.{join-join}
 
 -- Room for what the bits may hold; d is 1 where a node was counted before its first bit.
 pub record Enough (d : ℕ) (s : State) : Type 0 where

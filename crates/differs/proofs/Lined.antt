@@ -4,13 +4,12 @@ use mathlib.Core.Bool.{Bool, true, false}
 use Prim.Native.Nat.{ℕ, zero, suc, _+_}
 use lib.ListN.{drop}
 use Rattle.keys.specs.Bits.{Bits, Field, short, field, takeField}
-use Rattle.keys.specs.Form.{Form, one, choose, both, Grammar, isNever}
-use Rattle.keys.specs.Limits.{tooTall}
+use Rattle.keys.specs.Form.{Form, one, Grammar, isNever}
 use Rattle.keys.specs.Lines.{inLine, lined}
 use Rattle.key_in.proofs.Lines.{Fine, never-fine, one-fine, word-fine, child-fine, choose-fine, both-fine}
 use Rattle.differs.specs.Content.{Content, ends, chooses}
-use Rattle.differs.specs.Sound.{Outcome, reads, fails, _⊕_, after, thenRead, asNode, readAllowed, readWhole, readForm, readNode}
-use Rattle.differs.proofs.Checking.{join-ends, after-ends, after-after, then-after}
+use Rattle.differs.specs.Sound.{Outcome, reads, fails, after, thenRead, asNode, readAllowed, readWhole, readForm, readNode}
+use Rattle.differs.proofs.Checking.{join-ends, after-ends, then-after}
 
 never-line : {f : Form} {n : ℕ} → Fine f n → (g : Form) → isNever g ≡ false → isNever (inLine f g) ≡ isNever f
 never-line never-fine g z = refl

@@ -1,11 +1,11 @@
 -- The list of pairs: put, kept, grown, and put back.
-use mathlib.Core.Path.{_≡_, refl, sym, ap, ap₂, _∙_, subst}
+use mathlib.Core.Path.{_≡_, refl, sym, ap, _∙_, subst}
 use mathlib.Core.List.{List, [], _∷_, _++_, append-assoc, append-nil}
 use mathlib.Core.Logic.{_⊎_, inl, inr}
-use Prim.Native.Nat.{ℕ, zero, suc, _+_, _-_, _*_, _≤_, _<_}
+use Prim.Native.Nat.{ℕ, zero, suc, _+_, _*_, _≤_, _<_}
 use native.Mathlib.Omega.{arith}
 use lib.ListN.{length, take, set, length-set, length-append}
-use lib.Seq.{take-suc-set, take-all, take-set-le}
+use lib.Seq.{take-suc-set, take-set-le}
 use Rattle.keys.specs.BitsLaws.{le-or-lt}
 use Rattle.differs.specs.Content.{Pair}
 use Rattle.differs.specs.Differ.{wordsOf}

@@ -1,22 +1,20 @@
 -- Nodes of the check: what is left of a node from a form on, nodes one after the other, and a node by its tag.
 use mathlib.Core.Path.{_≡_, refl, sym, ap, ap₂, _∙_, subst}
 use mathlib.Core.List.{List}
-use Prim.Native.Nat.{ℕ, zero, suc, _+_, _-_, _*_, _^_, _≤_, _<_}
+use Prim.Native.Nat.{ℕ, zero, suc, _+_, _-_, _^_, _≤_, _<_}
 use native.Mathlib.Omega.{arith}
 use lib.ListN.{length}
 use Rattle.keys.specs.Bits.{Bits}
-use Rattle.keys.specs.BitsLaws.{clash}
-use Rattle.keys.specs.Form.{Form, child, both, Grammar}
+use Rattle.keys.specs.Form.{Form, child}
 use Rattle.keys.specs.Limits.{badKey, tooTall, widest}
 use Rattle.node_table.specs.Forms.{Entry, formOf, formBy, leads, grammarOf, entryOf, entryAt, classAt, stepsOf, IsRow, spellingIf, nodesThen, Narrow}
 use Rattle.node_table.specs.FormsLaws.{form-at}
 use Rattle.node_table.specs.declared.forms.Row.{Row}
-use Rattle.key_in.proofs.Nevers.{before-one}
-use Rattle.differs.specs.Content.{Content, ends, chooses, enters}
-use Rattle.differs.specs.Sound.{Outcome, reads, fails, _⊕_, after, thenRead, asNode, readChoice, readForm, readNode, Checks, Onward, Placed, Sized, checkAt, AfterOn, Chosen, PlainOn, NodesOn}
+use Rattle.differs.specs.Content.{ends, chooses, enters}
+use Rattle.differs.specs.Sound.{Outcome, fails, _⊕_, after, asNode, readChoice, readForm, readNode, Checks, Onward, Placed, Sized, checkAt, AfterOn, Chosen, NodesOn}
 use Rattle.differs.specs.declared.sound.Check.{Check}
 use Rattle.differs.specs.declared.sound.Spot.{Spot}
-use Rattle.differs.proofs.Checking.{join-ends, on-none, on-then, on-child, checks-bad, checks-good}
+use Rattle.differs.proofs.Checking.{on-none, on-then, on-child, checks-bad, checks-good}
 
 -- A row that was read fits the table.
 pub row-sized : (T : List ℕ) → Narrow T → (f : ℕ) (r : Row) → IsRow (entryAt T f) r → Sized r

@@ -1,7 +1,7 @@
 -- Two nodes walked together: what is left of them from a form on, and the nodes by their tags.
 use mathlib.Core.Path.{_≡_, refl, sym, ap, ap₂, _∙_, subst}
 use mathlib.Core.Bool.{Bool, true, false}
-use mathlib.Core.List.{List, [], _∷_, _++_, append-nil}
+use mathlib.Core.List.{List, [], _∷_, append-nil}
 use Prim.Native.Nat.{ℕ, zero, suc, _+_, _-_, _*_, _^_, _≤_, _<_}
 use native.Mathlib.Omega.{arith}
 use borrow.Author.Tests.{eq-eqb, ne-eqb}
@@ -14,18 +14,17 @@ use Rattle.keys.specs.Form.{Form, never, one, word, choose, both, child, Gramma
 use Rattle.fields.specs.Take.{answered}
 use Rattle.fields.specs.declared.take.TakenField.the-variants.{Number}
 use Rattle.fields.proofs.Chunks.{Told, number-told}
-use Rattle.node_table.specs.Forms.{Entry, formOf, formBy, leads, grammarOf, entryOf, entryAt, classAt, stepsOf, IsRow, Lists, Jumps, spellingsThen, spellingIf, nodesThen, Narrow}
+use Rattle.node_table.specs.Forms.{Entry, formOf, formBy, leads, grammarOf, entryOf, entryAt, classAt, stepsOf, IsRow, Lists, Jumps, spellingsThen, spellingIf, nodesThen}
 use Rattle.node_table.specs.FormsLaws.{form-at}
 use Rattle.node_table.specs.declared.forms.Row.{Row as TableRow}
 use Rattle.node_table.specs.declared.forms.Jump.{Jump}
-use Rattle.differs.specs.Content.{Content, ends, chooses, spells, enters, own, Pair, inside, differences}
+use Rattle.differs.specs.Content.{Content, ends, chooses, enters, own, Pair, inside, differences}
 use Rattle.differs.specs.Sound.{Outcome, reads, fails, _⊕_, after, thenRead, asNode, readAllowed, readWhole, readLetters, readLength, readChoice, readSpelling, readForm, readNode, Checks}
-use Rattle.differs.specs.Walk.{Grows, Puts, Beside, beside-ends, beside-chooses, Read, Inside, Along, noNode, SpelledOn, SpelledAll, Noded, NodedAll, Rested, Parted}
+use Rattle.differs.specs.Walk.{Puts, beside-ends, beside-chooses, Read, Inside, Along, noNode, SpelledOn, SpelledAll, Noded, NodedAll, Rested, Parted}
 use Rattle.differs.specs.declared.sound.Check.{Check}
 use Rattle.differs.specs.declared.walk.Both.{Both}
-use Rattle.differs.proofs.Checking.{join-ends, after-ends}
 use Rattle.differs.proofs.Listed.{grows-none, grows-as, puts-grows, puts-over}
-use Rattle.differs.proofs.Walking.{beside-differ, beside-own, Behind, after-back, read-behind, Firstly, then-back, along-none, along-then, told-one}
+use Rattle.differs.proofs.Walking.{beside-differ, beside-own, after-back, read-behind, then-back, along-none, along-then, told-one}
 
 -- ---- Reading goes on
 

@@ -3,7 +3,7 @@ use mathlib.Core.Path.{_≡_, refl, sym, ap, ap₂, _∙_, subst}
 use mathlib.Core.Logic.{_↔_}
 use mathlib.Core.Bool.{Bool, true, false}
 use mathlib.Core.List.{List, [], _∷_, _++_}
-use Prim.Native.Nat.{ℕ, zero, suc, _+_, _*_, _/_, _^_, _≤_, _<_}
+use Prim.Native.Nat.{ℕ, zero, suc, _+_, _/_, _≤_, _<_}
 use native.Mathlib.Nat.{le-trans, le-refl}
 use native.Mathlib.Omega.{arith}
 use borrow.Author.Tests.{eqb-true, eqb-false, eq-eqb, ne-eqb}
@@ -17,9 +17,9 @@ use Rattle.keys.specs.Form.{Value, nothing, spelt, choice, pair, node, Form, wo
 use Rattle.keys.specs.FormLaws.{some}
 use Rattle.keys.specs.Limits.{editionWidth}
 use Rattle.keys.specs.Table.{type}
-use Rattle.keys.specs.Key.{Taken, taken, refused, nodeTable}
+use Rattle.keys.specs.Key.{Taken, taken, nodeTable}
 use Rattle.differs.specs.Content.{Content, ends, chooses, spells, enters, content, contentOf, own, Pair, unless, inside, differences}
-use Rattle.differs.specs.Differ.{checked, Differed, reported, besides, begins, differ, turned, Rises, no-more, one-more}
+use Rattle.differs.specs.Differ.{checked, reported, besides, begins, differ, turned, Rises, no-more, one-more}
 
 -- ---- Lists
 

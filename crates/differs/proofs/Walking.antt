@@ -2,7 +2,7 @@
 use mathlib.Core.Path.{_≡_, refl, sym, ap, ap₂, _∙_, subst}
 use mathlib.Core.Bool.{Bool, true, false}
 use mathlib.Core.List.{List, [], _∷_, _++_, append-assoc, append-nil}
-use Prim.Native.Nat.{ℕ, zero, suc, _+_, _-_, _*_, _^_, _≤_, _<_}
+use Prim.Native.Nat.{ℕ, zero, suc, _+_, _-_, _*_, _≤_, _<_}
 use native.Mathlib.Omega.{arith}
 use borrow.Author.Tests.{eq-eqb, ne-eqb}
 use lib.Dec.{eqb}
@@ -11,18 +11,18 @@ use Rattle.words.specs.Test.{_and_, same}
 use Rattle.words.proofs.Bytes.{same-long}
 use Rattle.keys.specs.Bits.{Bits, Field, short, field, takeField, Row, cut, row, ahead, afterByte, takeBytes, bitsOfBytes}
 use Rattle.keys.specs.BitsLaws.{clash, length-bytes, bytes-back}
-use Rattle.keys.specs.Form.{Form, one, word, choose, both, child, Grammar, isNever}
+use Rattle.keys.specs.Form.{Form, one, word, both, child, Grammar}
 use Rattle.keys.specs.Key.{bytesIn}
 use Rattle.fields.specs.Take.{answered}
 use Rattle.fields.specs.declared.take.TakenField.the-variants.{Number}
 use Rattle.fields.proofs.Chunks.{Told, number-told, take-rest}
 use Rattle.node_table.specs.Forms.{spellingsThen, spellingIf, nodesThen}
 use Rattle.key_in.proofs.Steps.{bytes-whole, if-spelled}
-use Rattle.differs.specs.Content.{Content, ends, chooses, spells, enters, own, Pair, unless, inside, differences}
-use Rattle.differs.specs.Sound.{Outcome, reads, fails, _⊕_, after, thenRead, asNode, readAllowed, readWhole, readLetters, readLength, readChoice, readSpelling, readForm, readNode}
+use Rattle.differs.specs.Content.{Content, ends, spells, enters, own, Pair, unless, inside, differences}
+use Rattle.differs.specs.Sound.{Outcome, reads, fails, _⊕_, after, thenRead, readLetters, readLength, readSpelling, readForm, readNode}
 use Rattle.differs.specs.Walk.{Grows, Puts, Beside, beside-ends, beside-chooses, beside-spells, beside-enters, Read, Inside, Along, noNode, SpelledOn, SpelledAll, SpelledAfter, Noded, NodedAll}
 use Rattle.differs.specs.declared.walk.Both.{Both}
-use Rattle.differs.proofs.Checking.{join-ends, join-join, after-ends, after-after}
+use Rattle.differs.proofs.Checking.{after-ends, after-after}
 use Rattle.differs.proofs.Listed.{grows-none, grows-as, grows-then, puts-grows}
 
 -- ---- Contents beside each other

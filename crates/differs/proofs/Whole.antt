@@ -1,20 +1,18 @@
 -- A whole key: its length, its edition, its tree and its last bits.
 use mathlib.Core.Path.{_≡_, refl, sym, ap, ap₂, _∙_, subst}
-use mathlib.Core.Bool.{Bool, true, false}
+use mathlib.Core.Bool.{Bool, true}
 use mathlib.Core.List.{List, [], _∷_}
 use Prim.Native.Nat.{ℕ, zero, suc, _+_, _-_, _*_, _%_, _≤_, _<_}
 use native.Mathlib.Nat.{le-refl}
 use native.Mathlib.Omega.{arith}
 use borrow.Author.Tests.{le-leb, lt-leb}
-use lib.Dec.{leb, eqb}
 use lib.ListN.{length, drop, length-drop}
-use Rattle.keys.specs.Bits.{Bits, Field, short, field, takeField, bitsOfBytes}
+use Rattle.keys.specs.Bits.{Bits, short, field, takeField, bitsOfBytes}
 use Rattle.keys.specs.BitsLaws.{clash, length-bytes}
-use Rattle.keys.specs.Form.{Value, nothing, choice, Form, never, one, child, Grammar, isNever, State, state, Result, got, stop, into, allowed, ifWhole, takeForm, takeNode}
-use Rattle.keys.specs.Limits.{longestKey, tallest, countWidth, badKey, noSpace, editionWidth}
+use Rattle.keys.specs.Form.{Value, nothing, choice, never, child, Grammar, isNever, State, state, Result, stop, into, allowed, ifWhole, takeForm, takeNode}
+use Rattle.keys.specs.Limits.{longestKey, tallest, countWidth, badKey}
 use Rattle.keys.specs.Table.{oneOf, type, wholeKey}
-use Rattle.keys.specs.Key.{padding, closed, Taken, taken, refused, placeOf, outcome, nodeTable, takeWithin}
-use Rattle.keys.specs.Lines.{lined}
+use Rattle.keys.specs.Key.{padding, closed, taken, refused, placeOf, outcome, nodeTable, takeWithin}
 use Rattle.fields.specs.Take.{answered}
 use Rattle.fields.specs.declared.take.TakenField.the-variants.{Number, Short}
 use Rattle.fields.proofs.Chunks.{Told, number-told, field-short}
@@ -24,10 +22,10 @@ use Rattle.key_in.specs.Back.{Ends}
 use Rattle.key_in.proofs.Rows.{table-fine}
 use Rattle.differs.specs.Content.{contentOf}
 use Rattle.differs.specs.Differ.{checked}
-use Rattle.differs.specs.Sound.{Outcome, reads, fails, readNode, Checks, checkAt, Verdict, Wholly}
+use Rattle.differs.specs.Sound.{reads, fails, readNode, Checks, checkAt, Wholly}
 use Rattle.differs.specs.declared.sound.Check.{Check}
 use Rattle.differs.proofs.Lined.{lined-read}
-use Rattle.differs.proofs.Enough.{Enough, Eager, eager-never, eager-word, eager-choose, eager-both, At, Same, same-got, same-stop, same-node}
+use Rattle.differs.proofs.Enough.{Eager, eager-never, eager-word, eager-choose, eager-both, Same, same-got, same-stop, same-node}
 
 -- A type parameter and a parameter have no tag, and begin with a field.
 eager-table : (c t : ℕ) → nodeTable .tagWidth c ≡ 0 → Eager (nodeTable .row c t)

@@ -1,14 +1,13 @@
 -- The call that says what differs between two keys, whole: its answer and the final content of the list it is lent (02, W9).
 use mathlib.Core.Bool.{Bool, true, false}
 use mathlib.Core.List.{List, [], _∷_}
-use mathlib.Core.Path.{_≡_}
 use Prim.Native.Nat.{ℕ, suc, _*_, _/_, _≤_}
 use lib.Dec.{leb}
 use lib.ListN.{length}
 use Rattle.keys.specs.Form.{Value, Grammar}
 use Rattle.keys.specs.Key.{Taken, taken, refused, nodeTable, takeKey}
 use Rattle.keys.specs.Store.{filled}
-use Rattle.differs.specs.Content.{Content, content, contentOf, own, Pair, differences}
+use Rattle.differs.specs.Content.{content, contentOf, own, Pair, differences}
 
 -- ---- Is it a key?
 

@@ -2,13 +2,13 @@
 use mathlib.Core.Bool.{Bool, true, false}
 use mathlib.Core.List.{List}
 use mathlib.Core.Path.{_≡_}
-use Prim.Native.Nat.{ℕ, zero, suc, _+_, _*_, _%_, _≤_, _<_, _^_}
+use Prim.Native.Nat.{ℕ, zero, suc, _+_, _*_, _≤_, _<_, _^_}
 use lib.ListN.{length, drop}
 use Rattle.keys.specs.Bits.{Bits, bitsOfBytes, Field, short, field, takeField, Row, cut, row, takeBytes}
 use Rattle.keys.specs.Form.{Value, Form, never, one, word, choose, both, child, Grammar, isNever}
 use Rattle.keys.specs.Key.{Taken, taken, refused, nodeTable}
 use Rattle.keys.specs.Limits.{tooTall, badKey, widest, longestKey, tallest, editionWidth}
-use Rattle.node_table.specs.Forms.{formOf, formBy, grammarOf, entryOf, entryAt, classAt, spellingsThen, spellingIf, nodesThen, Narrow}
+use Rattle.node_table.specs.Forms.{formOf, formBy, grammarOf, entryOf, spellingsThen, spellingIf, nodesThen}
 use Rattle.node_table.specs.declared.forms.Row.{Row as TableRow}
 use Rattle.differs.specs.Content.{Content, ends, chooses, spells, enters, contentOf}
 use Rattle.differs.specs.Differ.{checked}

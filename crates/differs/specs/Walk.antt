@@ -1,13 +1,12 @@
 -- The walk of two keys together: what stands in the list, and what its functions answer (02, W9).
-use mathlib.Core.Bool.{Bool}
 use mathlib.Core.List.{List, [], _∷_, _++_}
 use mathlib.Core.Path.{_≡_}
-use Prim.Native.Nat.{ℕ, _+_, _*_, _≤_, _<_, _^_}
+use Prim.Native.Nat.{ℕ, _+_, _*_, _≤_}
 use lib.ListN.{length, take}
 use Rattle.words.specs.Test.{same}
 use Rattle.keys.specs.Bits.{Bits}
 use Rattle.keys.specs.Form.{Form, word, both, Grammar}
-use Rattle.node_table.specs.Forms.{formOf, grammarOf, spellingsThen, spellingIf, nodesThen}
+use Rattle.node_table.specs.Forms.{spellingsThen, spellingIf, nodesThen}
 use Rattle.differs.specs.Content.{Content, ends, chooses, spells, enters, own, Pair, inside, differences}
 use Rattle.differs.specs.Differ.{wordsOf}
 use Rattle.differs.specs.Sound.{Outcome, reads, fails, after, readForm, readNode}

@@ -1,6 +1,6 @@
 -- Both keys are checked, the left one first; then they are walked together.
 use native.Mathlib.Omega.{arith}
-use mathlib.Core.Path.{_≡_, refl, sym, ap, subst, _∙_}
+use mathlib.Core.Path.{sym, subst, _∙_}
 use mathlib.Core.List.{List}
 use Prim.Native.Nat.{ℕ}
 use Rattle.keys.specs.BitsLaws.{length-bytes}

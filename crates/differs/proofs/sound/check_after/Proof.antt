@@ -1,10 +1,7 @@
 -- The spelling after a child, if there is one.
 use native.Mathlib.Omega.{arith}
-use mathlib.Core.Path.{_≡_, refl, sym, ap, _∙_}
-use Prim.Native.Nat.{_-_}
 use Rattle.keys.specs.Bits.{bitsOfBytes}
 use Rattle.keys.specs.BitsLaws.{length-bytes}
-use Rattle.fields.specs.declared.take.TakenField.the-variants.{Number}
 use Rattle.differs.proofs.Checking.{after-none, after-word}
 use borrow.Author.Needs.{needs}
 use Rattle.differs.proofs.sound.check_after.Statement.{statement}

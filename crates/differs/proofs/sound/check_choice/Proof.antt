@@ -1,11 +1,10 @@
 -- A choice: its number, whether it leads anywhere, and where.
 use native.Mathlib.Omega.{arith}
-use mathlib.Core.Path.{_≡_, refl, sym, ap, _∙_}
+use mathlib.Core.Path.{sym, ap, _∙_}
 use Prim.Native.Nat.{_-_}
 use Rattle.keys.specs.Bits.{bitsOfBytes}
 use Rattle.keys.specs.BitsLaws.{length-bytes}
 use Rattle.fields.specs.declared.take.TakenField.the-variants.{Number}
-use Prim.Native.Nat.{ℕ}
 use Rattle.keys.specs.Form.{isNever}
 use Rattle.fields.proofs.Chunks.{number-told}
 use Rattle.node_table.specs.Forms.{leads, formOf, entryOf}

@@ -1,6 +1,6 @@
 -- A step that goes into no child, by its operation.
 use native.Mathlib.Omega.{arith}
-use mathlib.Core.Path.{_≡_, refl, sym, ap, subst, _∙_}
+use mathlib.Core.Path.{sym}
 use Rattle.keys.specs.Bits.{bitsOfBytes}
 use Rattle.keys.specs.BitsLaws.{length-bytes}
 use Rattle.differs.proofs.Checking.{plain-choice, plain-words, plain-word, plain-never}

@@ -1,11 +1,8 @@
 -- A spelling: cut short, without a byte, or passed.
 use native.Mathlib.Omega.{arith}
-use mathlib.Core.Path.{_≡_, refl, sym, ap, _∙_}
-use Prim.Native.Nat.{_-_}
-use Rattle.keys.specs.Bits.{bitsOfBytes}
-use Rattle.keys.specs.BitsLaws.{length-bytes}
+use mathlib.Core.Path.{sym, ap, _∙_}
 use Rattle.fields.specs.declared.take.TakenField.the-variants.{Number}
-use Rattle.differs.proofs.Checking.{spell-short, spell-within, spell-zero, spell-cut, spell-ends, spell-done}
+use Rattle.differs.proofs.Checking.{spell-short, spell-within, spell-zero, spell-cut, spell-done}
 use borrow.Author.Needs.{needs}
 use Rattle.differs.proofs.sound.check_spelling.Statement.{statement}
 use Rattle.differs.proofs.sound.check_spelling.Tie as tie

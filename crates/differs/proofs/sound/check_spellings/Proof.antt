@@ -1,12 +1,9 @@
 -- n spellings, one after the other.
 use borrow.Author.Needs.{needs}
 use native.Mathlib.Omega.{arith}
-use mathlib.Core.Path.{_≡_, refl, sym, ap, _∙_}
 use Prim.Native.Nat.{_-_}
 use Rattle.keys.specs.Bits.{bitsOfBytes}
 use Rattle.keys.specs.BitsLaws.{length-bytes}
-use Rattle.fields.specs.declared.take.TakenField.the-variants.{Number}
-use lib.ListN.{length}
 use Rattle.differs.proofs.Checking.{Spelling, spelling-none, spelling-more, spelling-stop, spelling-all}
 use Rattle.differs.proofs.sound.check_spellings.Statement.{statement}
 use Rattle.differs.proofs.sound.check_spellings.Tie as tie

@@ -1,7 +1,6 @@
 -- A choice: its number, whether it leads anywhere, and where.
 use native.Mathlib.Omega.{arith}
-use mathlib.Core.Path.{_≡_, refl, sym, ap, _∙_}
-use Prim.Native.Nat.{_-_}
+use mathlib.Core.Path.{sym, ap, _∙_}
 use Rattle.keys.specs.Bits.{bitsOfBytes}
 use Rattle.keys.specs.BitsLaws.{length-bytes}
 use Rattle.fields.specs.declared.take.TakenField.the-variants.{Number}

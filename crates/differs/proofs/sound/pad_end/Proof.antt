@@ -1,6 +1,6 @@
 -- The bits after a tree, to the byte.
 use native.Mathlib.Omega.{arith}
-use Prim.Native.Nat.{_-_, _*_}
+use Prim.Native.Nat.{_-_}
 use lib.ListN.{length}
 use Rattle.keys.specs.Bits.{bitsOfBytes}
 use Rattle.keys.specs.BitsLaws.{length-bytes}

@@ -1,5 +1,4 @@
 -- One proof for the three functions that call each other: each has a module below, with its needs.
-use Prim.Native.Nat.{ℕ}
 mod Base
 mod OfNode
 mod OfNodes

@@ -1,8 +1,7 @@
 -- Each side passes its own rest over, and one pair stands for both nodes.
 use native.Mathlib.Omega.{arith}
-use mathlib.Core.Path.{_≡_, refl, sym, ap, subst, _∙_}
+use mathlib.Core.Path.{refl, sym, subst}
 use Rattle.keys.specs.Bits.{bitsOfBytes}
-use Rattle.keys.specs.BitsLaws.{length-bytes}
 use Rattle.node_table.specs.Forms.{Narrow}
 use Rattle.differs.proofs.Rests.{parted}
 use borrow.Author.Needs.{needs}

@@ -1,6 +1,5 @@
 -- Bytes compared one after the other.
 use native.Mathlib.Omega.{arith}
-use mathlib.Core.Path.{_≡_, refl, sym, ap, subst, _∙_}
 use Rattle.keys.specs.Bits.{bitsOfBytes}
 use Rattle.keys.specs.BitsLaws.{length-bytes}
 use Prim.Native.Nat.{_-_}

@@ -1,6 +1,6 @@
 -- Spellings of different lengths differ; else their bytes are compared.
 use native.Mathlib.Omega.{arith}
-use mathlib.Core.Path.{_≡_, refl, sym, ap, subst, _∙_}
+use mathlib.Core.Path.{ap, _∙_}
 use Rattle.keys.specs.Bits.{bitsOfBytes}
 use Rattle.keys.specs.BitsLaws.{length-bytes}
 use Prim.Native.Nat.{ℕ}
@@ -9,7 +9,6 @@ use Rattle.keys.specs.Bits.{takeBytes}
 use Rattle.keys.specs.Key.{bytesIn}
 use lib.ListN.{drop}
 use Rattle.differs.proofs.Walking.{sizes-differ}
-use borrow.Author.Needs.{needs}
 use Rattle.differs.proofs.walk.same_spelling.Statement.{statement}
 use Rattle.differs.proofs.walk.same_spelling.Tie as tie
 use Rattle.differs.proofs.walk.same_spelling.Reads as reads

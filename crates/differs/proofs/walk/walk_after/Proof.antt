@@ -1,8 +1,6 @@
 -- The spellings after two children, if there are any.
 use native.Mathlib.Omega.{arith}
-use mathlib.Core.Path.{_≡_, refl, sym, ap, subst, _∙_}
 use Rattle.keys.specs.Bits.{bitsOfBytes}
-use Rattle.keys.specs.BitsLaws.{length-bytes}
 use Rattle.differs.proofs.Walking.{inside-bits, after-none, if-left, if-right, after-word}
 use borrow.Author.Needs.{needs}
 use Rattle.differs.proofs.walk.walk_after.Statement.{statement}

@@ -1,8 +1,5 @@
 -- Two spellings: the same, or a pair.
 use native.Mathlib.Omega.{arith}
-use mathlib.Core.Path.{_≡_, refl, sym, ap, subst, _∙_}
-use Rattle.keys.specs.Bits.{bitsOfBytes}
-use Rattle.keys.specs.BitsLaws.{length-bytes}
 use Rattle.differs.proofs.Walking.{word-within, word-ends, words-same, words-apart}
 use borrow.Author.Needs.{needs}
 use Rattle.differs.proofs.walk.walk_spelling.Statement.{statement}

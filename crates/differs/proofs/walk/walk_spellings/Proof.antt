@@ -1,8 +1,6 @@
 -- n spellings on each side, one after the other.
 use native.Mathlib.Omega.{arith}
-use mathlib.Core.Path.{_≡_, refl, sym, ap, subst, _∙_}
 use Rattle.keys.specs.Bits.{bitsOfBytes}
-use Rattle.keys.specs.BitsLaws.{length-bytes}
 use Prim.Native.Nat.{_-_}
 use Rattle.keys.specs.Form.{one}
 use Rattle.differs.specs.Walk.{noNode}

@@ -1,14 +1,12 @@
 -- The needs of `check_node`.
 use native.Mathlib.Omega.{arith}
-use mathlib.Core.Path.{_≡_, refl, sym, ap, subst, _∙_}
+use mathlib.Core.Path.{sym, subst}
 use Rattle.keys.specs.Bits.{bitsOfBytes}
 use Rattle.keys.specs.BitsLaws.{length-bytes}
-use Prim.Native.Nat.{ℕ, suc, _+_, _-_, _*_, _^_, _≤_, _<_}
-use lib.ListN.{length}
+use Prim.Native.Nat.{ℕ, _-_, _≤_}
 use Rattle.keys.specs.Limits.{widest}
-use Rattle.node_table.specs.Forms.{Entry, formOf, grammarOf}
-use Rattle.differs.specs.Sound.{readNode}
-use Rattle.key_in.proofs.Nevers.{before-one, later}
+use Rattle.node_table.specs.Forms.{Entry}
+use Rattle.key_in.proofs.Nevers.{before-one}
 use Rattle.differs.proofs.Nodes.{node-bad, node-tall, tag-placed, node-done, placed-as}
 use Prim.Native.Nat.{ℕ}
 use borrow.Author.Needs.{needs}

@@ -1,14 +1,11 @@
 -- The needs of `check_nodes`.
 use native.Mathlib.Omega.{arith}
-use mathlib.Core.Path.{_≡_, refl, sym, ap, subst, _∙_}
+use mathlib.Core.Path.{refl}
 use Rattle.keys.specs.Bits.{bitsOfBytes}
 use Rattle.keys.specs.BitsLaws.{length-bytes}
-use Prim.Native.Nat.{ℕ, suc, _+_, _-_, _*_, _^_, _≤_, _<_}
-use lib.ListN.{length}
-use Rattle.keys.specs.Limits.{widest}
-use Rattle.node_table.specs.Forms.{Entry, formOf, grammarOf}
+use Prim.Native.Nat.{ℕ, _-_}
+use Rattle.node_table.specs.Forms.{grammarOf}
 use Rattle.differs.specs.Sound.{readNode}
-use Rattle.key_in.proofs.Nevers.{before-one, later}
 use Rattle.differs.proofs.Nodes.{Turn, turn-none, turn-stop, turn-off, turn-more, turn-all}
 use Prim.Native.Nat.{ℕ}
 use borrow.Author.Needs.{needs}

@@ -1,16 +1,13 @@
 -- The needs of `walk_node`.
 use native.Mathlib.Omega.{arith}
-use mathlib.Core.Path.{_≡_, refl, sym, ap, subst, _∙_}
+use mathlib.Core.Path.{refl, sym, subst}
 use mathlib.Core.List.{List}
-use Prim.Native.Nat.{ℕ, suc, _+_, _-_, _*_, _^_, _≤_, _<_}
-use lib.ListN.{length}
+use Prim.Native.Nat.{ℕ, _+_, _^_, _≤_, _<_}
 use Rattle.keys.specs.Bits.{bitsOfBytes}
 use Rattle.keys.specs.BitsLaws.{length-bytes}
 use Rattle.keys.specs.Limits.{widest}
-use Rattle.keys.specs.Form.{one}
-use Rattle.node_table.specs.Forms.{Entry, formOf, grammarOf, entryAt, classAt, IsRow, Lists, Jumps}
+use Rattle.node_table.specs.Forms.{Entry, classAt, IsRow, Lists}
 use Rattle.node_table.specs.declared.forms.Row.{Row}
-use Rattle.differs.specs.Sound.{readNode}
 use Rattle.differs.proofs.Rests.{some-bit, row-one, some-height, tag-within, tag-small, node-whole, node-rest, tags-same, tags-apart, behind-tags, lists-as}
 use Prim.Native.Nat.{ℕ}
 use borrow.Author.Needs.{needs}

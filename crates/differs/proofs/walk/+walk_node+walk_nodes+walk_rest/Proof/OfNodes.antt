@@ -1,16 +1,9 @@
 -- The needs of `walk_nodes`.
 use native.Mathlib.Omega.{arith}
-use mathlib.Core.Path.{_≡_, refl, sym, ap, subst, _∙_}
-use mathlib.Core.List.{List}
-use Prim.Native.Nat.{ℕ, suc, _+_, _-_, _*_, _^_, _≤_, _<_}
-use lib.ListN.{length}
+use Prim.Native.Nat.{ℕ, _-_}
 use Rattle.keys.specs.Bits.{bitsOfBytes}
-use Rattle.keys.specs.BitsLaws.{length-bytes}
-use Rattle.keys.specs.Limits.{widest}
 use Rattle.keys.specs.Form.{one}
-use Rattle.node_table.specs.Forms.{Entry, formOf, grammarOf, entryAt, classAt, IsRow, Lists, Jumps}
-use Rattle.node_table.specs.declared.forms.Row.{Row}
-use Rattle.differs.specs.Sound.{readNode}
+use Rattle.node_table.specs.Forms.{grammarOf}
 use Rattle.differs.proofs.Walking.{inside-bits, inside-bytes, Turn, turn-none, node-left, node-right, word-left, word-right, turn-more, turn-all}
 use Prim.Native.Nat.{ℕ}
 use borrow.Author.Needs.{needs}

@@ -1,16 +1,13 @@
 -- The needs of `walk_rest`.
 use native.Mathlib.Omega.{arith}
-use mathlib.Core.Path.{_≡_, refl, sym, ap, subst, _∙_}
+use mathlib.Core.Path.{sym, ap, subst, _∙_}
 use mathlib.Core.List.{List}
-use Prim.Native.Nat.{ℕ, suc, _+_, _-_, _*_, _^_, _≤_, _<_}
-use lib.ListN.{length}
+use Prim.Native.Nat.{ℕ, _≤_}
 use Rattle.keys.specs.Bits.{bitsOfBytes}
 use Rattle.keys.specs.BitsLaws.{length-bytes}
 use Rattle.keys.specs.Limits.{widest}
-use Rattle.keys.specs.Form.{one}
-use Rattle.node_table.specs.Forms.{Entry, formOf, grammarOf, entryAt, classAt, IsRow, Lists, Jumps}
+use Rattle.node_table.specs.Forms.{Entry, entryAt, IsRow}
 use Rattle.node_table.specs.declared.forms.Row.{Row}
-use Rattle.differs.specs.Sound.{readNode}
 use Rattle.differs.proofs.Walking.{inside-bits, inside-bytes}
 use Rattle.differs.proofs.Rests.{row-one, Coming, coming-none, rest-never, rest-end, nodes-left, nodes-right, nodes-on, words-left, words-right, words-on, word-left, word-right, word-on, choice-left, choice-right, choice-on, rest-left, rest-right, some-found, rest-apart, jumps-as}
 use Prim.Native.Nat.{ℕ}
