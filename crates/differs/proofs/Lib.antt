@@ -8,3 +8,4 @@ pub mod Listed
 pub mod Walking
 pub mod Rests
 pub mod Differing
+pub mod Keys
