@@ -1,0 +1,11 @@
+pub mod Theorems
+pub mod Checking
+pub mod Nodes
+pub mod Lined
+pub mod Enough
+pub mod Whole
+pub mod Listed
+pub mod Walking
+pub mod Rests
+pub mod Differing
+pub mod Keys

@@ -1,0 +1,113 @@
+-- The walk of two keys together: what stands in the list, and what its functions answer (02, W9).
+use mathlib.Core.List.{List, [], _∷_, _++_}
+use mathlib.Core.Path.{_≡_}
+use Prim.Native.Nat.{ℕ, _+_, _*_, _≤_}
+use lib.ListN.{length, take}
+use Rattle.words.specs.Test.{same}
+use Rattle.keys.specs.Bits.{Bits}
+use Rattle.keys.specs.Form.{Form, word, both, Grammar}
+use Rattle.node_table.specs.Forms.{spellingsThen, spellingIf, nodesThen}
+use Rattle.differs.specs.Content.{Content, ends, chooses, spells, enters, own, Pair, inside, differences}
+use Rattle.differs.specs.Differ.{wordsOf}
+use Rattle.differs.specs.Sound.{Outcome, reads, fails, after, readForm, readNode}
+use Rattle.differs.specs.declared.walk.Both.{Both}
+
+-- ---- The list
+
+-- The list's first words are the first of the pairs, as far as it has room.
+abbrev pub Kept : List ℕ → List Pair → Type 0
+Kept l ps = (k : ℕ) → k ≤ length ps → k * 2 ≤ length l → take (k * 2) l ≡ wordsOf (take k ps)
+
+-- Behind n pairs others were found.
+pub record Grows (l : List ℕ) (n : ℕ) (m : List ℕ) (new : List Pair) : Type 0 where
+  pub long : length m ≡ length l
+  pub kept : (ps : List Pair) → length ps ≡ n → Kept l ps → Kept m (ps ++ new)
+
+-- A pair was put behind n others, if there is room.
+pub record Puts (l : List ℕ) (n a b : ℕ) (m : List ℕ) : Type 0 where
+  pub long : length m ≡ length l
+  pub below : (k : ℕ) → k ≤ n → take (k * 2) m ≡ take (k * 2) l
+  pub there : (n + 1) * 2 ≤ length l → take ((n + 1) * 2) m ≡ take (n * 2) l ++ (a ∷ b ∷ [])
+
+-- ---- Two contents beside each other
+
+-- The same choices, and as many spellings and nodes in the same places.
+pub data Beside : Content → Content → Type 0 where
+  beside-ends : Beside ends ends
+  beside-chooses : {k : ℕ} {c d : Content} → Beside c d → Beside (chooses k c) (chooses k d)
+  beside-spells : {a b : ℕ} {s t : List ℕ} {c d : Content} → Beside c d → Beside (spells a s c) (spells b t d)
+  beside-enters : {a b : ℕ} {u v c d : Content} → Beside c d → Beside (enters a u c) (enters b v d)
+
+-- Something is read.
+pub record Read (x : Outcome) : Type 0 where
+  pub content : Content
+  pub end : ℕ
+  pub is : x ≡ reads content end
+
+-- A walk's bits are inside keys of so many bits, and it has not found more pairs than it has passed bits.
+pub record Inside (i j : ℕ) (p : Both) : Type 0 where
+  pub left : p .left ≤ i
+  pub right : p .right ≤ j
+  pub few : p .found ≤ p .left
+
+-- From p to q the walk has passed contents that stand beside each other, from the forms f and f' to g and g', and the list has grown by what differs.
+pub record Along (bs cs : Bits) (X Y : ℕ → ℕ → Outcome) (f f' g g' : Form) (p q : Both) (l m : List ℕ) : Type 0 where
+  pub c : Content
+  pub d : Content
+  pub left : readForm bs X f (p .left) ≡ after c (readForm bs X g (q .left))
+  pub right : readForm cs Y f' (p .right) ≡ after d (readForm cs Y g' (q .right))
+  pub beside : Beside c d
+  pub found : q .found ≡ p .found + length (differences c d)
+  pub grows : Grows l (p .found) m (differences c d)
+  pub inside : Inside (length bs) (length cs) q
+
+-- No way to read nodes.
+abbrev pub noNode : ℕ → ℕ → Outcome
+noNode c a = fails 0 0
+
+-- Two spellings, and then any forms.
+abbrev pub SpelledOn : (bs cs : Bits) (w v : ℕ) (p q : Both) (l m : List ℕ) → Type 0
+SpelledOn bs cs w v p q l m = (X Y : ℕ → ℕ → Outcome) (g g' : Form) → Along bs cs X Y (both (word w) g) (both (word v) g') g g' p q l m
+
+-- n spellings on each side, and then any forms.
+abbrev pub SpelledAll : (bs cs : Bits) (w v n : ℕ) (p q : Both) (l m : List ℕ) → Type 0
+SpelledAll bs cs w v n p q l m = (X Y : ℕ → ℕ → Outcome) (g g' : Form) → Along bs cs X Y (spellingsThen n w g) (spellingsThen n v g') g g' p q l m
+
+-- The spellings after two children, and then any forms.
+abbrev pub SpelledAfter : (bs cs : Bits) (w v : ℕ) (p q : Both) (l m : List ℕ) → Type 0
+SpelledAfter bs cs w v p q l m = (X Y : ℕ → ℕ → Outcome) (g g' : Form) → Along bs cs X Y (spellingIf w g) (spellingIf v g') g g' p q l m
+
+-- Two nodes were walked: the list has grown by what differs of them.
+pub record Noded (bs cs : Bits) (G : Grammar) (high class : ℕ) (p q : Both) (l m : List ℕ) : Type 0 where
+  pub u : Content
+  pub v : Content
+  pub left : readNode bs G high class (p .left) ≡ reads (enters (p .left) u ends) (q .left)
+  pub right : readNode cs G high class (p .right) ≡ reads (enters (p .right) v ends) (q .right)
+  pub found : q .found ≡ p .found + length (differences (enters (p .left) u ends) (enters (p .right) v ends))
+  pub grows : Grows l (p .found) m (differences (enters (p .left) u ends) (enters (p .right) v ends))
+  pub inside : Inside (length bs) (length cs) q
+
+-- n nodes on each side, a spelling after each if its length has any bits, and then any forms.
+abbrev pub NodedAll : (bs cs : Bits) (G : Grammar) (high class w v n : ℕ) (p q : Both) (l m : List ℕ) → Type 0
+NodedAll bs cs G high class w v n p q l m =
+    (g g' : Form) → Along bs cs (readNode bs G high) (readNode cs G high) (nodesThen n class w g) (nodesThen n class v g') g g' p q l m
+
+-- What is left of two nodes, which begin at `first`, was walked.
+pub record Rested (bs cs : Bits) (X Y : ℕ → ℕ → Outcome) (f f' : Form) (at first q : Both) (l m : List ℕ) : Type 0 where
+  pub c : Content
+  pub d : Content
+  pub left : readForm bs X f (at .left) ≡ reads c (q .left)
+  pub right : readForm cs Y f' (at .right) ≡ reads d (q .right)
+  pub found : q .found ≡ first .found + length (inside (same (own c) (own d)) (first .left, first .right) (differences c d))
+  pub grows : Grows l (first .found) m (inside (same (own c) (own d)) (first .left, first .right) (differences c d))
+  pub inside : Inside (length bs) (length cs) q
+
+-- What is left of two nodes, which begin at `first`, was passed over, and their pair put in the place of what was found inside.
+pub record Parted (bs cs : Bits) (X Y : ℕ → ℕ → Outcome) (f f' : Form) (at first q : Both) (l m : List ℕ) : Type 0 where
+  pub c : Content
+  pub d : Content
+  pub left : readForm bs X f (at .left) ≡ reads c (q .left)
+  pub right : readForm cs Y f' (at .right) ≡ reads d (q .right)
+  pub found : q .found ≡ first .found + 1
+  pub puts : Puts l (first .found) (first .left) (first .right) m
+  pub inside : Inside (length bs) (length cs) q
