@@ -6,7 +6,7 @@ use Prim.Native.Nat.{ℕ, zero, suc, _+_, _-_, _*_, _/_, _^_, _≤_, _<_}
 use native.Mathlib.Omega.{arith}
 use lib.ListN.{length, drop, length-drop}
 use Rattle.keys.specs.Bits.{Bits, field, takeField, takeBytes, bitsOfBytes}
-use Rattle.keys.specs.BitsLaws.{length-bytes}
+use Rattle.keys.proofs.BitsLaws.{length-bytes}
 use Rattle.keys.specs.Form.{Form, word, both, child, isNever}
 use Rattle.keys.specs.Limits.{badKey}
 use Rattle.fields.specs.Take.{answered}

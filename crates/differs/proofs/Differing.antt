@@ -8,7 +8,7 @@ use borrow.Author.Tests.{le-leb, lt-leb}
 use lib.Dec.{leb}
 use lib.ListN.{length, take}
 use Rattle.keys.specs.Bits.{bitsOfBytes}
-use Rattle.keys.specs.BitsLaws.{clash}
+use Rattle.keys.proofs.BitsLaws.{clash}
 use Rattle.keys.specs.Limits.{tallest}
 use Rattle.keys.specs.Key.{Taken, nodeTable}
 use Rattle.keys.specs.Store.{filled}

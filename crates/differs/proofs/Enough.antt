@@ -9,7 +9,7 @@ use lib.Dec.{leb, eqb}
 use lib.ListN.{length, drop, length-append, length-drop}
 use lib.Seq.{drop-at, drop-drop}
 use Rattle.keys.specs.Bits.{Bits, bitsOf, Field, short, field, takeField, bitsOfBytes, Row, cut, row, takeBytes}
-use Rattle.keys.specs.BitsLaws.{clash, length-bits, length-bytes, take-back, bytes-back, Written, Spelled}
+use Rattle.keys.proofs.BitsLaws.{clash, length-bits, length-bytes, take-back, bytes-back, Written, Spelled}
 use Rattle.keys.specs.Form.{Value, nothing, spelt, choice, pair, node, Form, never, one, word, choose, both, child, Grammar, isNever, write, State, state, Result, got, stop, stopAt, into, andThen, allowed, ifWhole, takeChoice, keep, takeLetters, takeLength, takeSpelling, takeRoom, takeForm, takeNode}
 use Rattle.keys.specs.Limits.{badKey, tooTall, noSpace}
 use Rattle.differs.specs.Content.{Content, ends, chooses, spells, content}

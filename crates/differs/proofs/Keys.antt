@@ -9,15 +9,15 @@ use borrow.Author.Tests.{le-leb, leb-true}
 use lib.Dec.{leb}
 use lib.ListN.{length, length-append}
 use Rattle.keys.specs.Bits.{bitsOf, bitsOfBytes}
-use Rattle.keys.specs.BitsLaws.{clash, length-bits, length-bytes}
+use Rattle.keys.proofs.BitsLaws.{clash, length-bits, length-bytes}
 use Rattle.keys.specs.Form.{Value, choice, Form, never, one, word, choose, both, child, Grammar, nodes, names, Bytes, write, Fits, fits-one, fits-word, fits-choose, fits-both, fits-child}
-use Rattle.keys.specs.FormLaws.{letters-written}
-use Rattle.keys.specs.KeyLaws.{length-packed}
+use Rattle.keys.proofs.FormLaws.{letters-written}
+use Rattle.keys.proofs.KeyLaws.{length-packed}
 use Rattle.keys.specs.Limits.{edition}
 use Rattle.keys.specs.Table.{wholeKey}
 use Rattle.keys.specs.Key.{Taken, taken, nodeTable, keyOf, IsTree, IsKey}
-use Rattle.keys.specs.TakeLaws.{with-edition}
-use Rattle.keys.specs.Theorems.{exactly}
+use Rattle.keys.proofs.TakeLaws.{with-edition}
+use Rattle.keys.proofs.Theorems.{exactly}
 use Rattle.differs.specs.Content.{contentOf, Pair, differences}
 use Rattle.differs.specs.Differ.{checked, found, Differed, reported, besides, begins, differ}
 use Rattle.differs.proofs.Theorems.{none-same}

@@ -6,7 +6,7 @@ use Prim.Native.Nat.{ℕ, zero, suc, _+_, _*_, _≤_, _<_}
 use native.Mathlib.Omega.{arith}
 use lib.ListN.{length, take, set, length-set, length-append}
 use lib.Seq.{take-suc-set, take-set-le}
-use Rattle.keys.specs.BitsLaws.{le-or-lt}
+use Rattle.keys.proofs.BitsLaws.{le-or-lt}
 use Rattle.differs.specs.Content.{Pair}
 use Rattle.differs.specs.Differ.{wordsOf}
 use Rattle.differs.specs.Walk.{Kept, Grows, Puts}

@@ -8,7 +8,7 @@ use Rattle.keys.specs.Bits.{Bits}
 use Rattle.keys.specs.Form.{Form, child}
 use Rattle.keys.specs.Limits.{badKey, tooTall, widest}
 use Rattle.node_table.specs.Forms.{Entry, formOf, formBy, leads, grammarOf, entryOf, entryAt, classAt, stepsOf, IsRow, spellingIf, nodesThen, Narrow}
-use Rattle.node_table.specs.FormsLaws.{form-at}
+use Rattle.node_table.proofs.FormsLaws.{form-at}
 use Rattle.node_table.specs.declared.forms.Row.{Row}
 use Rattle.differs.specs.Content.{ends, chooses, enters}
 use Rattle.differs.specs.Sound.{Outcome, fails, _⊕_, after, asNode, readChoice, readForm, readNode, Checks, Onward, Placed, Sized, checkAt, AfterOn, Chosen, NodesOn}

@@ -9,13 +9,13 @@ use lib.Dec.{eqb}
 use lib.ListN.{length, drop}
 use Rattle.words.specs.Test.{_and_, same}
 use Rattle.keys.specs.Bits.{Bits, Field, short, field, takeField, Row, cut, row, takeBytes}
-use Rattle.keys.specs.BitsLaws.{clash}
+use Rattle.keys.proofs.BitsLaws.{clash}
 use Rattle.keys.specs.Form.{Form, never, one, word, choose, both, child, Grammar, isNever}
 use Rattle.fields.specs.Take.{answered}
 use Rattle.fields.specs.declared.take.TakenField.the-variants.{Number}
 use Rattle.fields.proofs.Chunks.{Told, number-told}
 use Rattle.node_table.specs.Forms.{Entry, formOf, formBy, leads, grammarOf, entryOf, entryAt, classAt, stepsOf, IsRow, Lists, Jumps, spellingsThen, spellingIf, nodesThen}
-use Rattle.node_table.specs.FormsLaws.{form-at}
+use Rattle.node_table.proofs.FormsLaws.{form-at}
 use Rattle.node_table.specs.declared.forms.Row.{Row as TableRow}
 use Rattle.node_table.specs.declared.forms.Jump.{Jump}
 use Rattle.differs.specs.Content.{Content, ends, chooses, enters, own, Pair, inside, differences}

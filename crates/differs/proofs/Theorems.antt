@@ -12,9 +12,9 @@ use lib.ListN.{length, length-append}
 use Rattle.words.specs.Test.{_and_, same}
 use Rattle.words.proofs.Bytes.{same-eq}
 use Rattle.keys.specs.Bits.{bitsOf, bitsOfBytes}
-use Rattle.keys.specs.BitsLaws.{clash, length-bits, length-bytes}
+use Rattle.keys.proofs.BitsLaws.{clash, length-bits, length-bytes}
 use Rattle.keys.specs.Form.{Value, nothing, spelt, choice, pair, node, Form, word, choose, both, Grammar, write, Fits, fits-one, fits-word, fits-choose, fits-both, fits-child}
-use Rattle.keys.specs.FormLaws.{some}
+use Rattle.keys.proofs.FormLaws.{some}
 use Rattle.keys.specs.Limits.{editionWidth}
 use Rattle.keys.specs.Table.{type}
 use Rattle.keys.specs.Key.{Taken, taken, nodeTable}

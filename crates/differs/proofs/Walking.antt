@@ -10,7 +10,7 @@ use lib.ListN.{length, drop, length-append, length-drop}
 use Rattle.words.specs.Test.{_and_, same}
 use Rattle.words.proofs.Bytes.{same-long}
 use Rattle.keys.specs.Bits.{Bits, Field, short, field, takeField, Row, cut, row, ahead, afterByte, takeBytes, bitsOfBytes}
-use Rattle.keys.specs.BitsLaws.{clash, length-bytes, bytes-back}
+use Rattle.keys.proofs.BitsLaws.{clash, length-bytes, bytes-back}
 use Rattle.keys.specs.Form.{Form, one, word, both, child, Grammar}
 use Rattle.keys.specs.Key.{bytesIn}
 use Rattle.fields.specs.Take.{answered}

@@ -8,7 +8,7 @@ use native.Mathlib.Omega.{arith}
 use borrow.Author.Tests.{le-leb, lt-leb}
 use lib.ListN.{length, drop, length-drop}
 use Rattle.keys.specs.Bits.{Bits, short, field, takeField, bitsOfBytes}
-use Rattle.keys.specs.BitsLaws.{clash, length-bytes}
+use Rattle.keys.proofs.BitsLaws.{clash, length-bytes}
 use Rattle.keys.specs.Form.{Value, nothing, choice, never, child, Grammar, isNever, State, state, Result, stop, into, allowed, ifWhole, takeForm, takeNode}
 use Rattle.keys.specs.Limits.{longestKey, tallest, countWidth, badKey}
 use Rattle.keys.specs.Table.{oneOf, type, wholeKey}
@@ -17,7 +17,7 @@ use Rattle.fields.specs.Take.{answered}
 use Rattle.fields.specs.declared.take.TakenField.the-variants.{Number, Short}
 use Rattle.fields.proofs.Chunks.{Told, number-told, field-short}
 use Rattle.node_table.specs.Forms.{grammarOf, tableWords}
-use Rattle.node_table.specs.FormsLaws.{words-are}
+use Rattle.node_table.proofs.FormsLaws.{words-are}
 use Rattle.key_in.specs.Back.{Ends}
 use Rattle.key_in.proofs.Rows.{table-fine}
 use Rattle.differs.specs.Content.{contentOf}

@@ -3,9 +3,9 @@ use native.Mathlib.Omega.{arith}
 use mathlib.Core.Path.{sym, subst, _∙_}
 use mathlib.Core.List.{List}
 use Prim.Native.Nat.{ℕ}
-use Rattle.keys.specs.BitsLaws.{length-bytes}
+use Rattle.keys.proofs.BitsLaws.{length-bytes}
 use Rattle.node_table.specs.Forms.{Narrow}
-use Rattle.node_table.specs.FormsLaws.{words-narrow}
+use Rattle.node_table.proofs.FormsLaws.{words-narrow}
 use Rattle.differs.specs.Sound.{Wholly}
 use Rattle.differs.proofs.Differing.{bad-left, bad-right, read-left, read-right, too-many, all-listed}
 use borrow.Author.Needs.{needs}

@@ -1,7 +1,7 @@
 -- The spelling after a child, if there is one.
 use native.Mathlib.Omega.{arith}
 use Rattle.keys.specs.Bits.{bitsOfBytes}
-use Rattle.keys.specs.BitsLaws.{length-bytes}
+use Rattle.keys.proofs.BitsLaws.{length-bytes}
 use Rattle.differs.proofs.Checking.{after-none, after-word}
 use borrow.Author.Needs.{needs}
 use Rattle.differs.proofs.sound.check_after.Statement.{statement}

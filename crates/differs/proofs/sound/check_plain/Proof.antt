@@ -2,7 +2,7 @@
 use native.Mathlib.Omega.{arith}
 use mathlib.Core.Path.{sym}
 use Rattle.keys.specs.Bits.{bitsOfBytes}
-use Rattle.keys.specs.BitsLaws.{length-bytes}
+use Rattle.keys.proofs.BitsLaws.{length-bytes}
 use Rattle.differs.proofs.Checking.{plain-choice, plain-words, plain-word, plain-never}
 use Rattle.differs.proofs.Nodes.{placed-as}
 use borrow.Author.Needs.{needs}

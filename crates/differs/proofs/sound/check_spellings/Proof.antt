@@ -3,7 +3,7 @@ use borrow.Author.Needs.{needs}
 use native.Mathlib.Omega.{arith}
 use Prim.Native.Nat.{_-_}
 use Rattle.keys.specs.Bits.{bitsOfBytes}
-use Rattle.keys.specs.BitsLaws.{length-bytes}
+use Rattle.keys.proofs.BitsLaws.{length-bytes}
 use Rattle.differs.proofs.Checking.{Spelling, spelling-none, spelling-more, spelling-stop, spelling-all}
 use Rattle.differs.proofs.sound.check_spellings.Statement.{statement}
 use Rattle.differs.proofs.sound.check_spellings.Tie as tie

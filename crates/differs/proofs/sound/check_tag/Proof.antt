@@ -2,7 +2,7 @@
 use native.Mathlib.Omega.{arith}
 use mathlib.Core.Path.{sym, ap, _∙_}
 use Rattle.keys.specs.Bits.{bitsOfBytes}
-use Rattle.keys.specs.BitsLaws.{length-bytes}
+use Rattle.keys.proofs.BitsLaws.{length-bytes}
 use Rattle.fields.specs.declared.take.TakenField.the-variants.{Number}
 use Prim.Native.Nat.{ℕ}
 use Rattle.keys.specs.Form.{isNever}

@@ -1,9 +1,9 @@
 -- A whole key: too long, of no edition, without a tree, with bits left over, or one.
 use native.Mathlib.Omega.{arith}
 use mathlib.Core.Path.{sym, subst, _∙_}
-use Rattle.keys.specs.BitsLaws.{length-bytes}
+use Rattle.keys.proofs.BitsLaws.{length-bytes}
 use Rattle.node_table.specs.Forms.{Narrow}
-use Rattle.node_table.specs.FormsLaws.{words-narrow}
+use Rattle.node_table.proofs.FormsLaws.{words-narrow}
 use Rattle.differs.proofs.Whole.{whole-long, whole-short, whole-four, whole-other, whole-stop, whole-left, whole-done}
 use borrow.Author.Needs.{needs}
 use Rattle.differs.proofs.sound.check_whole.Statement.{statement}

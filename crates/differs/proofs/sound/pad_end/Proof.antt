@@ -3,7 +3,7 @@ use native.Mathlib.Omega.{arith}
 use Prim.Native.Nat.{_-_}
 use lib.ListN.{length}
 use Rattle.keys.specs.Bits.{bitsOfBytes}
-use Rattle.keys.specs.BitsLaws.{length-bytes}
+use Rattle.keys.proofs.BitsLaws.{length-bytes}
 use Rattle.fields.proofs.Chunks.{number-told}
 use Rattle.fields.proofs.take.number_at.Reads as number-at-reads
 use Rattle.key_in.proofs.Padding.{Pads, pads-none, pads-inside, pads-more, ends-set, ends-whole}

@@ -1,7 +1,7 @@
 -- Bytes compared one after the other.
 use native.Mathlib.Omega.{arith}
 use Rattle.keys.specs.Bits.{bitsOfBytes}
-use Rattle.keys.specs.BitsLaws.{length-bytes}
+use Rattle.keys.proofs.BitsLaws.{length-bytes}
 use Prim.Native.Nat.{_-_}
 use Rattle.fields.proofs.Chunks.{number-told}
 use Rattle.differs.proofs.Walking.{Comparing, comparing-none, comparing-not, comparing-more, comparing-all}

@@ -2,7 +2,7 @@
 use native.Mathlib.Omega.{arith}
 use mathlib.Core.Path.{sym}
 use Rattle.keys.specs.Bits.{bitsOfBytes}
-use Rattle.keys.specs.BitsLaws.{length-bytes}
+use Rattle.keys.proofs.BitsLaws.{length-bytes}
 use Prim.Native.Nat.{ℕ, _-_}
 use Rattle.node_table.specs.Forms.{grammarOf}
 use Rattle.differs.specs.Sound.{readNode}

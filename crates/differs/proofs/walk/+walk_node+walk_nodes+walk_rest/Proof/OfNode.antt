@@ -4,7 +4,7 @@ use mathlib.Core.Path.{refl, sym, subst}
 use mathlib.Core.List.{List}
 use Prim.Native.Nat.{ℕ, _+_, _^_, _≤_, _<_}
 use Rattle.keys.specs.Bits.{bitsOfBytes}
-use Rattle.keys.specs.BitsLaws.{length-bytes}
+use Rattle.keys.proofs.BitsLaws.{length-bytes}
 use Rattle.keys.specs.Limits.{widest}
 use Rattle.node_table.specs.Forms.{Entry, classAt, IsRow, Lists}
 use Rattle.node_table.specs.declared.forms.Row.{Row}

@@ -4,7 +4,7 @@ use mathlib.Core.Path.{sym, ap, subst, _∙_}
 use mathlib.Core.List.{List}
 use Prim.Native.Nat.{ℕ, _≤_}
 use Rattle.keys.specs.Bits.{bitsOfBytes}
-use Rattle.keys.specs.BitsLaws.{length-bytes}
+use Rattle.keys.proofs.BitsLaws.{length-bytes}
 use Rattle.keys.specs.Limits.{widest}
 use Rattle.node_table.specs.Forms.{Entry, entryAt, IsRow}
 use Rattle.node_table.specs.declared.forms.Row.{Row}
