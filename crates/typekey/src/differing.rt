@@ -7,5 +7,5 @@ pub use differs::differ::Differing;
 pub fn differ(left: &[u8], right: &[u8], list: &mut [u64]) -> Differing
     ensures { λ r. ⌜ Differs (now (left .entry)) (now (right .entry)) (now (list .entry)) r (now (list .exit)) ⌝ }
 {
-    differ::differ(left, right, list)
+    differs::differ::differ(left, right, list)
 }
