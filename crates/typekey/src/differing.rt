@@ -1,6 +1,5 @@
 // The call that compares two keys: any bytes and a lent list; the places where their trees differ, or a refusal and zeros.
 ghost use Rattle.differs.specs.Call.{Differs};
-use differs::differ;
 pub use differs::differ::Differing;
 
 // Says what differs between two keys.
