@@ -1,4 +1,4 @@
-// The page: a panel for each type or key, what the library says of it, and whether two are the same type.
+// The page: a panel for each type or key, what the library says of it, and where two of them differ.
 import { cut } from './cut.js';
 import { bytesOf, fromHex, indexAt, load, toHex } from './typekey.js';
 
@@ -78,9 +78,6 @@ function flags({ choices, children }) {
   ];
 }
 
-// What of a node tells it from another, its children aside.
-const sign = (node) => JSON.stringify([node.tag, node.choices, node.spellings, node.children.length]);
-
 // ---- A panel
 class Panel {
   constructor(keys, changed) {
@@ -138,7 +135,7 @@ class Panel {
       this.in('.tree').setAttribute('aria-label', sort === 'key' ? 'The tree of this key' : 'The tree of this type');
       this.in('.tree').replaceChildren(...nodes.slice(0, MOST).map((n, i) => this.row(n, i)), more > 0 ? `and ${count(more, 'node')} more` : '');
     }
-    this.differing = undefined;
+    this.differing = [];
     this.point();
   }
 
@@ -175,16 +172,16 @@ class Panel {
   }
 
   paint(here = [], bits) {
-    const { tree, marks, place } = this.answer, node = this.differing, text = this.in('textarea').value;
-    paint(this.in('.editor pre'), `${text} `, [...marks, ...(node && place ? [{ ...place(node), class: 'differs' }] : []), ...here]);
+    const { tree, marks, place } = this.answer, text = this.in('textarea').value;
+    paint(this.in('.editor pre'), `${text} `, [...marks, ...(place ? this.differing.map((n) => ({ ...place(n), class: 'differs' })) : []), ...here]);
     const at = (index) => Math.min(index, this.hex.length); // a byte is two digits and a space
     if (tree) paint(this.in('.key'), this.hex, bits ? [{ first: at(3 * Math.floor(bits.first / 8)), end: at(3 * Math.ceil(bits.end / 8) - 1), class: 'here' }] : []);
   }
 
-  // Marks the node where this tree first differs from another; none without one.
-  differ(node) {
-    this.differing = node;
-    for (const row of this.element.querySelectorAll('.node')) row.classList.toggle('differs', row.node === node);
+  // Marks the nodes in which this tree differs from another.
+  differ(nodes = []) {
+    this.differing = nodes;
+    for (const row of this.element.querySelectorAll('.node')) row.classList.toggle('differs', nodes.includes(row.node));
     this.paint();
   }
 
@@ -223,14 +220,19 @@ class Panel {
 }
 
 // ---- Two panels beside one another
-// Whether two answers are one type: a class, a sentence or its parts, and the first node of each where they differ.
-function verdict(a, b) {
+// The innermost node that a bit of the key belongs to; nodes stand in the key's order.
+const nodeAt = (tree, bit) => tree.nodes.findLast((n) => n.bits.first <= bit && bit < n.bits.end);
+
+// Whether two answers are one type: a class, a sentence or its parts, and the nodes of each where they differ.
+function verdict(keys, a, b) {
   if (!a.tree || !b.tree) return ['open', 'Nothing to compare yet: both have to be read.'];
   const part = a.messages.concat(b.messages).some((m) => m.title === 'Not all was read') ? ' Not all of the text was read: see below.' : '';
-  if (toHex(a.key) === toHex(b.key)) return ['same', `✓ The same type: both have this key.${part}`];
-  const i = a.tree.nodes.findIndex((n, k) => sign(n) !== sign(b.tree.nodes[k])), nodes = [a.tree.nodes[i], b.tree.nodes[i]];
-  const [one, other] = nodes.map((n) => [n.tag, ...named(n), ...flags(n)].join(' ')), over = nodes.map((n) => (one === other ? ` over ${count(n.children.length, 'node')}` : ''));
-  return ['two', ['≠ Two types. They first differ at ', one, `${over[0]} against `, other, `${over[1]}.${part}`], ...nodes];
+  const { pairs } = keys.differ(a.key, b.key);
+  if (!pairs.length) return ['same', `✓ The same type: both have this key.${part}`];
+  const nodes = [pairs.map((p) => nodeAt(a.tree, p.left)), pairs.map((p) => nodeAt(b.tree, p.right))], first = nodes.map((l) => l[0]);
+  const [one, other] = first.map((n) => [n.tag, ...named(n), ...flags(n)].join(' ')), over = first.map((n) => (one === other ? ` over ${count(n.children.length, 'node')}` : ''));
+  const where = pairs.length > 1 ? `They differ in ${pairs.length.toLocaleString('en')} places, first at ` : 'They differ at ';
+  return ['two', [`≠ Two types. ${where}`, one, `${over[0]} against `, other, `${over[1]}.${part}`], ...nodes];
 }
 
 // What a screen reader hears and what the address says waits until the typing pauses.
@@ -273,7 +275,7 @@ async function start() {
     });
     $('#panels').classList.toggle('two', Boolean(b));
     if (b) {
-      const [kind, words, ...nodes] = verdict(a.answer, b.answer);
+      const [kind, words, ...nodes] = verdict(keys, a.answer, b.answer);
       box.className = `verdict ${kind}`;
       box.replaceChildren(...worded(words));
       summaries.unshift(box.textContent);
