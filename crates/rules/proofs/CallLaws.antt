@@ -8,7 +8,7 @@ use native.Mathlib.Omega.{arith}
 use borrow.Author.Tests.{leb-true}
 use lib.Dec.{T, leb}
 use lib.ListN.{length, replicate, length-replicate}
-use Rattle.words.specs.Test.{between, test}
+use Rattle.words.specs.Test.{test}
 use Rattle.words.specs.Check.{Verdict, sound, refused, none, goodWord, judged, wordsFrom, goodList, check}
 use Rattle.keys.specs.Limits.{noSpace}
 use Rattle.keys.specs.Table.{type}
@@ -22,6 +22,7 @@ use Rattle.keys.proofs.BitsLaws.{clash}
 use Rattle.rules.specs.Notes.{Note, noteWords}
 use Rattle.rules.specs.State.{Given, State, Result, read as got, refuse}
 use Rattle.rules.specs.Read.{refuses, Lent, given, granted, denied, fits, checked, outcome, Called, written, read}
+use Rattle.rules.specs.Refusal.{isRule}
 use Rattle.rules.specs.Call.{Call, left, ruled, grants, Granted, Kept, AllZero, IsRefusal, is-badList, is-badToken, is-rules, is-noSpace}
 use Rattle.rules.proofs.TokenLaws.{both-true}
 use Rattle.rules.proofs.Gives.{Gives, gives, stops, Got, Good, itself}
@@ -36,7 +37,7 @@ gave {P = P} {a = a} {s = s} (gives {a = b} {q = q} h) e =
 gave (stops k i) e = clash (cc)
 
 -- A refusal has a number of the rules', at a token.
-stopped : {g : Given} {A : Type 0} {P : A → State → Type 0} {r : Result A} {n i h : ℕ} → Gives g P r → r ≡ refuse n i h → T (between 3 9 n) × (i < length (g .words))
+stopped : {g : Given} {A : Type 0} {P : A → State → Type 0} {r : Result A} {n i h : ℕ} → Gives g P r → r ≡ refuse n i h → T (isRule n) × (i < length (g .words))
 stopped {g} {n = n} {i = i} (gives h) e = clash (cc)
 stopped {g} {n = n} {i = i} (stops {n = m} {i = j} k l) e =
     let x : m ≡ n = cc in
@@ -196,5 +197,4 @@ call-refusal c bytes {n} {p} {h} {b} e = by (check (c .text) (c .words) (c .star
         let x : m ≡ n = cc in
         let y : q ≡ p = cc in
         let r = stopped (reading-gives _ (record { bytes = bytes; start = c .start; sound = i })) f in
-        let z = both-true (leb 3 m) (leb m 9) (t-true (between 3 9 m) (r .0)) in
-        is-rules {n = n} {p = p} (omega (arith, leb-true 3 m (z .0))) (omega (arith, leb-true m 9 (z .1))) (omega arith)
+        is-rules {n = n} {p = p} (subst (λ (k : ℕ). T (isRule k)) x (r .0)) (omega arith)

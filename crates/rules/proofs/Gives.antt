@@ -22,6 +22,7 @@ use Rattle.keys.proofs.Makers.{each-more}
 use Rattle.keys.proofs.BitsLaws.{clash}
 use Rattle.rules.specs.Notes.{Note}
 use Rattle.rules.specs.State.{Given, State, Result, Reader, read, refuse, then, next, past, stands, kind, first, end, spelling, overlong, make, report, reportIf}
+use Rattle.rules.specs.Refusal.{isRule}
 use Rattle.rules.specs.List.{count}
 use Rattle.rules.specs.Told.{Told}
 use Rattle.rules.specs.Weight.{weight}
@@ -32,7 +33,7 @@ use Rattle.rules.proofs.PlaceLaws.{Spans, spans-le, spans-up, spans-dow
 -- What was read is such, and a refusal has a number of the rules', at a token.
 pub data Gives (g : Given) {A : Type 0} (P : A → State → Type 0) : Result A → Type 0 where
   gives : {a : A} {q : State} → P a q → Gives g P (read a q)
-  stops : {n i h : ℕ} → T (between 3 9 n) → i < length (g .words) → Gives g P (refuse n i h)
+  stops : {n i h : ℕ} → T (isRule n) → i < length (g .words) → Gives g P (refuse n i h)
 
 -- Where a reading stands: at a token, no earlier than what was taken ends; n nodes are in use, and nodes and diagnostics keep within their limits and what is lent.
 pub record At (g : Given) (n : ℕ) (s : State) : Type 0 where
@@ -135,7 +136,7 @@ module _ {g : Given} {A : Type 0} {P : A → State → Type 0} where
       → Gives g P (test b x y)
   gives-must b f h = gives-test b h f
 
-  pub refusal : {m : ℕ} {s : State} {b c : Bool} {n h : ℕ} → At g m s → T (between 3 9 n) → b ≡ c → Unit {0} → Gives g P (refuse n (s .at) h)
+  pub refusal : {m : ℕ} {s : State} {b c : Bool} {n h : ℕ} → At g m s → T (isRule n) → b ≡ c → Unit {0} → Gives g P (refuse n (s .at) h)
   refusal a k e u = stops k (a .inside)
 
 -- ---- Past a token

@@ -2,11 +2,13 @@
 use mathlib.Core.Path.{_≡_}
 use mathlib.Core.Bool.{Bool, true, false}
 use mathlib.Core.List.{List}
-use Prim.Native.Nat.{ℕ, _≤_, _<_}
+use Prim.Native.Nat.{ℕ, _<_}
+use lib.Dec.{T}
 use lib.ListN.{length, take, replicate}
 use Rattle.keys.specs.Limits.{noSpace}
 use Rattle.keys.specs.Form.{Bytes}
 use Rattle.keys.specs.Placed.{Placed}
+use Rattle.rules.specs.Refusal.{isRule}
 use Rattle.rules.specs.State.{State, Result, read as got}
 use Rattle.rules.specs.Reading.{reading}
 use Rattle.rules.specs.Read.{Lent, given, Answer, reads, refuses, Called, read}
@@ -65,5 +67,5 @@ pub record AllZero (l : Lent) (r : Called) : Type 0 where
 pub data IsRefusal (tokens : ℕ) : ℕ → ℕ → Type 0 where
   is-badList : IsRefusal tokens 1 0
   is-badToken : {p : ℕ} → p < tokens → IsRefusal tokens 2 p
-  is-rules : {n p : ℕ} → 3 ≤ n → n ≤ 9 → p < tokens → IsRefusal tokens n p
+  is-rules : {n p : ℕ} → T (isRule n) → p < tokens → IsRefusal tokens n p
   is-noSpace : IsRefusal tokens noSpace 0

@@ -1,5 +1,7 @@
 -- The numbers of refusals that only reading meets (01, "Refusal numbers"). 1 and 2 are the token check's; 6, 8 and 11 have their names in keys.
+use mathlib.Core.Bool.{Bool}
 use Prim.Native.Nat.{ℕ}
+use Rattle.words.specs.Test.{between}
 
 -- no rule takes the token
 abbrev pub unexpected : ℕ
@@ -20,3 +22,7 @@ tooLong = 7
 -- a diagnostic is one too many, or has no record
 abbrev pub manyNotes : ℕ
 manyNotes = 9
+
+-- the numbers of the refusals that the reading rules meet
+abbrev pub isRule : ℕ → Bool
+isRule n = between unexpected manyNotes n

@@ -1,7 +1,7 @@
 -- The words tell the answer: no two answers that the calls give are told by the same words, since no refusal has the number 0.
 use mathlib.Core.Path.{_≡_, refl}
 use mathlib.Core.List.{List}
-use Prim.Native.Nat.{ℕ, _<_, _/_}
+use Prim.Native.Nat.{ℕ, suc, zero, _<_, _/_}
 use native.Mathlib.Omega.{arith}
 use Rattle.keys.specs.Form.{Bytes}
 use Rattle.keys.specs.Key as key
@@ -26,7 +26,8 @@ Numbered a = (n i h b : ℕ) → a ≡ refuses n i h b → 0 < n
 above-zero : {tokens n p : ℕ} → call.IsRefusal tokens n p → 0 < n
 above-zero call.is-badList = omega arith
 above-zero (call.is-badToken l) = omega arith
-above-zero (call.is-rules a b l) = omega arith
+above-zero (call.is-rules {n = zero} a l) = absurd a
+above-zero (call.is-rules {n = suc n} a l) = omega arith
 above-zero call.is-noSpace = omega arith
 
 apart : (a b : rules.Answer) → Numbered a → Numbered b → told a ≡ told b → a ≡ b
