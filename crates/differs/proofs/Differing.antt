@@ -16,7 +16,7 @@ use Rattle.node_table.specs.Forms.{grammarOf}
 use Rattle.differs.specs.Content.{Content, ends, enters, contentOf, Pair, differences}
 use Rattle.differs.specs.Differ.{wordsOf, found, Differed, declined, reported, besides, begins, differ, manyDifferences, noSide, leftSide, rightSide}
 use Rattle.differs.specs.Sound.{reads, readNode, Wholly}
-use Rattle.differs.specs.Walk.{Kept, Read, Noded}
+use Rattle.differs.specs.Walk.{Begins, IsRead, Walked}
 use Rattle.differs.specs.Call.{answerOf, seen, Differs}
 use Rattle.differs.specs.declared.differ.Differing.{Differing}
 use Rattle.differs.specs.declared.differ.Differing.the-variants.{Found, Refused}
@@ -58,17 +58,17 @@ module _ (left right list : List ℕ) where
         seen-declined (d .why) rightSide (d .bit) list after refl e
         (ap (λ (x : Taken). begins (length list) x right) (w .verdict .good z) ∙ ap (besides (length list) (w .verdict .tree)) (v .verdict .stopped y))
 
-    pub read-left : Read (readNode (bitsOfBytes left) (grammarOf T) tallest 0 4)
+    pub read-left : IsRead (readNode (bitsOfBytes left) (grammarOf T) tallest 0 4)
     read-left = record { content = contentOf nodeTable (w .verdict .tree); end = w .end; is = w .read z }
 
     module _ (d : Check) (v : Wholly T right d) (y : d .why ≡ 0) where
-      pub read-right : Read (readNode (bitsOfBytes right) (grammarOf T) tallest 0 4)
+      pub read-right : IsRead (readNode (bitsOfBytes right) (grammarOf T) tallest 0 4)
       read-right = record { content = contentOf nodeTable (v .verdict .tree); end = v .end; is = v .read y }
 
       abbrev pairs : List Pair
       pairs = differences (contentOf nodeTable (w .verdict .tree)) (contentOf nodeTable (v .verdict .tree))
 
-      module _ (q : Both) (now : List ℕ) (a : Noded (bitsOfBytes left) (bitsOfBytes right) (grammarOf T) tallest 0 (record { left = 4; right = 4; found = 0 }) q list now) where
+      module _ (q : Both) (now : List ℕ) (a : Walked (bitsOfBytes left) (bitsOfBytes right) (grammarOf T) tallest 0 (record { left = 4; right = 4; found = 0 }) q list now) where
         content-left : contentOf nodeTable (w .verdict .tree) ≡ enters 4 (a .u) ends
         content-left =
             let e : reads (contentOf nodeTable (w .verdict .tree)) (w .end) ≡ reads (enters 4 (a .u) ends) (q .left) = sym (w .read z) ∙ a .left in
@@ -93,7 +93,7 @@ module _ (left right list : List ℕ) where
             seen-declined manyDifferences noSide 0 now after (a .grows .long) e
             (by-both ∙ ap (λ (b : Bool). reported (length list) b pairs) (lt-leb (length pairs) (length list / 2) (omega (arith, found-is, a .grows .long))))
 
-        none-kept : Kept list []
+        none-kept : Begins list []
         none-kept zero h l = refl
         none-kept (suc k) h l = absurd (omega arith)
 

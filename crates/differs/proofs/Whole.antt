@@ -22,10 +22,10 @@ use Rattle.key_in.specs.Back.{Ends}
 use Rattle.key_in.proofs.Rows.{table-fine}
 use Rattle.differs.specs.Content.{contentOf}
 use Rattle.differs.specs.Differ.{checked}
-use Rattle.differs.specs.Sound.{reads, fails, readNode, Checks, checkAt, Wholly}
+use Rattle.differs.specs.Sound.{reads, fails, readNode, ComesTo, checkAt, Wholly}
 use Rattle.differs.specs.declared.sound.Check.{Check}
 use Rattle.differs.proofs.Lined.{lined-read}
-use Rattle.differs.proofs.Enough.{Eager, eager-never, eager-word, eager-choose, eager-both, Same, same-got, same-stop, same-node}
+use Rattle.differs.proofs.Roomy.{Eager, eager-never, eager-word, eager-choose, eager-both, Same, same-got, same-stop, same-node}
 
 -- A type parameter and a parameter have no tag, and begin with a field.
 eager-table : (c t : ℕ) → nodeTable .tagWidth c ≡ 0 → Eager (nodeTable .row c t)
@@ -110,7 +110,7 @@ module _ (T key : List ℕ) where
         back-to : (x : ℕ) → x ≤ length (bitsOfBytes key) → length (bitsOfBytes key) - (length (bitsOfBytes key) - x) ≡ x
         back-to x l = omega arith
 
-        module _ (c : Check) (d : Checks (length (bitsOfBytes key)) (readNode (bitsOfBytes key) (grammarOf T) tallest 0 4) c) where
+        module _ (c : Check) (d : ComesTo (length (bitsOfBytes key)) (readNode (bitsOfBytes key) (grammarOf T) tallest 0 4) c) where
           pub whole-stop : (c .why ≡ 0 → ⊥) → Wholly T key c
           whole-stop o = by agrees
             where
