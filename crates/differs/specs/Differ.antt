@@ -32,13 +32,15 @@ wordsOf (p ∷ l) = p .0 ∷ p .1 ∷ wordsOf l
 abbrev pub manyDifferences : ℕ
 manyDifferences = 29
 
--- The side of a refusal: neither key's, the left key's, the right key's.
+-- The side of a refusal that is neither key's.
 abbrev pub noSide : ℕ
 noSide = 0
 
+-- The side of the left key's refusal.
 abbrev pub leftSide : ℕ
 leftSide = 1
 
+-- The side of the right key's.
 abbrev pub rightSide : ℕ
 rightSide = 2
 

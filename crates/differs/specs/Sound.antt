@@ -152,7 +152,12 @@ pub record NodesOn (bs : Bits) (G : Grammar) (left : ℕ) (r : TableRow) (s q : 
   pub on : (g : Form) → Onward bs (readNode bs G left) (nodesThen (s .n) (r .a) (r .w) g) g (s .bit) (q .why) (q .bit)
   pub next : q .why ≡ 0 → (q .form ≡ r .b) × (q .n ≡ 1)
 
--- What the check says of a key: as take-back with room enough, where it refuses it; else it is a key.
+-- What the check answers: the refusal of take-back with room enough, or zeros for a key.
+abbrev pub verdict : Taken → Check
+verdict (taken t) = checkAt 0 0
+verdict (refused number bit) = checkAt number bit
+
+-- A check that stopped where take-back with room enough refuses the key, or found that it is one.
 pub record Judges (x : Taken) (r : Check) : Type 0 where
   pub stopped : (r .why ≡ 0 → ⊥) → x ≡ refused (r .why) (r .bit)
   pub tree : Value
@@ -160,8 +165,8 @@ pub record Judges (x : Taken) (r : Check) : Type 0 where
 
 -- The same by the table of words, and what a key that is one reads as.
 pub record Wholly (T key : List ℕ) (r : Check) : Type 0 where
-  pub verdict : Judges (checked key) r
+  pub judges : Judges (checked key) r
   pub short : r .why ≡ 0 → length key ≤ longestKey
   pub long : r .why ≡ 0 → editionWidth ≤ length key * 8
   pub end : ℕ
-  pub read : r .why ≡ 0 → readNode (bitsOfBytes key) (grammarOf T) tallest 0 editionWidth ≡ reads (contentOf nodeTable (verdict .tree)) end
+  pub read : r .why ≡ 0 → readNode (bitsOfBytes key) (grammarOf T) tallest 0 editionWidth ≡ reads (contentOf nodeTable (judges .tree)) end

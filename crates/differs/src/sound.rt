@@ -340,10 +340,14 @@ pub fn check_whole(forms: &[u16], key: &[u8]) -> Check
     c
 }
 
-// Is this a key? Its refusal and its bit where take-back with room enough has one.
+// Is this a key? Its refusal and its bit where take-back with room enough has one, else zeros.
 pub fn sound(key: &[u8]) -> Check
-    ensures { λ r. ⌜ check.Judges (checked (now (key .entry))) r ⌝ }
+    ensures { λ r. ⌜ r ≡ check.verdict (checked (now (key .entry))) ⌝ }
 {
     let words = forms::words();
-    check_whole(&words, key)
+    let c = check_whole(&words, key);
+    if c.why != 0 {
+        return c;
+    }
+    stopped(0, 0)
 }
