@@ -16,7 +16,7 @@ use Rattle.node_table.specs.Forms.{grammarOf}
 use Rattle.differs.specs.Content.{Content, ends, enters, contentOf, Pair, differences}
 use Rattle.differs.specs.Differ.{wordsOf, found, Differed, declined, reported, besides, begins, differ, manyDifferences, noSide, leftSide, rightSide}
 use Rattle.differs.specs.Sound.{reads, readNode, Wholly}
-use Rattle.differs.specs.Walk.{Kept, Read, Noded}
+use Rattle.differs.specs.Walk.{Begins, IsRead, Walked}
 use Rattle.differs.specs.Call.{answerOf, seen, Differs}
 use Rattle.differs.specs.declared.differ.Differing.{Differing}
 use Rattle.differs.specs.declared.differ.Differing.the-variants.{Found, Refused}
@@ -50,55 +50,55 @@ module _ (left right list : List ℕ) where
       ap (λ (x : Differing). seen x after) i ∙ ap (seen (Refused number side bit)) (e ∙ ap (λ (n : ℕ). filled n []) l) ∙ sym d
 
   pub bad-left : (T : List ℕ) (c : Check) → Wholly T left c → (c .why ≡ 0 → ⊥) → (after : List ℕ) → after ≡ filled (length list) [] → (r : Differing) → r ≡ Refused (c .why) leftSide (c .bit) → Differs left right list r after
-  bad-left T c w z after e = seen-declined (c .why) leftSide (c .bit) list after refl e (ap (λ (x : Taken). begins (length list) x right) (w .verdict .stopped z))
+  bad-left T c w z after e = seen-declined (c .why) leftSide (c .bit) list after refl e (ap (λ (x : Taken). begins (length list) x right) (w .judges .stopped z))
 
   module _ (T : List ℕ) (c : Check) (w : Wholly T left c) (z : c .why ≡ 0) where
     pub bad-right : (U : List ℕ) (d : Check) → Wholly U right d → (d .why ≡ 0 → ⊥) → (after : List ℕ) → after ≡ filled (length list) [] → (r : Differing) → r ≡ Refused (d .why) rightSide (d .bit) → Differs left right list r after
     bad-right U d v y after e =
         seen-declined (d .why) rightSide (d .bit) list after refl e
-        (ap (λ (x : Taken). begins (length list) x right) (w .verdict .good z) ∙ ap (besides (length list) (w .verdict .tree)) (v .verdict .stopped y))
+        (ap (λ (x : Taken). begins (length list) x right) (w .judges .good z) ∙ ap (besides (length list) (w .judges .tree)) (v .judges .stopped y))
 
-    pub read-left : Read (readNode (bitsOfBytes left) (grammarOf T) tallest 0 4)
-    read-left = record { content = contentOf nodeTable (w .verdict .tree); end = w .end; is = w .read z }
+    pub read-left : IsRead (readNode (bitsOfBytes left) (grammarOf T) tallest 0 4)
+    read-left = record { content = contentOf nodeTable (w .judges .tree); end = w .end; is = w .read z }
 
     module _ (d : Check) (v : Wholly T right d) (y : d .why ≡ 0) where
-      pub read-right : Read (readNode (bitsOfBytes right) (grammarOf T) tallest 0 4)
-      read-right = record { content = contentOf nodeTable (v .verdict .tree); end = v .end; is = v .read y }
+      pub read-right : IsRead (readNode (bitsOfBytes right) (grammarOf T) tallest 0 4)
+      read-right = record { content = contentOf nodeTable (v .judges .tree); end = v .end; is = v .read y }
 
       abbrev pairs : List Pair
-      pairs = differences (contentOf nodeTable (w .verdict .tree)) (contentOf nodeTable (v .verdict .tree))
+      pairs = differences (contentOf nodeTable (w .judges .tree)) (contentOf nodeTable (v .judges .tree))
 
-      module _ (q : Both) (now : List ℕ) (a : Noded (bitsOfBytes left) (bitsOfBytes right) (grammarOf T) tallest 0 (record { left = 4; right = 4; found = 0 }) q list now) where
-        content-left : contentOf nodeTable (w .verdict .tree) ≡ enters 4 (a .u) ends
+      module _ (q : Both) (now : List ℕ) (a : Walked (bitsOfBytes left) (bitsOfBytes right) (grammarOf T) tallest 0 (record { left = 4; right = 4; found = 0 }) q list now) where
+        content-left : contentOf nodeTable (w .judges .tree) ≡ enters 4 (a .u) ends
         content-left =
-            let e : reads (contentOf nodeTable (w .verdict .tree)) (w .end) ≡ reads (enters 4 (a .u) ends) (q .left) = sym (w .read z) ∙ a .left in
+            let e : reads (contentOf nodeTable (w .judges .tree)) (w .end) ≡ reads (enters 4 (a .u) ends) (q .left) = sym (w .read z) ∙ a .left in
             cc e
 
-        content-right : contentOf nodeTable (v .verdict .tree) ≡ enters 4 (a .v) ends
+        content-right : contentOf nodeTable (v .judges .tree) ≡ enters 4 (a .v) ends
         content-right =
-            let e : reads (contentOf nodeTable (v .verdict .tree)) (v .end) ≡ reads (enters 4 (a .v) ends) (q .right) = sym (v .read y) ∙ a .right in
+            let e : reads (contentOf nodeTable (v .judges .tree)) (v .end) ≡ reads (enters 4 (a .v) ends) (q .right) = sym (v .read y) ∙ a .right in
             cc e
 
-        found-is : q .found ≡ length (differences (contentOf nodeTable (w .verdict .tree)) (contentOf nodeTable (v .verdict .tree)))
+        found-is : q .found ≡ length (differences (contentOf nodeTable (w .judges .tree)) (contentOf nodeTable (v .judges .tree)))
         found-is =
             let e : length (differences (enters 4 (a .u) ends) (enters 4 (a .v) ends)) ≡ length pairs = ap₂ (λ (x x' : Content). length (differences x x')) (sym content-left) (sym content-right) in
             let f : q .found ≡ 0 + length (differences (enters 4 (a .u) ends) (enters 4 (a .v) ends)) = a .found in
             omega arith
 
-        by-both : differ (length list) left right ≡ reported (length list) (leb (length (differences (contentOf nodeTable (w .verdict .tree)) (contentOf nodeTable (v .verdict .tree)))) (length list / 2)) (differences (contentOf nodeTable (w .verdict .tree)) (contentOf nodeTable (v .verdict .tree)))
-        by-both = ap (λ (x : Taken). begins (length list) x right) (w .verdict .good z) ∙ ap (besides (length list) (w .verdict .tree)) (v .verdict .good y)
+        by-both : differ (length list) left right ≡ reported (length list) (leb (length (differences (contentOf nodeTable (w .judges .tree)) (contentOf nodeTable (v .judges .tree)))) (length list / 2)) (differences (contentOf nodeTable (w .judges .tree)) (contentOf nodeTable (v .judges .tree)))
+        by-both = ap (λ (x : Taken). begins (length list) x right) (w .judges .good z) ∙ ap (besides (length list) (w .judges .tree)) (v .judges .good y)
 
         pub too-many : length now / 2 < q .found → (after : List ℕ) → after ≡ filled (length now) [] → (r : Differing) → r ≡ Refused manyDifferences noSide 0 → Differs left right list r after
         too-many h after e =
             seen-declined manyDifferences noSide 0 now after (a .grows .long) e
             (by-both ∙ ap (λ (b : Bool). reported (length list) b pairs) (lt-leb (length pairs) (length list / 2) (omega (arith, found-is, a .grows .long))))
 
-        none-kept : Kept list []
+        none-kept : Begins list []
         none-kept zero h l = refl
         none-kept (suc k) h l = absurd (omega arith)
 
         -- The list holds the pairs.
-        listed : q .found ≤ length now / 2 → take (q .found * 2) now ≡ wordsOf (differences (contentOf nodeTable (w .verdict .tree)) (contentOf nodeTable (v .verdict .tree)))
+        listed : q .found ≤ length now / 2 → take (q .found * 2) now ≡ wordsOf (differences (contentOf nodeTable (w .judges .tree)) (contentOf nodeTable (v .judges .tree)))
         listed h =
             let D : List Pair = differences (enters 4 (a .u) ends) (enters 4 (a .v) ends) in
             let f : q .found ≡ 0 + length D = a .found in

@@ -15,11 +15,13 @@ use Rattle.keys.proofs.FormLaws.{letters-written}
 use Rattle.keys.proofs.KeyLaws.{length-packed}
 use Rattle.keys.specs.Limits.{edition}
 use Rattle.keys.specs.Table.{wholeKey}
-use Rattle.keys.specs.Key.{Taken, taken, nodeTable, keyOf, IsTree, IsKey}
+use Rattle.keys.specs.Key.{Taken, taken, refused, nodeTable, keyOf, IsTree, IsKey, IsRefusal, is-tooTall, is-noRoom, is-badKey, is-noSpace}
 use Rattle.keys.proofs.TakeLaws.{with-edition}
-use Rattle.keys.proofs.Theorems.{exactly}
+use Rattle.keys.proofs.Theorems.{exactly, refusals}
 use Rattle.differs.specs.Content.{contentOf, Pair, differences}
 use Rattle.differs.specs.Differ.{checked, found, Differed, reported, besides, begins, differ}
+use Rattle.differs.specs.Sound.{verdict}
+use Rattle.differs.specs.declared.sound.Check.{Check}
 use Rattle.differs.proofs.Theorems.{none-same}
 
 -- ---- Room enough
@@ -89,6 +91,11 @@ starting-table (suc (suc (suc (suc (suc (suc c)))))) t e = refl
 
 -- ---- Keys
 
+-- The bytes pass the check, as a tree.
+pub record Passed (key : List ℕ) : Type 0 where
+  pub tree : Value
+  pub is : checked key ≡ taken tree
+
 -- Bytes pass the check as a tree exactly where the tree is one of the node table within the limits, and they are its key: room is never short.
 pub passes : (key : List ℕ) → Bytes key → (t : Value) → (checked key ≡ taken t) ↔ (IsTree t × (key ≡ keyOf t))
 passes key ok t = (λ e. let k = exactly ok .0 e in (k .isTree, k .is), λ p. exactly ok .1 (roomy (p .0) (p .1)))
@@ -101,6 +108,21 @@ passes key ok t = (λ e. let k = exactly ok .0 e in (k .isTree, k .is), λ p. ex
         let j = names-few nodeTable starting-table (with-edition (a .fits)) in
         let k = letters-written nodeTable (with-edition (a .fits)) in
         record { isTree = a; hasRoom = record { forNodes = omega arith; forNames = omega arith; forText = omega arith }; is = e }
+
+-- The check answers zero exactly for what passes.
+pub zero-passes : (key : List ℕ) (r : Check) → r ≡ verdict (checked key) → r .why ≡ 0 → Passed key
+zero-passes key r e z = by (checked key) refl
+  where
+    some : {all n p : ℕ} → IsRefusal all n p → n ≡ 0 → ⊥
+    some (is-tooTall l) i = omega arith
+    some (is-noRoom l) i = omega arith
+    some (is-badKey l) i = omega arith
+    some is-noSpace i = omega arith
+
+    by : (x : Taken) → checked key ≡ x → Passed key
+    by (taken t) i = record { tree = t; is = i }
+    by (refused n p) i =
+        absurd (some (refusals (length key * 8) (length key * 8) (length key) key i) (sym (ap (λ (c : Check). c .why) (e ∙ ap verdict i)) ∙ z))
 
 -- Of two keys that pass, the call finds no pair exactly where they are the same bytes.
 pub same-bytes : (n : ℕ) (left right : List ℕ) → Bytes left → Bytes right → {t u : Value} → checked left ≡ taken t → checked right ≡ taken u

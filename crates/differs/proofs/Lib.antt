@@ -2,10 +2,11 @@ pub mod Theorems
 pub mod Checking
 pub mod Nodes
 pub mod Lined
-pub mod Enough
+pub mod Roomy
 pub mod Whole
 pub mod Listed
 pub mod Walking
 pub mod Rests
 pub mod Differing
 pub mod Keys
+pub mod Rows

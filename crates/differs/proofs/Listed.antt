@@ -9,7 +9,7 @@ use lib.Seq.{take-suc-set, take-set-le}
 use Rattle.keys.proofs.BitsLaws.{le-or-lt}
 use Rattle.differs.specs.Content.{Pair}
 use Rattle.differs.specs.Differ.{wordsOf}
-use Rattle.differs.specs.Walk.{Kept, Grows, Puts}
+use Rattle.differs.specs.Walk.{Begins, Grows, Puts}
 
 take-prefix : (k : ℕ) (l m : List Pair) → k ≤ length l → take k (l ++ m) ≡ take k l
 take-prefix zero l m h = refl
@@ -30,11 +30,11 @@ pub words-length : (l : List Pair) → length (wordsOf l) ≡ length l * 2
 words-length [] = refl
 words-length (x ∷ l) = let i = words-length l in omega arith
 
-kept-prefix : (m : List ℕ) (ps new : List Pair) → Kept m (ps ++ new) → Kept m ps
+kept-prefix : (m : List ℕ) (ps new : List Pair) → Begins m (ps ++ new) → Begins m ps
 kept-prefix m ps new K k h l = K k (omega (arith, length-append ps new)) l ∙ ap wordsOf (take-prefix k ps new h)
 
 -- A pair put behind those before it.
-put-kept : {l : List ℕ} {n a b : ℕ} {m : List ℕ} → Puts l n a b m → (ps : List Pair) → length ps ≡ n → Kept l ps → Kept m (ps ++ ((a, b) ∷ []))
+put-kept : {l : List ℕ} {n a b : ℕ} {m : List ℕ} → Puts l n a b m → (ps : List Pair) → length ps ≡ n → Begins l ps → Begins m (ps ++ ((a, b) ∷ []))
 put-kept {l} {n} {a} {b} {m} d ps e K k h r = by (le-or-lt k n)
   where
     by : (k ≤ n) ⊎ (n < k) → take (k * 2) m ≡ wordsOf (take k (ps ++ ((a, b) ∷ [])))
@@ -48,7 +48,7 @@ put-kept {l} {n} {a} {b} {m} d ps e K k h r = by (le-or-lt k n)
 -- ---- Growing
 
 pub grows-none : (l : List ℕ) (n : ℕ) → Grows l n l []
-grows-none l n = record { long = refl; kept = λ ps e K. subst (Kept l) (sym (append-nil ps)) K }
+grows-none l n = record { long = refl; kept = λ ps e K. subst (Begins l) (sym (append-nil ps)) K }
 
 pub grows-as : {l : List ℕ} {n n' : ℕ} {m : List ℕ} {a b : List Pair} → n ≡ n' → a ≡ b → Grows l n m a → Grows l n' m b
 grows-as {l} {n} {n'} {m} {a} {b} p q d = subst (λ (x : List Pair). Grows l n' m x) q (subst (λ (x : ℕ). Grows l x m a) p d)
@@ -57,7 +57,7 @@ pub grows-then : {l : List ℕ} {n : ℕ} {m k : List ℕ} {a b : List Pair} →
 grows-then {l} {n} {m} {k} {a} {b} d e =
     record {
       long = e .long ∙ d .long;
-      kept = λ ps i K. subst (Kept k) (append-assoc ps a b) (e .kept (ps ++ a) (omega (arith, length-append ps a)) (d .kept ps i K));
+      kept = λ ps i K. subst (Begins k) (append-assoc ps a b) (e .kept (ps ++ a) (omega (arith, length-append ps a)) (d .kept ps i K));
     }
 
 pub puts-grows : {l : List ℕ} {n a b : ℕ} {m : List ℕ} → Puts l n a b m → Grows l n m ((a, b) ∷ [])

@@ -11,7 +11,8 @@ use Rattle.node_table.specs.Forms.{Entry, formOf, formBy, leads, grammarOf, ent
 use Rattle.node_table.proofs.FormsLaws.{form-at}
 use Rattle.node_table.specs.declared.forms.Row.{Row}
 use Rattle.differs.specs.Content.{ends, chooses, enters}
-use Rattle.differs.specs.Sound.{Outcome, fails, _⊕_, after, asNode, readChoice, readForm, readNode, Checks, Onward, Placed, Sized, checkAt, AfterOn, Chosen, NodesOn}
+use Rattle.key_in.specs.Back.{Sized}
+use Rattle.differs.specs.Sound.{Scan, fails, _⊕_, after, asNode, readChoice, readForm, readNode, ComesTo, Onward, Spotted, checkAt, AfterOn, ChoiceOn, NodesOn}
 use Rattle.differs.specs.declared.sound.Check.{Check}
 use Rattle.differs.specs.declared.sound.Spot.{Spot}
 use Rattle.differs.proofs.Checking.{on-none, on-then, on-child, checks-bad, checks-good}
@@ -20,27 +21,27 @@ use Rattle.differs.proofs.Checking.{on-none, on-then, on-child, checks-
 pub row-sized : (T : List ℕ) → Narrow T → (f : ℕ) (r : Row) → IsRow (entryAt T f) r → Sized r
 row-sized T n f r i = record { w = subst (λ (x : Entry). x .w ≤ widest) (sym (i .is)) (n .at f); a = i .from; b = i .next }
 
-pub placed-as : {a b : ℕ} {s : Spot} → a ≡ b → Placed a s → Placed b s
-placed-as {s = s} e p = subst (λ (x : ℕ). Placed x s) e p
+pub placed-as : {a b : ℕ} {s : Spot} → a ≡ b → Spotted a s → Spotted b s
+placed-as {s = s} e p = subst (λ (x : ℕ). Spotted x s) e p
 
 -- ---- What is left of a node
 
 -- The walk has come from one form to another.
-pub record Going (bs : Bits) (T : List ℕ) (X : ℕ → ℕ → Outcome) (steps : ℕ) (from : Spot) (depth : ℕ) (s : Spot) : Type 0 where
+pub record Going (bs : Bits) (T : List ℕ) (X : ℕ → ℕ → Scan) (steps : ℕ) (from : Spot) (depth : ℕ) (s : Spot) : Type 0 where
   pub on : Onward bs X (formOf T steps (from .n) (from .form)) (formOf T depth (s .n) (s .form)) (from .bit) 0 (s .bit)
-  pub placed : Placed (length bs) s
+  pub placed : Spotted (length bs) s
 
-module _ (bs : Bits) (T : List ℕ) (X : ℕ → ℕ → Outcome) (steps : ℕ) (from : Spot) where
-  pub going-none : Placed (length bs) from → Going bs T X steps from steps from
+module _ (bs : Bits) (T : List ℕ) (X : ℕ → ℕ → Scan) (steps : ℕ) (from : Spot) where
+  pub going-none : Spotted (length bs) from → Going bs T X steps from steps from
   going-none p = record { on = on-none bs X (formOf T steps (from .n) (from .form)) (from .bit) (p .in-key); placed = p }
 
   -- The form that the walk checks.
-  abbrev whole : Outcome
+  abbrev whole : Scan
   whole = readForm bs X (formOf T steps (from .n) (from .form)) (from .bit)
 
   module _ {depth : ℕ} {s : Spot} (d : Going bs T X steps from depth s) where
     -- The walk ends without a form.
-    pub going-never : depth ≡ 0 → (r : Check) → r ≡ checkAt badKey (s .bit) → Checks (length bs) (readForm bs X (formOf T steps (from .n) (from .form)) (from .bit)) r
+    pub going-never : depth ≡ 0 → (r : Check) → r ≡ checkAt badKey (s .bit) → ComesTo (length bs) (readForm bs X (formOf T steps (from .n) (from .form)) (from .bit)) r
     going-never z r e =
         checks-bad (d .placed .in-key) (λ x. omega arith)
         (d .on .went refl ∙ ap (λ (x : ℕ). after (d .on .passed) (readForm bs X (formOf T x (s .n) (s .form)) (s .bit))) z) r e
@@ -53,7 +54,7 @@ module _ (bs : Bits) (T : List ℕ) (X : ℕ → ℕ → Outcome) (steps : ℕ) 
       form-is k e = form-at T depth (depth - 1) (s .n) (s .form) some r i k e
 
       -- The form is the end.
-      pub going-end : r .op ≡ 1 → (c : Check) → c ≡ checkAt 0 (s .bit) → Checks (length bs) (readForm bs X (formOf T steps (from .n) (from .form)) (from .bit)) c
+      pub going-end : r .op ≡ 1 → (c : Check) → c ≡ checkAt 0 (s .bit) → ComesTo (length bs) (readForm bs X (formOf T steps (from .n) (from .form)) (from .bit)) c
       going-end e c j =
           checks-good (d .on .passed ⊕ ends) (d .placed .in-key)
           (d .on .went refl ∙ ap (λ (f : Form). after (d .on .passed) (readForm bs X f (s .bit))) (form-is 1 e)) c j
@@ -63,7 +64,7 @@ module _ (bs : Bits) (T : List ℕ) (X : ℕ → ℕ → Outcome) (steps : ℕ) 
         there = on-then bs X (subst (λ (f : Form). Onward bs X (formOf T steps (from .n) (from .form)) f (from .bit) 0 (s .bit)) (form-is (r .op) refl) (d .on)) refl p
 
         -- A step is refused.
-        pub going-stop : (q .why ≡ 0 → ⊥) → (c : Check) → c ≡ checkAt (q .why) (q .bit) → Checks (length bs) (readForm bs X (formOf T steps (from .n) (from .form)) (from .bit)) c
+        pub going-stop : (q .why ≡ 0 → ⊥) → (c : Check) → c ≡ checkAt (q .why) (q .bit) → ComesTo (length bs) (readForm bs X (formOf T steps (from .n) (from .form)) (from .bit)) c
         going-stop z c j = checks-bad (there .in-key) z (there .stopped z) c j
 
         -- A step is made.
@@ -91,12 +92,12 @@ module _ (bs : Bits) (T : List ℕ) (left : ℕ) (r : Row) (s q : Spot) (depth :
 -- ---- Nodes one after the other
 
 -- i of n nodes are passed.
-pub record Turn (bs : Bits) (X : ℕ → ℕ → Outcome) (c w n bit i at : ℕ) : Type 0 where
+pub record Turn (bs : Bits) (X : ℕ → ℕ → Scan) (c w n bit i at : ℕ) : Type 0 where
   pub few : i ≤ n
   pub on : (g : Form) → Onward bs X (nodesThen n c w g) (nodesThen (n - i) c w g) bit 0 at
   pub in-key : at ≤ length bs
 
-pub turn-none : (bs : Bits) (X : ℕ → ℕ → Outcome) (c w n bit : ℕ) → bit ≤ length bs → Turn bs X c w n bit 0 bit
+pub turn-none : (bs : Bits) (X : ℕ → ℕ → Scan) (c w n bit : ℕ) → bit ≤ length bs → Turn bs X c w n bit 0 bit
 turn-none bs X c w n bit h =
     let e : n ≡ n - 0 = omega arith in
     record {
@@ -105,7 +106,7 @@ turn-none bs X c w n bit h =
       in-key = h;
     }
 
-module _ {bs : Bits} {X : ℕ → ℕ → Outcome} {c w n bit i at : ℕ} (d : Turn bs X c w n bit i at) (h : i < n) {a : Check} (e : Checks (length bs) (X c at) a) where
+module _ {bs : Bits} {X : ℕ → ℕ → Scan} {c w n bit i at : ℕ} (d : Turn bs X c w n bit i at) (h : i < n) {a : Check} (e : ComesTo (length bs) (X c at) a) where
   in-child : (g : Form) → Onward bs X (nodesThen n c w g) (spellingIf w (nodesThen (n - (i + 1)) c w g)) bit (a .why) (a .bit)
   in-child g =
       let z : n - i ≡ suc (n - (i + 1)) = omega arith in
@@ -130,7 +131,7 @@ module _ {bs : Bits} {X : ℕ → ℕ → Outcome} {c w n bit i at : ℕ} (d : T
           in-key = next (child 0) .in-key;
         }
 
-pub turn-all : {bs : Bits} {X : ℕ → ℕ → Outcome} {c w n bit i at : ℕ} → Turn bs X c w n bit i at → n ≤ i → (g : Form) → Onward bs X (nodesThen n c w g) g bit 0 at
+pub turn-all : {bs : Bits} {X : ℕ → ℕ → Scan} {c w n bit i at : ℕ} → Turn bs X c w n bit i at → n ≤ i → (g : Form) → Onward bs X (nodesThen n c w g) g bit 0 at
 turn-all {bs} {X} {c} {w} {n} {bit} {i} {at} d h g =
     let z : n - i ≡ 0 = omega arith in
     subst (λ (k : ℕ). Onward bs X (nodesThen n c w g) (nodesThen k c w g) bit 0 at) z (d .on g)
@@ -138,8 +139,8 @@ turn-all {bs} {X} {c} {w} {n} {bit} {i} {at} d h g =
 -- ---- A node
 
 module _ (bs : Bits) (T : List ℕ) (class bit : ℕ) (h : bit ≤ length bs) (steps : ℕ) (e : steps ≡ stepsOf T) (tags : Row) (i : IsRow (classAt T class) tags)
-    (tag : Spot) (p : Chosen bs T steps (tags .w) (leads T (formOf T steps) (entryOf tags) 0) bit tag) where
-  choice-is : (K : ℕ → Outcome) → readChoice bs (grammarOf T .tagWidth class) (grammarOf T .row class) bit K ≡ readChoice bs (tags .w) (leads T (formOf T steps) (entryOf tags) 0) bit K
+    (tag : Spot) (p : ChoiceOn bs T steps (tags .w) (leads T (formOf T steps) (entryOf tags) 0) bit tag) where
+  choice-is : (K : ℕ → Scan) → readChoice bs (grammarOf T .tagWidth class) (grammarOf T .row class) bit K ≡ readChoice bs (tags .w) (leads T (formOf T steps) (entryOf tags) 0) bit K
   choice-is K = ap₂ (λ (x : Entry) (y : ℕ). readChoice bs (x .w) (leads T (formOf T y) x 0) bit K) (sym (i .is)) (sym e)
 
   row-is : (t : ℕ) → grammarOf T .row class t ≡ leads T (formOf T steps) (entryOf tags) 0 t
@@ -148,36 +149,36 @@ module _ (bs : Bits) (T : List ℕ) (class bit : ℕ) (h : bit ≤ length bs) (s
   bad : (left : ℕ) → (tag .why ≡ 0 → ⊥) → readNode bs (grammarOf T) left class bit ≡ fails badKey bit
   bad zero z = choice-is (λ t. fails tooTall bit) ∙ p .stopped z (λ t. fails tooTall bit)
   bad (suc l) z =
-      let K : ℕ → Outcome = λ t. after (chooses t ends) (readForm bs (readNode bs (grammarOf T) l) (grammarOf T .row class t) (bit + grammarOf T .tagWidth class)) in
+      let K : ℕ → Scan = λ t. after (chooses t ends) (readForm bs (readNode bs (grammarOf T) l) (grammarOf T .row class t) (bit + grammarOf T .tagWidth class)) in
       ap (asNode bit) (choice-is K ∙ p .stopped z K)
 
-  pub node-bad : (left : ℕ) → (tag .why ≡ 0 → ⊥) → (r : Check) → r ≡ checkAt badKey bit → Checks (length bs) (readNode bs (grammarOf T) left class bit) r
+  pub node-bad : (left : ℕ) → (tag .why ≡ 0 → ⊥) → (r : Check) → r ≡ checkAt badKey bit → ComesTo (length bs) (readNode bs (grammarOf T) left class bit) r
   node-bad left z r j = checks-bad h (λ x. omega arith) (bad left z) r j
 
   module _ (z : tag .why ≡ 0) where
-    pub node-tall : (left : ℕ) → left ≡ 0 → (r : Check) → r ≡ checkAt tooTall bit → Checks (length bs) (readNode bs (grammarOf T) left class bit) r
+    pub node-tall : (left : ℕ) → left ≡ 0 → (r : Check) → r ≡ checkAt tooTall bit → ComesTo (length bs) (readNode bs (grammarOf T) left class bit) r
     node-tall left o r j =
         checks-bad h (λ x. omega arith)
         (ap (λ (x : ℕ). readNode bs (grammarOf T) x class bit) o ∙ choice-is (λ t. fails tooTall bit) ∙ p .went z (λ t. fails tooTall bit)) r j
 
-    pub tag-placed : Placed (length bs) tag
+    pub tag-placed : Spotted (length bs) tag
     tag-placed = record { ok = z; in-key = p .in-key; in-table = p .in-table; few = p .few }
 
     node-is : (l : ℕ) → readNode bs (grammarOf T) (suc l) class bit ≡ asNode bit (after (chooses (p .number) ends) (readForm bs (readNode bs (grammarOf T) l) (formOf T steps (tag .n) (tag .form)) (tag .bit)))
     node-is l =
-        let K : ℕ → Outcome = λ t. after (chooses t ends) (readForm bs (readNode bs (grammarOf T) l) (grammarOf T .row class t) (bit + grammarOf T .tagWidth class)) in
+        let K : ℕ → Scan = λ t. after (chooses t ends) (readForm bs (readNode bs (grammarOf T) l) (grammarOf T .row class t) (bit + grammarOf T .tagWidth class)) in
         let w : bit + grammarOf T .tagWidth class ≡ tag .bit = ap (λ (x : Entry). bit + x .w) (sym (i .is)) ∙ sym (p .next z) in
         ap (asNode bit)
         (choice-is K ∙ p .went z K
         ∙ ap₂ (λ (f : Form) (b : ℕ). after (chooses (p .number) ends) (readForm bs (readNode bs (grammarOf T) l) f b)) (row-is (p .number) ∙ p .to z) w)
 
     pub node-done : (left l : ℕ) → left ≡ suc l → (r : Check)
-        → Checks (length bs) (readForm bs (readNode bs (grammarOf T) l) (formOf T steps (tag .n) (tag .form)) (tag .bit)) r → Checks (length bs) (readNode bs (grammarOf T) left class bit) r
+        → ComesTo (length bs) (readForm bs (readNode bs (grammarOf T) l) (formOf T steps (tag .n) (tag .form)) (tag .bit)) r → ComesTo (length bs) (readNode bs (grammarOf T) left class bit) r
     node-done left l o r d =
         let whole : readNode bs (grammarOf T) left class bit ≡ asNode bit (after (chooses (p .number) ends) (readForm bs (readNode bs (grammarOf T) l) (formOf T steps (tag .n) (tag .form)) (tag .bit))) = ap (λ (x : ℕ). readNode bs (grammarOf T) x class bit) o ∙ node-is l in
         record {
           in-key = d .in-key;
-          stopped = λ y. whole ∙ ap (λ (x : Outcome). asNode bit (after (chooses (p .number) ends) x)) (d .stopped y);
+          stopped = λ y. whole ∙ ap (λ (x : Scan). asNode bit (after (chooses (p .number) ends) x)) (d .stopped y);
           content = enters bit (chooses (p .number) (d .content)) ends;
-          went = λ y. whole ∙ ap (λ (x : Outcome). asNode bit (after (chooses (p .number) ends) x)) (d .went y);
+          went = λ y. whole ∙ ap (λ (x : Scan). asNode bit (after (chooses (p .number) ends) x)) (d .went y);
         }

@@ -19,8 +19,8 @@ use Rattle.node_table.proofs.FormsLaws.{form-at}
 use Rattle.node_table.specs.declared.forms.Row.{Row as TableRow}
 use Rattle.node_table.specs.declared.forms.Jump.{Jump}
 use Rattle.differs.specs.Content.{Content, ends, chooses, enters, own, Pair, inside, differences}
-use Rattle.differs.specs.Sound.{Outcome, reads, fails, _⊕_, after, thenRead, asNode, readAllowed, readWhole, readLetters, readLength, readChoice, readSpelling, readForm, readNode, Checks}
-use Rattle.differs.specs.Walk.{Puts, beside-ends, beside-chooses, Read, Inside, Along, noNode, SpelledOn, SpelledAll, Noded, NodedAll, Rested, Parted}
+use Rattle.differs.specs.Sound.{Scan, reads, fails, _⊕_, after, thenRead, asNode, readAllowed, readWhole, readLetters, readLength, readChoice, readSpelling, readForm, readNode, ComesTo}
+use Rattle.differs.specs.Walk.{Puts, beside-ends, beside-chooses, IsRead, Inside, Abreast, noNode, SpelledOn, SpelledAll, Walked, WalkedAll, Rested, Parted}
 use Rattle.differs.specs.declared.sound.Check.{Check}
 use Rattle.differs.specs.declared.walk.Both.{Both}
 use Rattle.differs.proofs.Listed.{grows-none, grows-as, puts-grows, puts-over}
@@ -29,17 +29,17 @@ use Rattle.differs.proofs.Walking.{beside-differ, beside-own, after-bac
 -- ---- Reading goes on
 
 -- What is read ends no earlier than it begins.
-abbrev Later : Outcome → ℕ → Type 0
+abbrev Later : Scan → ℕ → Type 0
 Later x a = (c : Content) (e : ℕ) → x ≡ reads c e → a ≤ e
 
-later-after : (c : Content) (x : Outcome) (a b : ℕ) → a ≤ b → Later x b → Later (after c x) a
+later-after : (c : Content) (x : Scan) (a b : ℕ) → a ≤ b → Later x b → Later (after c x) a
 later-after c x a b h l d e i =
     let k = after-back c x d e i in
     let j = l (k .rest) e (k .is) in
     omega arith
 
 module _ (bs : Bits) where
-  later-choice : (w : ℕ) (fs : ℕ → Form) (a : ℕ) (K : ℕ → Outcome) → ((t : ℕ) → Later (K t) a) → Later (readChoice bs w fs a K) a
+  later-choice : (w : ℕ) (fs : ℕ → Form) (a : ℕ) (K : ℕ → Scan) → ((t : ℕ) → Later (K t) a) → Later (readChoice bs w fs a K) a
   later-choice w fs a K h = by (takeField w (drop a bs))
     where
       allowed : (t : ℕ) (b : Bool) → Later (readAllowed a K t b) a
@@ -64,7 +64,7 @@ module _ (bs : Bits) where
       by (field zero r) c e i = clash (cc)
       by (field (suc m) r) c e i = letters m (takeBytes (suc m) r) c e i
 
-  later-form : (X : ℕ → ℕ → Outcome) → ((c a : ℕ) → Later (X c a) a) → (f : Form) (a : ℕ) → Later (readForm bs X f a) a
+  later-form : (X : ℕ → ℕ → Scan) → ((c a : ℕ) → Later (X c a) a) → (f : Form) (a : ℕ) → Later (readForm bs X f a) a
   later-form X h never a c e i = clash (cc)
   later-form X h one a c e i =
       let j : a ≡ e = cc in
@@ -75,17 +75,17 @@ module _ (bs : Bits) where
       (λ t. later-after (chooses t ends) (readForm bs X (fs t) (a + w)) a (a + w) (omega arith) (later-form X h (fs t) (a + w))) c e i
   later-form X h (both f g) a c e i = by (readForm bs X f a) refl (later-form X h f a) (λ b. later-form X h g b)
     where
-      by : (x : Outcome) → readForm bs X f a ≡ x → Later (readForm bs X f a) a → ((b : ℕ) → Later (readForm bs X g b) b) → a ≤ e
+      by : (x : Scan) → readForm bs X f a ≡ x → Later (readForm bs X f a) a → ((b : ℕ) → Later (readForm bs X g b) b) → a ≤ e
       by (reads d b) j l m =
           let p = l d b j in
-          let q = later-after d (readForm bs X g b) b b (omega arith) (m b) c e (sym (ap (λ (y : Outcome). thenRead y λ k. readForm bs X g k) j) ∙ i) in
+          let q = later-after d (readForm bs X g b) b b (omega arith) (m b) c e (sym (ap (λ (y : Scan). thenRead y λ k. readForm bs X g k) j) ∙ i) in
           omega arith
       by (fails n b) j l m =
-          let z = sym (ap (λ (y : Outcome). thenRead y λ k. readForm bs X g k) j) ∙ i in
+          let z = sym (ap (λ (y : Scan). thenRead y λ k. readForm bs X g k) j) ∙ i in
           clash (cc z)
   later-form X h (child k) a c e i = h k a c e i
 
-  later-as : (a : ℕ) (x : Outcome) → Later x a → Later (asNode a x) a
+  later-as : (a : ℕ) (x : Scan) → Later x a → Later (asNode a x) a
   later-as a (reads c b) l d e i =
       let j : b ≡ e = cc in
       let k = l c b refl in
@@ -102,7 +102,7 @@ module _ (bs : Bits) where
 -- ---- Passing over
 
 -- A check of what is read comes to its end.
-checks-end : {all : ℕ} {x : Outcome} {r : Check} → Checks all x r → (d : Read x) → x ≡ reads (d .content) (r .bit)
+checks-end : {all : ℕ} {x : Scan} {r : Check} → ComesTo all x r → (d : IsRead x) → x ≡ reads (d .content) (r .bit)
 checks-end {all} {x} {r} k d = by (r .why) refl
   where
     by : (n : ℕ) → r .why ≡ n → x ≡ reads (d .content) (r .bit)
@@ -116,15 +116,15 @@ checks-end {all} {x} {r} k d = by (r .why) refl
 
 -- Both sides are passed over.
 pub parted : (bs cs : Bits) (T U : List ℕ) → U ≡ T → (high steps : ℕ) (j k : Jump) (at first : Both) (l m : List ℕ) (c d : Check)
-    → Checks (length bs) (readForm bs (readNode bs (grammarOf T) high) (formOf T steps (j .n) (j .form)) (at .left)) c
-    → Checks (length cs) (readForm cs (readNode cs (grammarOf U) high) (formOf U steps (k .n) (k .form)) (at .right)) d
-    → Read (readForm bs (readNode bs (grammarOf T) high) (formOf T steps (j .n) (j .form)) (at .left))
-    → Read (readForm cs (readNode cs (grammarOf T) high) (formOf T steps (k .n) (k .form)) (at .right))
+    → ComesTo (length bs) (readForm bs (readNode bs (grammarOf T) high) (formOf T steps (j .n) (j .form)) (at .left)) c
+    → ComesTo (length cs) (readForm cs (readNode cs (grammarOf U) high) (formOf U steps (k .n) (k .form)) (at .right)) d
+    → IsRead (readForm bs (readNode bs (grammarOf T) high) (formOf T steps (j .n) (j .form)) (at .left))
+    → IsRead (readForm cs (readNode cs (grammarOf T) high) (formOf T steps (k .n) (k .form)) (at .right))
     → first .found < at .left → Puts l (first .found) (first .left) (first .right) m
     → Parted bs cs (readNode bs (grammarOf T) high) (readNode cs (grammarOf T) high) (formOf T steps (j .n) (j .form)) (formOf T steps (k .n) (k .form)) at first
     (record { left = c .bit; right = d .bit; found = first .found + 1 }) l m
 parted bs cs T U e high steps j k at first l m c d x y u v h p =
-    let y' : Checks (length cs) (readForm cs (readNode cs (grammarOf T) high) (formOf T steps (k .n) (k .form)) (at .right)) d = subst (λ (W : List ℕ). Checks (length cs) (readForm cs (readNode cs (grammarOf W) high) (formOf W steps (k .n) (k .form)) (at .right)) d) e y in
+    let y' : ComesTo (length cs) (readForm cs (readNode cs (grammarOf T) high) (formOf T steps (k .n) (k .form)) (at .right)) d = subst (λ (W : List ℕ). ComesTo (length cs) (readForm cs (readNode cs (grammarOf W) high) (formOf W steps (k .n) (k .form)) (at .right)) d) e y in
     let z = later-form bs (readNode bs (grammarOf T) high) (later-node bs (grammarOf T) high) (formOf T steps (j .n) (j .form)) (at .left) (u .content) (c .bit) (checks-end x u) in
     record {
       c = u .content;
@@ -139,12 +139,12 @@ parted bs cs T U e high steps j k at first l m c d x y u v h p =
 -- ---- A choice that is read
 
 -- Its number, and where it goes.
-pub record Chose (bs : Bits) (w : ℕ) (fs : ℕ → Form) (a : ℕ) (K : ℕ → Outcome) : Type 0 where
+pub record Chose (bs : Bits) (w : ℕ) (fs : ℕ → Form) (a : ℕ) (K : ℕ → Scan) : Type 0 where
   pub number : ℕ
   pub told : Told bs a w number
   pub goes : readChoice bs w fs a K ≡ K number
 
-pub choice-good : (bs : Bits) (w : ℕ) (fs : ℕ → Form) (a : ℕ) (K : ℕ → Outcome) → Read (readChoice bs w fs a K) → Chose bs w fs a K
+pub choice-good : (bs : Bits) (w : ℕ) (fs : ℕ → Form) (a : ℕ) (K : ℕ → Scan) → IsRead (readChoice bs w fs a K) → Chose bs w fs a K
 choice-good bs w fs a K r = by (takeField w (drop a bs)) refl
   where
     known : (t : ℕ) (q : Bits) → takeField w (drop a bs) ≡ field t q → (b : Bool) → isNever (fs t) ≡ b → Chose bs w fs a K
@@ -172,12 +172,12 @@ row-one {E} {r} {q} a b =
 
 -- ---- Parts that stand alone
 
-pub word-alone : (bs : Bits) (X : ℕ → ℕ → Outcome) (w a : ℕ) (g : Form) → Read (readForm bs X (both (word w) g) a) → Read (readSpelling bs w a)
+pub word-alone : (bs : Bits) (X : ℕ → ℕ → Scan) (w a : ℕ) (g : Form) → IsRead (readForm bs X (both (word w) g) a) → IsRead (readSpelling bs w a)
 word-alone bs X w a g r =
     let f = then-back (readSpelling bs w a) (λ e. readForm bs X g e) r in
     record { content = f .content; end = f .end; is = f .is }
 
-pub words-alone : (bs : Bits) (X : ℕ → ℕ → Outcome) (n w a : ℕ) (g : Form) → Read (readForm bs X (spellingsThen n w g) a) → Read (readForm bs noNode (spellingsThen n w one) a)
+pub words-alone : (bs : Bits) (X : ℕ → ℕ → Scan) (n w a : ℕ) (g : Form) → IsRead (readForm bs X (spellingsThen n w g) a) → IsRead (readForm bs noNode (spellingsThen n w one) a)
 words-alone bs X zero w a g r = record { content = ends; end = a; is = refl }
 words-alone bs X (suc n) w a g r =
     let f = then-back (readSpelling bs w a) (λ e. readForm bs X (spellingsThen n w g) e) r in
@@ -185,10 +185,10 @@ words-alone bs X (suc n) w a g r =
     record {
       content = f .content ⊕ h .content;
       end = h .end;
-      is = ap (λ (o : Outcome). thenRead o λ e. readForm bs noNode (spellingsThen n w one) e) (f .is) ∙ ap (after (f .content)) (h .is);
+      is = ap (λ (o : Scan). thenRead o λ e. readForm bs noNode (spellingsThen n w one) e) (f .is) ∙ ap (after (f .content)) (h .is);
     }
 
-if-alone : (bs : Bits) (X : ℕ → ℕ → Outcome) (w a : ℕ) (g g' : Form) → Read (readForm bs X (spellingIf w g) a) → ((b : ℕ) → Read (readForm bs X g b) → Read (readForm bs X g' b)) → Read (readForm bs X (spellingIf w g') a)
+if-alone : (bs : Bits) (X : ℕ → ℕ → Scan) (w a : ℕ) (g g' : Form) → IsRead (readForm bs X (spellingIf w g) a) → ((b : ℕ) → IsRead (readForm bs X g b) → IsRead (readForm bs X g' b)) → IsRead (readForm bs X (spellingIf w g') a)
 if-alone bs X zero a g g' r k = k a r
 if-alone bs X (suc w) a g g' r k =
     let f = then-back (readSpelling bs (suc w) a) (λ e. readForm bs X g e) r in
@@ -196,10 +196,10 @@ if-alone bs X (suc w) a g g' r k =
     record {
       content = f .content ⊕ h .content;
       end = h .end;
-      is = ap (λ (o : Outcome). thenRead o λ e. readForm bs X g' e) (f .is) ∙ ap (after (f .content)) (h .is);
+      is = ap (λ (o : Scan). thenRead o λ e. readForm bs X g' e) (f .is) ∙ ap (after (f .content)) (h .is);
     }
 
-pub nodes-alone : (bs : Bits) (X : ℕ → ℕ → Outcome) (n c w a : ℕ) (g : Form) → Read (readForm bs X (nodesThen n c w g) a) → Read (readForm bs X (nodesThen n c w one) a)
+pub nodes-alone : (bs : Bits) (X : ℕ → ℕ → Scan) (n c w a : ℕ) (g : Form) → IsRead (readForm bs X (nodesThen n c w g) a) → IsRead (readForm bs X (nodesThen n c w one) a)
 nodes-alone bs X zero c w a g r = record { content = ends; end = a; is = refl }
 nodes-alone bs X (suc n) c w a g r =
     let f = then-back (X c a) (λ e. readForm bs X (spellingIf w (nodesThen n c w g)) e) r in
@@ -207,14 +207,14 @@ nodes-alone bs X (suc n) c w a g r =
     record {
       content = f .content ⊕ h .content;
       end = h .end;
-      is = ap (λ (o : Outcome). thenRead o λ e. readForm bs X (spellingIf w (nodesThen n c w one)) e) (f .is) ∙ ap (after (f .content)) (h .is);
+      is = ap (λ (o : Scan). thenRead o λ e. readForm bs X (spellingIf w (nodesThen n c w one)) e) (f .is) ∙ ap (after (f .content)) (h .is);
     }
 
 -- ---- What is left of two nodes
 
 -- The walk has come from one form to another on both sides.
 pub record Coming (bs cs : Bits) (T : List ℕ) (high steps : ℕ) (from : Jump) (at : Both) (l : List ℕ) (depth : ℕ) (f : Jump) (p : Both) (m : List ℕ) : Type 0 where
-  pub along : Along bs cs (readNode bs (grammarOf T) high) (readNode cs (grammarOf T) high) (formOf T steps (from .n) (from .form)) (formOf T steps (from .n) (from .form)) (formOf T depth (f .n) (f .form)) (formOf T depth (f .n) (f .form)) at p l m
+  pub along : Abreast bs cs (readNode bs (grammarOf T) high) (readNode cs (grammarOf T) high) (formOf T steps (from .n) (from .form)) (formOf T steps (from .n) (from .form)) (formOf T depth (f .n) (f .form)) (formOf T depth (f .n) (f .form)) at p l m
   pub in-table : f .form < 2 ^ 32
   pub few : f .n < 2 ^ 32
 
@@ -228,13 +228,13 @@ coming-none bs cs T high steps from at l h a b =
     }
 
 module _ (bs cs : Bits) (T : List ℕ) (high steps : ℕ) (from : Jump) (at first : Both) (same-found : at .found ≡ first .found)
-    (R : Read (readForm bs (readNode bs (grammarOf T) high) (formOf T steps (from .n) (from .form)) (at .left)))
-    (S : Read (readForm cs (readNode cs (grammarOf T) high) (formOf T steps (from .n) (from .form)) (at .right)))
+    (R : IsRead (readForm bs (readNode bs (grammarOf T) high) (formOf T steps (from .n) (from .form)) (at .left)))
+    (S : IsRead (readForm cs (readNode cs (grammarOf T) high) (formOf T steps (from .n) (from .form)) (at .right)))
     {l : List ℕ} {depth : ℕ} {f : Jump} {p : Both} {m : List ℕ} (d : Coming bs cs T high steps from at l depth f p m) where
-  abbrev X : ℕ → ℕ → Outcome
+  abbrev X : ℕ → ℕ → Scan
   X = readNode bs (grammarOf T) high
 
-  abbrev Y : ℕ → ℕ → Outcome
+  abbrev Y : ℕ → ℕ → Scan
   Y = readNode cs (grammarOf T) high
 
   abbrev F : Form
@@ -252,14 +252,14 @@ module _ (bs cs : Bits) (T : List ℕ) (high steps : ℕ) (from : Jump) (at firs
     form-is k e = form-at T depth (depth - 1) (f .n) (f .form) (let z : depth ≡ suc (depth - 1) = omega arith in z) r i k e
 
     there : (k : ℕ) → r .op ≡ k
-        → Along bs cs (readNode bs (grammarOf T) high) (readNode cs (grammarOf T) high) (formOf T steps (from .n) (from .form)) (formOf T steps (from .n) (from .form))
+        → Abreast bs cs (readNode bs (grammarOf T) high) (readNode cs (grammarOf T) high) (formOf T steps (from .n) (from .form)) (formOf T steps (from .n) (from .form))
         (formBy T (formOf T (depth - 1)) (f .n) (entryOf r) k) (formBy T (formOf T (depth - 1)) (f .n) (entryOf r) k) at p l m
-    there k e = subst (λ (x : Form). Along bs cs (readNode bs (grammarOf T) high) (readNode cs (grammarOf T) high) (formOf T steps (from .n) (from .form)) (formOf T steps (from .n) (from .form)) x x at p l m) (form-is k e) (d .along)
+    there k e = subst (λ (x : Form). Abreast bs cs (readNode bs (grammarOf T) high) (readNode cs (grammarOf T) high) (formOf T steps (from .n) (from .form)) (formOf T steps (from .n) (from .form)) x x at p l m) (form-is k e) (d .along)
 
-    now-left : (k : ℕ) → r .op ≡ k → Read (readForm bs (readNode bs (grammarOf T) high) (formBy T (formOf T (depth - 1)) (f .n) (entryOf r) k) (p .left))
+    now-left : (k : ℕ) → r .op ≡ k → IsRead (readForm bs (readNode bs (grammarOf T) high) (formBy T (formOf T (depth - 1)) (f .n) (entryOf r) k) (p .left))
     now-left k e = let a = there k e in read-behind (a .c) _ R (a .left)
 
-    now-right : (k : ℕ) → r .op ≡ k → Read (readForm cs (readNode cs (grammarOf T) high) (formBy T (formOf T (depth - 1)) (f .n) (entryOf r) k) (p .right))
+    now-right : (k : ℕ) → r .op ≡ k → IsRead (readForm cs (readNode cs (grammarOf T) high) (formBy T (formOf T (depth - 1)) (f .n) (entryOf r) k) (p .right))
     now-right k e = let a = there k e in read-behind (a .d) _ S (a .right)
 
     -- The form is the end.
@@ -280,42 +280,42 @@ module _ (bs cs : Bits) (T : List ℕ) (high steps : ℕ) (from : Jump) (at firs
 
     -- A step that leads to another form.
     go-on : {g : Form} {q : Both} {k : List ℕ} (j : Jump) (x : ℕ) → r .op ≡ x → g ≡ formOf T (depth - 1) (j .n) (j .form)
-        → Along bs cs (readNode bs (grammarOf T) high) (readNode cs (grammarOf T) high) (formBy T (formOf T (depth - 1)) (f .n) (entryOf r) x) (formBy T (formOf T (depth - 1)) (f .n) (entryOf r) x) g g p q m k
+        → Abreast bs cs (readNode bs (grammarOf T) high) (readNode cs (grammarOf T) high) (formBy T (formOf T (depth - 1)) (f .n) (entryOf r) x) (formBy T (formOf T (depth - 1)) (f .n) (entryOf r) x) g g p q m k
         → j .form < 2 ^ 32 → j .n < 2 ^ 32 → Coming bs cs T high steps from at l (depth - 1) j q k
     go-on {g} {q} {k} j x e w a b c =
         record {
           along =
               along-then bs cs (readNode bs (grammarOf T) high) (readNode cs (grammarOf T) high) (there x e)
-              (subst (λ (y : Form). Along bs cs (readNode bs (grammarOf T) high) (readNode cs (grammarOf T) high) (formBy T (formOf T (depth - 1)) (f .n) (entryOf r) x) (formBy T (formOf T (depth - 1)) (f .n) (entryOf r) x) y y p q m k) w a);
+              (subst (λ (y : Form). Abreast bs cs (readNode bs (grammarOf T) high) (readNode cs (grammarOf T) high) (formBy T (formOf T (depth - 1)) (f .n) (entryOf r) x) (formBy T (formOf T (depth - 1)) (f .n) (entryOf r) x) y y p q m k) w a);
           in-table = b;
           few = c;
         }
 
     -- ---- Nodes
     module _ (e : r .op ≡ 3) where
-      pub nodes-left : Read (readForm bs (readNode bs (grammarOf T) high) (nodesThen (f .n) (r .a) (r .w) one) (p .left))
+      pub nodes-left : IsRead (readForm bs (readNode bs (grammarOf T) high) (nodesThen (f .n) (r .a) (r .w) one) (p .left))
       nodes-left = nodes-alone bs (readNode bs (grammarOf T) high) (f .n) (r .a) (r .w) (p .left) (formOf T (depth - 1) 1 (r .b)) (now-left 3 e)
 
-      pub nodes-right : (v : ℕ) → v ≡ r .w → Read (readForm cs (readNode cs (grammarOf T) high) (nodesThen (f .n) (r .a) v one) (p .right))
+      pub nodes-right : (v : ℕ) → v ≡ r .w → IsRead (readForm cs (readNode cs (grammarOf T) high) (nodesThen (f .n) (r .a) v one) (p .right))
       nodes-right v z =
-          subst (λ (x : ℕ). Read (readForm cs (readNode cs (grammarOf T) high) (nodesThen (f .n) (r .a) x one) (p .right))) (sym z)
+          subst (λ (x : ℕ). IsRead (readForm cs (readNode cs (grammarOf T) high) (nodesThen (f .n) (r .a) x one) (p .right))) (sym z)
           (nodes-alone cs (readNode cs (grammarOf T) high) (f .n) (r .a) (r .w) (p .right) (formOf T (depth - 1) 1 (r .b)) (now-right 3 e))
 
-      pub nodes-on : (v : ℕ) → v ≡ r .w → {q : Both} {k : List ℕ} → NodedAll bs cs (grammarOf T) high (r .a) (r .w) v (f .n) p q m k
+      pub nodes-on : (v : ℕ) → v ≡ r .w → {q : Both} {k : List ℕ} → WalkedAll bs cs (grammarOf T) high (r .a) (r .w) v (f .n) p q m k
           → Coming bs cs T high steps from at l (depth - 1) (record { form = r .b; n = 1 }) q k
       nodes-on v z {q} {k} a =
           go-on (record { form = r .b; n = 1 }) 3 e refl
-          (subst (λ (x : ℕ). NodedAll bs cs (grammarOf T) high (r .a) (r .w) x (f .n) p q m k) z a (formOf T (depth - 1) 1 (r .b)) (formOf T (depth - 1) 1 (r .b)))
+          (subst (λ (x : ℕ). WalkedAll bs cs (grammarOf T) high (r .a) (r .w) x (f .n) p q m k) z a (formOf T (depth - 1) 1 (r .b)) (formOf T (depth - 1) 1 (r .b)))
           (i .next) (omega arith)
 
     -- ---- Spellings
     module _ (e : r .op ≡ 2) where
-      pub words-left : Read (readForm bs noNode (spellingsThen (f .n) (r .w) one) (p .left))
+      pub words-left : IsRead (readForm bs noNode (spellingsThen (f .n) (r .w) one) (p .left))
       words-left = words-alone bs (readNode bs (grammarOf T) high) (f .n) (r .w) (p .left) (formOf T (depth - 1) 1 (r .b)) (now-left 2 e)
 
-      pub words-right : (v : ℕ) → v ≡ r .w → Read (readForm cs noNode (spellingsThen (f .n) v one) (p .right))
+      pub words-right : (v : ℕ) → v ≡ r .w → IsRead (readForm cs noNode (spellingsThen (f .n) v one) (p .right))
       words-right v z =
-          subst (λ (x : ℕ). Read (readForm cs noNode (spellingsThen (f .n) x one) (p .right))) (sym z)
+          subst (λ (x : ℕ). IsRead (readForm cs noNode (spellingsThen (f .n) x one) (p .right))) (sym z)
           (words-alone cs (readNode cs (grammarOf T) high) (f .n) (r .w) (p .right) (formOf T (depth - 1) 1 (r .b)) (now-right 2 e))
 
       pub words-on : (v : ℕ) → v ≡ r .w → {q : Both} {k : List ℕ} → SpelledAll bs cs (r .w) v (f .n) p q m k
@@ -340,12 +340,12 @@ module _ (bs cs : Bits) (T : List ℕ) (high steps : ℕ) (from : Jump) (at firs
           by (suc (suc (suc (suc zero)))) e b c g h = e
           by (suc (suc (suc (suc (suc x))))) e b c g h = absurd (omega arith)
 
-      pub word-left : Read (readSpelling bs (r .w) (p .left))
+      pub word-left : IsRead (readSpelling bs (r .w) (p .left))
       word-left = word-alone bs (readNode bs (grammarOf T) high) (r .w) (p .left) (formOf T (depth - 1) (f .n) (r .b)) (now-left 4 four)
 
-      pub word-right : (v : ℕ) → v ≡ r .w → Read (readSpelling cs v (p .right))
+      pub word-right : (v : ℕ) → v ≡ r .w → IsRead (readSpelling cs v (p .right))
       word-right v z =
-          subst (λ (x : ℕ). Read (readSpelling cs x (p .right))) (sym z)
+          subst (λ (x : ℕ). IsRead (readSpelling cs x (p .right))) (sym z)
           (word-alone cs (readNode cs (grammarOf T) high) (r .w) (p .right) (formOf T (depth - 1) (f .n) (r .b)) (now-right 4 four))
 
       pub word-on : (v : ℕ) → v ≡ r .w → {q : Both} {k : List ℕ} → SpelledOn bs cs (r .w) v p q m k
@@ -363,10 +363,10 @@ module _ (bs cs : Bits) (T : List ℕ) (high steps : ℕ) (from : Jump) (at firs
       abbrev fs : ℕ → Form
       fs = leads T (formOf T (depth - 1)) (entryOf r) (r .op - 5)
 
-      abbrev K : ℕ → Outcome
+      abbrev K : ℕ → Scan
       K t = after (chooses t ends) (readForm bs X (fs t) (p .left + r .w))
 
-      abbrev K' : ℕ → Outcome
+      abbrev K' : ℕ → Scan
       K' t = after (chooses t ends) (readForm cs Y (fs t) (p .right + r .w))
 
       left-chose : Chose bs (r .w) (leads T (formOf T (depth - 1)) (entryOf r) (r .op - 5)) (p .left)
@@ -418,14 +418,14 @@ module _ (bs cs : Bits) (T : List ℕ) (high steps : ℕ) (from : Jump) (at firs
 
         -- Other numbers: each side leads elsewhere.
         module _ (e : t ≡ u → ⊥) (j k : Jump) (w : Jumps T r t j) (w' : Jumps T r u k) where
-          pub rest-left : Read (readForm bs (readNode bs (grammarOf T) high) (formOf T (depth - 1) (j .n) (j .form)) (p .left + r .w))
+          pub rest-left : IsRead (readForm bs (readNode bs (grammarOf T) high) (formOf T (depth - 1) (j .n) (j .form)) (p .left + r .w))
           rest-left =
-              subst (λ (a : Form). Read (readForm bs (readNode bs (grammarOf T) high) a (p .left + r .w))) (w .is (depth - 1))
+              subst (λ (a : Form). IsRead (readForm bs (readNode bs (grammarOf T) high) a (p .left + r .w))) (w .is (depth - 1))
               (read-behind (chooses t ends) (readForm bs X (fs t) (p .left + r .w)) (now-left (suc (suc (suc (suc (suc (r .op - 5)))))) op-is) left-goes)
 
-          pub rest-right : Read (readForm cs (readNode cs (grammarOf T) high) (formOf T (depth - 1) (k .n) (k .form)) (p .right + v))
+          pub rest-right : IsRead (readForm cs (readNode cs (grammarOf T) high) (formOf T (depth - 1) (k .n) (k .form)) (p .right + v))
           rest-right =
-              subst (λ (a : Form). Read (readForm cs (readNode cs (grammarOf T) high) a (p .right + v))) (w' .is (depth - 1))
+              subst (λ (a : Form). IsRead (readForm cs (readNode cs (grammarOf T) high) a (p .right + v))) (w' .is (depth - 1))
               (read-behind (chooses u ends) (readForm cs Y (fs u) (p .right + v)) (now-right (suc (suc (suc (suc (suc (r .op - 5)))))) op-is) right-goes)
 
           pub some-found : first .found < p .left + r .w
@@ -453,26 +453,26 @@ module _ (bs cs : Bits) (T : List ℕ) (high steps : ℕ) (from : Jump) (at firs
 -- ---- Two nodes by their tags
 
 -- A node that is read: its tag, and what follows it.
-module _ (bs : Bits) (T : List ℕ) (high class a : ℕ) (R : Read (readNode bs (grammarOf T) high class a)) where
+module _ (bs : Bits) (T : List ℕ) (high class a : ℕ) (R : IsRead (readNode bs (grammarOf T) high class a)) where
   pub some-height : high ≡ suc (high - 1)
   some-height = by high refl
     where
       by : (n : ℕ) → high ≡ n → high ≡ suc (high - 1)
       by zero e =
-          let K : ℕ → Outcome = λ t. fails 6 a in
+          let K : ℕ → Scan = λ t. fails 6 a in
           let q = ap (λ (x : ℕ). readNode bs (grammarOf T) x class a) e in
           let c = choice-good bs (grammarOf T .tagWidth class) (grammarOf T .row class) a K (record { content = R .content; end = R .end; is = sym q ∙ R .is }) in
           let z = sym (R .is) ∙ q ∙ c .goes in
           clash (cc z)
       by (suc n) e = omega arith
 
-  abbrev H : ℕ → Outcome
+  abbrev H : ℕ → Scan
   H t = after (chooses t ends) (readForm bs (readNode bs (grammarOf T) (high - 1)) (grammarOf T .row class t) (a + grammarOf T .tagWidth class))
 
   whole : readNode bs (grammarOf T) high class a ≡ asNode a (readChoice bs (grammarOf T .tagWidth class) (grammarOf T .row class) a (λ t. after (chooses t ends) (readForm bs (readNode bs (grammarOf T) (high - 1)) (grammarOf T .row class t) (a + grammarOf T .tagWidth class))))
   whole = ap (λ (x : ℕ). readNode bs (grammarOf T) x class a) some-height
 
-  as-back : (x : Outcome) (r : Read (asNode a x)) → Read x
+  as-back : (x : Scan) (r : IsRead (asNode a x)) → IsRead x
   as-back (reads c e) r = record { content = c; end = e; is = refl }
   as-back (fails n b) r = let z = r .is in clash (cc z)
 
@@ -502,7 +502,7 @@ module _ (bs : Bits) (T : List ℕ) (high class a : ℕ) (R : Read (readNode bs 
           ∙ ap (asNode a) (chose .goes ∙ ap H (sym tag-is)
           ∙ ap₂ (λ (y : Form) (b : ℕ). after (chooses t ends) (readForm bs (readNode bs (grammarOf T) (high - 1)) y (a + b))) row-is (sym wide))
 
-      pub node-rest : Read (readForm bs (readNode bs (grammarOf T) (high - 1)) (formOf T steps (j .n) (j .form)) (a + tags .w))
+      pub node-rest : IsRead (readForm bs (readNode bs (grammarOf T) (high - 1)) (formOf T steps (j .n) (j .form)) (a + tags .w))
       node-rest =
           read-behind (chooses t ends) _ (as-back (after (chooses t ends) (readForm bs (readNode bs (grammarOf T) (high - 1)) (formOf T steps (j .n) (j .form)) (a + tags .w))) (record { content = R .content; end = R .end; is = sym node-whole ∙ R .is })) refl
 
@@ -512,14 +512,14 @@ module _ (bs cs : Bits) (T : List ℕ) (high class steps t u : ℕ) (p at q : Bo
     (y : readNode cs (grammarOf T) high class (p .right) ≡ asNode (p .right) (after (chooses u ends) (readForm cs (readNode cs (grammarOf T) (high - 1)) (formOf T steps (k .n) (k .form)) (at .right)))) where
   pub tags-same : t ≡ u
       → Rested bs cs (readNode bs (grammarOf T) (high - 1)) (readNode cs (grammarOf T) (high - 1)) (formOf T steps (j .n) (j .form)) (formOf T steps (k .n) (k .form)) at p q l m
-      → Noded bs cs (grammarOf T) high class p q l m
+      → Walked bs cs (grammarOf T) high class p q l m
   tags-same e r =
       let z : differences (enters (p .left) (chooses t (r .c)) ends) (enters (p .right) (chooses u (r .d)) ends) ≡ inside (same (own (r .c)) (own (r .d))) (p .left, p .right) (differences (r .c) (r .d)) = append-nil (inside (eqb t u and same (own (r .c)) (own (r .d))) (p .left, p .right) (differences (r .c) (r .d))) ∙ ap (λ (b : Bool). inside (b and same (own (r .c)) (own (r .d))) (p .left, p .right) (differences (r .c) (r .d))) (eq-eqb t u e) in
       record {
         u = chooses t (r .c);
         v = chooses u (r .d);
-        left = x ∙ ap (λ (o : Outcome). asNode (p .left) (after (chooses t ends) o)) (r .left);
-        right = y ∙ ap (λ (o : Outcome). asNode (p .right) (after (chooses u ends) o)) (r .right);
+        left = x ∙ ap (λ (o : Scan). asNode (p .left) (after (chooses t ends) o)) (r .left);
+        right = y ∙ ap (λ (o : Scan). asNode (p .right) (after (chooses u ends) o)) (r .right);
         found = r .found ∙ ap (λ (b : List Pair). p .found + length b) (sym z);
         grows = grows-as refl (sym z) (r .grows);
         inside = r .inside;
@@ -527,14 +527,14 @@ module _ (bs cs : Bits) (T : List ℕ) (high class steps t u : ℕ) (p at q : Bo
 
   pub tags-apart : (t ≡ u → ⊥)
       → Parted bs cs (readNode bs (grammarOf T) (high - 1)) (readNode cs (grammarOf T) (high - 1)) (formOf T steps (j .n) (j .form)) (formOf T steps (k .n) (k .form)) at p q l m
-      → Noded bs cs (grammarOf T) high class p q l m
+      → Walked bs cs (grammarOf T) high class p q l m
   tags-apart e r =
       let z : differences (enters (p .left) (chooses t (r .c)) ends) (enters (p .right) (chooses u (r .d)) ends) ≡ (p .left, p .right) ∷ [] = append-nil (inside (eqb t u and same (own (r .c)) (own (r .d))) (p .left, p .right) (differences (r .c) (r .d))) ∙ ap (λ (b : Bool). inside (b and same (own (r .c)) (own (r .d))) (p .left, p .right) (differences (r .c) (r .d))) (ne-eqb t u e) in
       record {
         u = chooses t (r .c);
         v = chooses u (r .d);
-        left = x ∙ ap (λ (o : Outcome). asNode (p .left) (after (chooses t ends) o)) (r .left);
-        right = y ∙ ap (λ (o : Outcome). asNode (p .right) (after (chooses u ends) o)) (r .right);
+        left = x ∙ ap (λ (o : Scan). asNode (p .left) (after (chooses t ends) o)) (r .left);
+        right = y ∙ ap (λ (o : Scan). asNode (p .right) (after (chooses u ends) o)) (r .right);
         found = r .found ∙ ap (λ (b : List Pair). p .found + length b) (sym z);
         grows = grows-as refl (sym z) (puts-grows (r .puts));
         inside = r .inside;

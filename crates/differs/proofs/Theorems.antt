@@ -19,7 +19,7 @@ use Rattle.keys.specs.Limits.{editionWidth}
 use Rattle.keys.specs.Table.{type}
 use Rattle.keys.specs.Key.{Taken, taken, nodeTable}
 use Rattle.differs.specs.Content.{Content, ends, chooses, spells, enters, content, contentOf, own, Pair, unless, inside, differences}
-use Rattle.differs.specs.Differ.{checked, reported, besides, begins, differ, turned, Rises, no-more, one-more}
+use Rattle.differs.specs.Differ.{checked, reported, besides, begins, differ, turned, Rises, no-more, one-more, Place, at-spelling, at-node, in-node, past-choice, past-spelling, past-node, Places, no-place, one-place}
 
 -- ---- Lists
 
@@ -273,3 +273,40 @@ pub in-order : {t u : Value} → Fits nodeTable type t → Fits nodeTable type u
     → Rises editionWidth editionWidth (differences (contentOf nodeTable t) (contentOf nodeTable u)) (editionWidth + length (write nodeTable type t)) (editionWidth + length (write nodeTable type u))
 in-order {t} {u} p q =
     rise (rising nodeTable thick-table p editionWidth _ ends (in-ends (omega arith))) (rising nodeTable thick-table q editionWidth _ ends (in-ends (omega arith)))
+
+-- ---- Each pair is of two places
+
+places-as : {c d c' d' : Content} {l : List Pair} → ((x : ℕ) → Place x c → Place x c') → ((x : ℕ) → Place x d → Place x d') → Places c d l → Places c' d' l
+places-as f g no-place = no-place
+places-as f g (one-place {x = x} {y = y} p q r) = one-place (f x p) (g y q) (places-as f g r)
+
+places-append : {c d : Content} {l m : List Pair} → Places c d l → Places c d m → Places c d (l ++ m)
+places-append no-place q = q
+places-append (one-place p q r) s = one-place p q (places-append r s)
+
+unless-places : {c d : Content} {a b : ℕ} (t : Bool) → Place a c → Place b d → Places c d (unless t (a, b))
+unless-places true p q = no-place
+unless-places false p q = one-place p q no-place
+
+inside-places : {c d : Content} {a b : ℕ} {l : List Pair} (t : Bool) → Place a c → Place b d → Places c d l → Places c d (inside t (a, b) l)
+inside-places true p q r = r
+inside-places false p q r = one-place p q no-place
+
+-- The pairs are of spellings and nodes of the two contents.
+pub places : (c d : Content) → Places c d (differences c d)
+places ends d = no-place
+places (chooses k c) ends = no-place
+places (chooses k c) (chooses h d) = places-as (λ x p. past-choice p) (λ x p. past-choice p) (places c d)
+places (chooses k c) (spells b t d) = no-place
+places (chooses k c) (enters b v d) = no-place
+places (spells a s c) ends = no-place
+places (spells a s c) (chooses h d) = no-place
+places (spells a s c) (spells b t d) =
+    places-append (unless-places (same s t) at-spelling at-spelling) (places-as (λ x p. past-spelling p) (λ x p. past-spelling p) (places c d))
+places (spells a s c) (enters b v d) = no-place
+places (enters a u c) ends = no-place
+places (enters a u c) (chooses h d) = no-place
+places (enters a u c) (spells b t d) = no-place
+places (enters a u c) (enters b v d) =
+    places-append (inside-places (same (own u) (own v)) at-node at-node (places-as (λ x p. in-node p) (λ x p. in-node p) (places u v)))
+    (places-as (λ x p. past-node p) (λ x p. past-node p) (places c d))

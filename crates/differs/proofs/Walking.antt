@@ -19,8 +19,8 @@ use Rattle.fields.proofs.Chunks.{Told, number-told, take-rest}
 use Rattle.node_table.specs.Forms.{spellingsThen, spellingIf, nodesThen}
 use Rattle.key_in.proofs.Steps.{bytes-whole, if-spelled}
 use Rattle.differs.specs.Content.{Content, ends, spells, enters, own, Pair, unless, inside, differences}
-use Rattle.differs.specs.Sound.{Outcome, reads, fails, _⊕_, after, thenRead, readLetters, readLength, readSpelling, readForm, readNode}
-use Rattle.differs.specs.Walk.{Grows, Puts, Beside, beside-ends, beside-chooses, beside-spells, beside-enters, Read, Inside, Along, noNode, SpelledOn, SpelledAll, SpelledAfter, Noded, NodedAll}
+use Rattle.differs.specs.Sound.{Scan, reads, fails, _⊕_, after, thenRead, readLetters, readLength, readSpelling, readForm, readNode}
+use Rattle.differs.specs.Walk.{Grows, Puts, Beside, beside-ends, beside-chooses, beside-spells, beside-enters, IsRead, Inside, Abreast, noNode, SpelledOn, SpelledAll, SpelledAfter, Walked, WalkedAll}
 use Rattle.differs.specs.declared.walk.Both.{Both}
 use Rattle.differs.proofs.Checking.{after-ends, after-after}
 use Rattle.differs.proofs.Listed.{grows-none, grows-as, grows-then, puts-grows}
@@ -51,38 +51,38 @@ beside-own (beside-enters b) c d = beside-own b c d
 -- ---- What was read
 
 -- What stands behind a content that was passed.
-pub record Behind (c : Content) (x : Outcome) (d : Content) (e : ℕ) : Type 0 where
+pub record Behind (c : Content) (x : Scan) (d : Content) (e : ℕ) : Type 0 where
   pub rest : Content
   pub is : x ≡ reads rest e
   pub whole : d ≡ c ⊕ rest
 
-pub after-back : (c : Content) (x : Outcome) (d : Content) (e : ℕ) → after c x ≡ reads d e → Behind c x d e
+pub after-back : (c : Content) (x : Scan) (d : Content) (e : ℕ) → after c x ≡ reads d e → Behind c x d e
 after-back c (reads r k) d e i =
     let p : c ⊕ r ≡ d = cc in
     let q : k ≡ e = cc in
     record { rest = r; is = ap (reads r) q; whole = sym p }
 after-back c (fails n b) d e i = clash (cc)
 
-pub read-behind : (c : Content) (x : Outcome) {y : Outcome} → Read y → y ≡ after c x → Read x
+pub read-behind : (c : Content) (x : Scan) {y : Scan} → IsRead y → y ≡ after c x → IsRead x
 read-behind c x r e =
     let b = after-back c x (r .content) (r .end) (sym e ∙ r .is) in
     record { content = b .rest; end = r .end; is = b .is }
 
 -- The first of two, and then the second.
-pub record Firstly (x : Outcome) (K : ℕ → Outcome) : Type 0 where
+pub record Firstly (x : Scan) (K : ℕ → Scan) : Type 0 where
   pub content : Content
   pub end : ℕ
   pub is : x ≡ reads content end
-  pub next : Read (K end)
+  pub next : IsRead (K end)
 
-pub then-back : (x : Outcome) (K : ℕ → Outcome) → Read (thenRead x K) → Firstly x K
+pub then-back : (x : Scan) (K : ℕ → Scan) → IsRead (thenRead x K) → Firstly x K
 then-back (reads c e) K r = record { content = c; end = e; is = refl; next = read-behind c (K e) r refl }
 then-back (fails n b) K r = let i = r .is in clash (cc i)
 
 -- ---- Going along
 
-module _ (bs cs : Bits) (X Y : ℕ → ℕ → Outcome) where
-  pub along-none : (g g' : Form) (p : Both) (l : List ℕ) → Inside (length bs) (length cs) p → Along bs cs X Y g g' g g' p p l l
+module _ (bs cs : Bits) (X Y : ℕ → ℕ → Scan) where
+  pub along-none : (g g' : Form) (p : Both) (l : List ℕ) → Inside (length bs) (length cs) p → Abreast bs cs X Y g g' g g' p p l l
   along-none g g' p l h =
       record {
         c = ends;
@@ -95,7 +95,7 @@ module _ (bs cs : Bits) (X Y : ℕ → ℕ → Outcome) where
         inside = h;
       }
 
-  pub along-then : {f f' g g' h h' : Form} {p q r : Both} {l m k : List ℕ} → Along bs cs X Y f f' g g' p q l m → Along bs cs X Y g g' h h' q r m k → Along bs cs X Y f f' h h' p r l k
+  pub along-then : {f f' g g' h h' : Form} {p q r : Both} {l m k : List ℕ} → Abreast bs cs X Y f f' g g' p q l m → Abreast bs cs X Y g g' h h' q r m k → Abreast bs cs X Y f f' h h' p r l k
   along-then {h = h} {h' = h'} {r = r} a b =
       let e : differences (a .c ⊕ b .c) (a .d ⊕ b .d) ≡ differences (a .c) (a .d) ++ differences (b .c) (b .d) = beside-differ (a .beside) (b .c) (b .d) in
       record {
@@ -119,7 +119,7 @@ pub record Word (bs : Bits) (w a : ℕ) : Type 0 where
   pub is : readSpelling bs w a ≡ reads (spells a (bytesIn (takeBytes n (drop (a + w) bs))) ends) (a + w + n * 8)
   pub some : 1 ≤ n
 
-pub word-good : (bs : Bits) (w a : ℕ) → a ≤ length bs → Read (readSpelling bs w a) → Word bs w a
+pub word-good : (bs : Bits) (w a : ℕ) → a ≤ length bs → IsRead (readSpelling bs w a) → Word bs w a
 word-good bs w a h r = long (takeField w (drop a bs)) refl
   where
     letters : (m : ℕ) (q : Bits) → takeField w (drop a bs) ≡ field (suc m) q → (x : Row) → takeBytes (suc m) q ≡ x → Word bs w a
@@ -230,8 +230,8 @@ module _ (bs cs : Bits) (w v : ℕ) (p : Both) (h : Inside (length bs) (length c
       record {
         c = spells (p .left) S ends;
         d = spells (p .right) U ends;
-        left = ap (λ (o : Outcome). thenRead o λ z. readForm bs X f z) (x .is) ∙ ap (λ (z : ℕ). after (spells (p .left) S ends) (readForm bs X f z)) (sym i);
-        right = ap (λ (o : Outcome). thenRead o λ z. readForm cs Y f' z) (y .is) ∙ ap (λ (z : ℕ). after (spells (p .right) U ends) (readForm cs Y f' z)) (sym j);
+        left = ap (λ (o : Scan). thenRead o λ z. readForm bs X f z) (x .is) ∙ ap (λ (z : ℕ). after (spells (p .left) S ends) (readForm bs X f z)) (sym i);
+        right = ap (λ (o : Scan). thenRead o λ z. readForm cs Y f' z) (y .is) ∙ ap (λ (z : ℕ). after (spells (p .right) U ends) (readForm cs Y f' z)) (sym j);
         beside = beside-spells beside-ends;
         found = k ∙ ap (λ (z : List Pair). p .found + length z) (sym (pairs b e));
         grows = grows-as refl (sym (pairs b e)) g;
@@ -258,20 +258,20 @@ pub inside-bytes : (left right : List ℕ) {p : Both} → Inside (length (bitsOf
 inside-bytes left right h = record { left = omega (arith, h .left, length-bytes left); right = omega (arith, h .right, length-bytes right); few = h .few }
 
 -- A spelling's length is in the key.
-pub word-within : (key : List ℕ) (w a : ℕ) → a ≤ length key * 8 → Read (readSpelling (bitsOfBytes key) w a) → a + w ≤ length key * 8
+pub word-within : (key : List ℕ) (w a : ℕ) → a ≤ length key * 8 → IsRead (readSpelling (bitsOfBytes key) w a) → a + w ≤ length key * 8
 word-within key w a h r =
     let x = word-good (bitsOfBytes key) w a (omega (arith, length-bytes key)) r in
     omega (arith, x .fits, length-bytes key)
 
 -- Its bytes are, too.
-pub word-ends : (key : List ℕ) (w a : ℕ) → a ≤ length key * 8 → Read (readSpelling (bitsOfBytes key) w a) → (n : ℕ) → Number n ≡ answered (takeField w (drop a (bitsOfBytes key)))
+pub word-ends : (key : List ℕ) (w a : ℕ) → a ≤ length key * 8 → IsRead (readSpelling (bitsOfBytes key) w a) → (n : ℕ) → Number n ≡ answered (takeField w (drop a (bitsOfBytes key)))
     → a + w + n * 8 ≤ length key * 8
 word-ends key w a h r n e =
     let x = word-good (bitsOfBytes key) w a (omega (arith, length-bytes key)) r in
     omega (arith, x .fits, length-bytes key, told-one (x .told) e)
 
 module _ (left right : List ℕ) (w v : ℕ) (p : Both) (h : Inside (length left * 8) (length right * 8) p)
-    (r : Read (readSpelling (bitsOfBytes left) w (p .left))) (s : Read (readSpelling (bitsOfBytes right) v (p .right))) (l : List ℕ)
+    (r : IsRead (readSpelling (bitsOfBytes left) w (p .left))) (s : IsRead (readSpelling (bitsOfBytes right) v (p .right))) (l : List ℕ)
     (n : ℕ) (i : Number n ≡ answered (takeField w (drop (p .left) (bitsOfBytes left)))) (m : ℕ) (j : Number m ≡ answered (takeField v (drop (p .right) (bitsOfBytes right)))) (b : Bool)
     (e : b ≡ same (bytesIn (takeBytes n (drop (p .left + w) (bitsOfBytes left)))) (bytesIn (takeBytes m (drop (p .right + v) (bitsOfBytes right))))) where
   x : Word (bitsOfBytes left) w (p .left)
@@ -303,30 +303,30 @@ module _ (left right : List ℕ) (w v : ℕ) (p : Both) (h : Inside (length left
 -- i of n spellings are walked on each side.
 pub record Spelling (bs cs : Bits) (w v n : ℕ) (p : Both) (l : List ℕ) (i : ℕ) (q : Both) (m : List ℕ) : Type 0 where
   pub few : i ≤ n
-  pub on : (X Y : ℕ → ℕ → Outcome) (g g' : Form) → Along bs cs X Y (spellingsThen n w g) (spellingsThen n v g') (spellingsThen (n - i) w g) (spellingsThen (n - i) v g') p q l m
+  pub on : (X Y : ℕ → ℕ → Scan) (g g' : Form) → Abreast bs cs X Y (spellingsThen n w g) (spellingsThen n v g') (spellingsThen (n - i) w g) (spellingsThen (n - i) v g') p q l m
 
 pub spelling-none : (bs cs : Bits) (w v n : ℕ) (p : Both) (l : List ℕ) → Inside (length bs) (length cs) p → Spelling bs cs w v n p l 0 p l
 spelling-none bs cs w v n p l h =
     let e : n ≡ n - 0 = omega arith in
     record {
       few = omega arith;
-      on = λ X Y g g'. subst (λ (k : ℕ). Along bs cs X Y (spellingsThen n w g) (spellingsThen n v g') (spellingsThen k w g) (spellingsThen k v g') p p l l) e (along-none bs cs X Y (spellingsThen n w g) (spellingsThen n v g') p l h);
+      on = λ X Y g g'. subst (λ (k : ℕ). Abreast bs cs X Y (spellingsThen n w g) (spellingsThen n v g') (spellingsThen k w g) (spellingsThen k v g') p p l l) e (along-none bs cs X Y (spellingsThen n w g) (spellingsThen n v g') p l h);
     }
 
 module _ {bs cs : Bits} {w v n : ℕ} {p : Both} {l : List ℕ} {i : ℕ} {q : Both} {m : List ℕ} (d : Spelling bs cs w v n p l i q m) (h : i < n) where
-  back : (X Y : ℕ → ℕ → Outcome) (g g' : Form)
-      → Along bs cs X Y (spellingsThen n w g) (spellingsThen n v g') (both (word w) (spellingsThen (n - (i + 1)) w g)) (both (word v) (spellingsThen (n - (i + 1)) v g')) p q l m
+  back : (X Y : ℕ → ℕ → Scan) (g g' : Form)
+      → Abreast bs cs X Y (spellingsThen n w g) (spellingsThen n v g') (both (word w) (spellingsThen (n - (i + 1)) w g)) (both (word v) (spellingsThen (n - (i + 1)) v g')) p q l m
   back X Y g g' =
       let z : n - i ≡ suc (n - (i + 1)) = omega arith in
-      subst (λ (k : ℕ). Along bs cs X Y (spellingsThen n w g) (spellingsThen n v g') (spellingsThen k w g) (spellingsThen k v g') p q l m) z (d .on X Y g g')
+      subst (λ (k : ℕ). Abreast bs cs X Y (spellingsThen n w g) (spellingsThen n v g') (spellingsThen k w g) (spellingsThen k v g') p q l m) z (d .on X Y g g')
 
   -- The next spelling is there on each side.
-  pub next-left : Read (readForm bs noNode (spellingsThen n w one) (p .left)) → Read (readSpelling bs w (q .left))
+  pub next-left : IsRead (readForm bs noNode (spellingsThen n w one) (p .left)) → IsRead (readSpelling bs w (q .left))
   next-left r =
       let f = then-back (readSpelling bs w (q .left)) (λ e. readForm bs noNode (spellingsThen (n - (i + 1)) w one) e) (let o = back noNode noNode one one in read-behind (o .c) _ r (o .left)) in
       record { content = f .content; end = f .end; is = f .is }
 
-  pub next-right : Read (readForm cs noNode (spellingsThen n v one) (p .right)) → Read (readSpelling cs v (q .right))
+  pub next-right : IsRead (readForm cs noNode (spellingsThen n v one) (p .right)) → IsRead (readSpelling cs v (q .right))
   next-right r =
       let f = then-back (readSpelling cs v (q .right)) (λ e. readForm cs noNode (spellingsThen (n - (i + 1)) v one) e) (let o = back noNode noNode one one in read-behind (o .d) _ r (o .right)) in
       record { content = f .content; end = f .end; is = f .is }
@@ -341,45 +341,45 @@ module _ {bs cs : Bits} {w v n : ℕ} {p : Both} {l : List ℕ} {i : ℕ} {q : B
 pub spelling-all : {bs cs : Bits} {w v n : ℕ} {p : Both} {l : List ℕ} {i : ℕ} {q : Both} {m : List ℕ} → Spelling bs cs w v n p l i q m → n ≤ i → SpelledAll bs cs w v n p q l m
 spelling-all {bs} {cs} {w} {v} {n} {p} {l} {i} {q} {m} d h X Y g g' =
     let z : n - i ≡ 0 = omega arith in
-    subst (λ (k : ℕ). Along bs cs X Y (spellingsThen n w g) (spellingsThen n v g') (spellingsThen k w g) (spellingsThen k v g') p q l m) z (d .on X Y g g')
+    subst (λ (k : ℕ). Abreast bs cs X Y (spellingsThen n w g) (spellingsThen n v g') (spellingsThen k w g) (spellingsThen k v g') p q l m) z (d .on X Y g g')
 
 -- ---- The spellings after two children
 
 pub after-none : (bs cs : Bits) (w v : ℕ) (p : Both) (l : List ℕ) → Inside (length bs) (length cs) p → w ≡ 0 → v ≡ w → SpelledAfter bs cs w v p p l l
 after-none bs cs w v p l h z e X Y g g' =
     let y : v ≡ 0 = e ∙ z in
-    subst (λ (x : ℕ). Along bs cs X Y (spellingIf x g) (spellingIf v g') g g' p p l l) (sym z)
-    (subst (λ (x : ℕ). Along bs cs X Y g (spellingIf x g') g g' p p l l) (sym y) (along-none bs cs X Y g g' p l h))
+    subst (λ (x : ℕ). Abreast bs cs X Y (spellingIf x g) (spellingIf v g') g g' p p l l) (sym z)
+    (subst (λ (x : ℕ). Abreast bs cs X Y g (spellingIf x g') g g' p p l l) (sym y) (along-none bs cs X Y g g' p l h))
 
 module _ (bs cs : Bits) (w v : ℕ) (z : w ≡ 0 → ⊥) (e : v ≡ w) where
   other : v ≡ 0 → ⊥
   other i = z (sym e ∙ i)
 
-  pub if-left : (a : ℕ) → Read (readForm bs noNode (spellingIf w one) a) → Read (readSpelling bs w a)
+  pub if-left : (a : ℕ) → IsRead (readForm bs noNode (spellingIf w one) a) → IsRead (readSpelling bs w a)
   if-left a r =
-      let f = then-back (readSpelling bs w a) (λ k. readForm bs noNode one k) (subst (λ (x : Form). Read (readForm bs noNode x a)) (sym (if-spelled w one z)) r) in
+      let f = then-back (readSpelling bs w a) (λ k. readForm bs noNode one k) (subst (λ (x : Form). IsRead (readForm bs noNode x a)) (sym (if-spelled w one z)) r) in
       record { content = f .content; end = f .end; is = f .is }
 
-  pub if-right : (a : ℕ) → Read (readForm cs noNode (spellingIf v one) a) → Read (readSpelling cs v a)
+  pub if-right : (a : ℕ) → IsRead (readForm cs noNode (spellingIf v one) a) → IsRead (readSpelling cs v a)
   if-right a r =
-      let f = then-back (readSpelling cs v a) (λ k. readForm cs noNode one k) (subst (λ (x : Form). Read (readForm cs noNode x a)) (sym (if-spelled v one other)) r) in
+      let f = then-back (readSpelling cs v a) (λ k. readForm cs noNode one k) (subst (λ (x : Form). IsRead (readForm cs noNode x a)) (sym (if-spelled v one other)) r) in
       record { content = f .content; end = f .end; is = f .is }
 
   pub after-word : {p q : Both} {l m : List ℕ} → SpelledOn bs cs w v p q l m → SpelledAfter bs cs w v p q l m
   after-word {p} {q} {l} {m} d X Y g g' =
-      subst (λ (x : Form). Along bs cs X Y x (spellingIf v g') g g' p q l m) (if-spelled w g z)
-      (subst (λ (x : Form). Along bs cs X Y (both (word w) g) x g g' p q l m) (if-spelled v g' other) (d X Y g g'))
+      subst (λ (x : Form). Abreast bs cs X Y x (spellingIf v g') g g' p q l m) (if-spelled w g z)
+      (subst (λ (x : Form). Abreast bs cs X Y (both (word w) g) x g g' p q l m) (if-spelled v g' other) (d X Y g g'))
 
 -- ---- n nodes
 
-pub along-node : {bs cs : Bits} {G : Grammar} {high class : ℕ} {p q : Both} {l m : List ℕ} → Noded bs cs G high class p q l m → (g g' : Form)
-    → Along bs cs (readNode bs G high) (readNode cs G high) (both (child class) g) (both (child class) g') g g' p q l m
+pub along-node : {bs cs : Bits} {G : Grammar} {high class : ℕ} {p q : Both} {l m : List ℕ} → Walked bs cs G high class p q l m → (g g' : Form)
+    → Abreast bs cs (readNode bs G high) (readNode cs G high) (both (child class) g) (both (child class) g') g g' p q l m
 along-node {bs} {cs} {G} {high} {class} {p} {q} {l} {m} d g g' =
     record {
       c = enters (p .left) (d .u) ends;
       d = enters (p .right) (d .v) ends;
-      left = ap (λ (o : Outcome). thenRead o λ z. readForm bs (readNode bs G high) g z) (d .left);
-      right = ap (λ (o : Outcome). thenRead o λ z. readForm cs (readNode cs G high) g' z) (d .right);
+      left = ap (λ (o : Scan). thenRead o λ z. readForm bs (readNode bs G high) g z) (d .left);
+      right = ap (λ (o : Scan). thenRead o λ z. readForm cs (readNode cs G high) g' z) (d .right);
       beside = beside-enters beside-ends;
       found = d .found;
       grows = d .grows;
@@ -389,50 +389,50 @@ along-node {bs} {cs} {G} {high} {class} {p} {q} {l} {m} d g g' =
 -- i of n nodes are walked on each side.
 pub record Turn (bs cs : Bits) (G : Grammar) (high class w v n : ℕ) (p : Both) (l : List ℕ) (i : ℕ) (q : Both) (m : List ℕ) : Type 0 where
   pub few : i ≤ n
-  pub on : (g g' : Form) → Along bs cs (readNode bs G high) (readNode cs G high) (nodesThen n class w g) (nodesThen n class v g') (nodesThen (n - i) class w g) (nodesThen (n - i) class v g') p q l m
+  pub on : (g g' : Form) → Abreast bs cs (readNode bs G high) (readNode cs G high) (nodesThen n class w g) (nodesThen n class v g') (nodesThen (n - i) class w g) (nodesThen (n - i) class v g') p q l m
 
 pub turn-none : (bs cs : Bits) (G : Grammar) (high class w v n : ℕ) (p : Both) (l : List ℕ) → Inside (length bs) (length cs) p → Turn bs cs G high class w v n p l 0 p l
 turn-none bs cs G high class w v n p l h =
     let e : n ≡ n - 0 = omega arith in
     record {
       few = omega arith;
-      on = λ g g'. subst (λ (k : ℕ). Along bs cs (readNode bs G high) (readNode cs G high) (nodesThen n class w g) (nodesThen n class v g') (nodesThen k class w g) (nodesThen k class v g') p p l l) e (along-none bs cs (readNode bs G high) (readNode cs G high) (nodesThen n class w g) (nodesThen n class v g') p l h);
+      on = λ g g'. subst (λ (k : ℕ). Abreast bs cs (readNode bs G high) (readNode cs G high) (nodesThen n class w g) (nodesThen n class v g') (nodesThen k class w g) (nodesThen k class v g') p p l l) e (along-none bs cs (readNode bs G high) (readNode cs G high) (nodesThen n class w g) (nodesThen n class v g') p l h);
     }
 
 -- A spelling that may follow is read whatever reads nodes.
-pub after-alone : (bs : Bits) (X : ℕ → ℕ → Outcome) (w a : ℕ) (g : Form) → Read (readForm bs X (spellingIf w g) a) → Read (readForm bs noNode (spellingIf w one) a)
+pub after-alone : (bs : Bits) (X : ℕ → ℕ → Scan) (w a : ℕ) (g : Form) → IsRead (readForm bs X (spellingIf w g) a) → IsRead (readForm bs noNode (spellingIf w one) a)
 after-alone bs X zero a g r = record { content = ends; end = a; is = refl }
 after-alone bs X (suc w) a g r =
     let f = then-back (readSpelling bs (suc w) a) (λ k. readForm bs X g k) r in
-    record { content = f .content ⊕ ends; end = f .end; is = ap (λ (o : Outcome). thenRead o λ k. reads ends k) (f .is) }
+    record { content = f .content ⊕ ends; end = f .end; is = ap (λ (o : Scan). thenRead o λ k. reads ends k) (f .is) }
 
 module _ {bs cs : Bits} {G : Grammar} {high class w v n : ℕ} {p : Both} {l : List ℕ} {i : ℕ} {q : Both} {m : List ℕ}
     (d : Turn bs cs G high class w v n p l i q m) (h : i < n) where
-  here : (g g' : Form) → Along bs cs (readNode bs G high) (readNode cs G high) (nodesThen n class w g) (nodesThen n class v g')
+  here : (g g' : Form) → Abreast bs cs (readNode bs G high) (readNode cs G high) (nodesThen n class w g) (nodesThen n class v g')
       (both (child class) (spellingIf w (nodesThen (n - (i + 1)) class w g))) (both (child class) (spellingIf v (nodesThen (n - (i + 1)) class v g'))) p q l m
   here g g' =
       let z : n - i ≡ suc (n - (i + 1)) = omega arith in
-      subst (λ (k : ℕ). Along bs cs (readNode bs G high) (readNode cs G high) (nodesThen n class w g) (nodesThen n class v g') (nodesThen k class w g) (nodesThen k class v g') p q l m) z (d .on g g')
+      subst (λ (k : ℕ). Abreast bs cs (readNode bs G high) (readNode cs G high) (nodesThen n class w g) (nodesThen n class v g') (nodesThen k class w g) (nodesThen k class v g') p q l m) z (d .on g g')
 
-  pub node-left : Read (readForm bs (readNode bs G high) (nodesThen n class w one) (p .left)) → Read (readNode bs G high class (q .left))
+  pub node-left : IsRead (readForm bs (readNode bs G high) (nodesThen n class w one) (p .left)) → IsRead (readNode bs G high class (q .left))
   node-left r =
       let f = then-back (readNode bs G high class (q .left)) (λ e. readForm bs (readNode bs G high) (spellingIf w (nodesThen (n - (i + 1)) class w one)) e) (let o = here one one in read-behind (o .c) _ r (o .left)) in
       record { content = f .content; end = f .end; is = f .is }
 
-  pub node-right : Read (readForm cs (readNode cs G high) (nodesThen n class v one) (p .right)) → Read (readNode cs G high class (q .right))
+  pub node-right : IsRead (readForm cs (readNode cs G high) (nodesThen n class v one) (p .right)) → IsRead (readNode cs G high class (q .right))
   node-right r =
       let f = then-back (readNode cs G high class (q .right)) (λ e. readForm cs (readNode cs G high) (spellingIf v (nodesThen (n - (i + 1)) class v one)) e) (let o = here one one in read-behind (o .d) _ r (o .right)) in
       record { content = f .content; end = f .end; is = f .is }
 
-  module _ {o : Both} {k : List ℕ} (e : Noded bs cs G high class q o m k) where
-    past : (g g' : Form) → Along bs cs (readNode bs G high) (readNode cs G high) (nodesThen n class w g) (nodesThen n class v g')
+  module _ {o : Both} {k : List ℕ} (e : Walked bs cs G high class q o m k) where
+    past : (g g' : Form) → Abreast bs cs (readNode bs G high) (readNode cs G high) (nodesThen n class w g) (nodesThen n class v g')
         (spellingIf w (nodesThen (n - (i + 1)) class w g)) (spellingIf v (nodesThen (n - (i + 1)) class v g')) p o l k
     past g g' = along-then bs cs (readNode bs G high) (readNode cs G high) (here g g') (along-node e (spellingIf w (nodesThen (n - (i + 1)) class w g)) (spellingIf v (nodesThen (n - (i + 1)) class v g')))
 
-    pub word-left : Read (readForm bs (readNode bs G high) (nodesThen n class w one) (p .left)) → Read (readForm bs noNode (spellingIf w one) (o .left))
+    pub word-left : IsRead (readForm bs (readNode bs G high) (nodesThen n class w one) (p .left)) → IsRead (readForm bs noNode (spellingIf w one) (o .left))
     word-left r = after-alone bs (readNode bs G high) w (o .left) (nodesThen (n - (i + 1)) class w one) (let o = past one one in read-behind (o .c) _ r (o .left))
 
-    pub word-right : Read (readForm cs (readNode cs G high) (nodesThen n class v one) (p .right)) → Read (readForm cs noNode (spellingIf v one) (o .right))
+    pub word-right : IsRead (readForm cs (readNode cs G high) (nodesThen n class v one) (p .right)) → IsRead (readForm cs noNode (spellingIf v one) (o .right))
     word-right r = after-alone cs (readNode cs G high) v (o .right) (nodesThen (n - (i + 1)) class v one) (let o = past one one in read-behind (o .d) _ r (o .right))
 
     pub turn-more : {y : Both} {j : List ℕ} → SpelledAfter bs cs w v o y k j → Turn bs cs G high class w v n p l (i + 1) y j
@@ -443,7 +443,7 @@ module _ {bs cs : Bits} {G : Grammar} {high class w v n : ℕ} {p : Both} {l : L
         }
 
 pub turn-all : {bs cs : Bits} {G : Grammar} {high class w v n : ℕ} {p : Both} {l : List ℕ} {i : ℕ} {q : Both} {m : List ℕ}
-    → Turn bs cs G high class w v n p l i q m → n ≤ i → NodedAll bs cs G high class w v n p q l m
+    → Turn bs cs G high class w v n p l i q m → n ≤ i → WalkedAll bs cs G high class w v n p q l m
 turn-all {bs} {cs} {G} {high} {class} {w} {v} {n} {p} {l} {i} {q} {m} d h g g' =
     let z : n - i ≡ 0 = omega arith in
-    subst (λ (k : ℕ). Along bs cs (readNode bs G high) (readNode cs G high) (nodesThen n class w g) (nodesThen n class v g') (nodesThen k class w g) (nodesThen k class v g') p q l m) z (d .on g g')
+    subst (λ (k : ℕ). Abreast bs cs (readNode bs G high) (readNode cs G high) (nodesThen n class w g) (nodesThen n class v g') (nodesThen k class w g) (nodesThen k class v g') p q l m) z (d .on g g')

@@ -12,7 +12,7 @@ use Rattle.keys.proofs.BitsLaws.{clash, length-bytes}
 use Rattle.keys.specs.Form.{Value, nothing, choice, never, child, Grammar, isNever, State, state, Result, stop, into, allowed, ifWhole, takeForm, takeNode}
 use Rattle.keys.specs.Limits.{longestKey, tallest, countWidth, badKey}
 use Rattle.keys.specs.Table.{oneOf, type, wholeKey}
-use Rattle.keys.specs.Key.{padding, closed, taken, refused, placeOf, outcome, nodeTable, takeWithin}
+use Rattle.keys.specs.Key.{Taken, padding, closed, taken, refused, placeOf, outcome, nodeTable, takeWithin}
 use Rattle.fields.specs.Take.{answered}
 use Rattle.fields.specs.declared.take.TakenField.the-variants.{Number, Short}
 use Rattle.fields.proofs.Chunks.{Told, number-told, field-short}
@@ -22,10 +22,10 @@ use Rattle.key_in.specs.Back.{Ends}
 use Rattle.key_in.proofs.Rows.{table-fine}
 use Rattle.differs.specs.Content.{contentOf}
 use Rattle.differs.specs.Differ.{checked}
-use Rattle.differs.specs.Sound.{reads, fails, readNode, Checks, checkAt, Wholly}
+use Rattle.differs.specs.Sound.{reads, fails, readNode, ComesTo, checkAt, verdict, Judges, Wholly}
 use Rattle.differs.specs.declared.sound.Check.{Check}
 use Rattle.differs.proofs.Lined.{lined-read}
-use Rattle.differs.proofs.Enough.{Eager, eager-never, eager-word, eager-choose, eager-both, Same, same-got, same-stop, same-node}
+use Rattle.differs.proofs.Roomy.{Eager, eager-never, eager-word, eager-choose, eager-both, Same, same-got, same-stop, same-node}
 
 -- A type parameter and a parameter have no tag, and begin with a field.
 eager-table : (c t : ℕ) → nodeTable .tagWidth c ≡ 0 → Eager (nodeTable .row c t)
@@ -55,7 +55,7 @@ module _ (T key : List ℕ) where
   bad e r i =
       subst (Wholly T key) (sym i)
       (record {
-        verdict = record { stopped = λ _. e; tree = nothing; good = λ z. absurd (omega arith) };
+        judges = record { stopped = λ _. e; tree = nothing; good = λ z. absurd (omega arith) };
         short = λ z. absurd (omega arith);
         long = λ z. absurd (omega arith);
         end = 0;
@@ -110,7 +110,7 @@ module _ (T key : List ℕ) where
         back-to : (x : ℕ) → x ≤ length (bitsOfBytes key) → length (bitsOfBytes key) - (length (bitsOfBytes key) - x) ≡ x
         back-to x l = omega arith
 
-        module _ (c : Check) (d : Checks (length (bitsOfBytes key)) (readNode (bitsOfBytes key) (grammarOf T) tallest 0 4) c) where
+        module _ (c : Check) (d : ComesTo (length (bitsOfBytes key)) (readNode (bitsOfBytes key) (grammarOf T) tallest 0 4) c) where
           pub whole-stop : (c .why ≡ 0 → ⊥) → Wholly T key c
           whole-stop o = by agrees
             where
@@ -122,7 +122,7 @@ module _ (T key : List ℕ) where
                   let q₁ : n ≡ c .why = cc in
                   let q₂ : b ≡ c .bit = cc in
                   record {
-                    verdict =
+                    judges =
                         record {
                           stopped =
                               λ _. within ∙ ap (λ (u : Result). outcome (length bs) (closed u)) (in-tree ∙ ap (into (choice 1)) x)
@@ -164,7 +164,7 @@ module _ (T key : List ℕ) where
             whole-left l r j =
                 subst (Wholly T key) (sym j)
                 (record {
-                  verdict =
+                  judges =
                       record {
                         stopped =
                             λ _. has-tree .padded ∙ ap (outcome (length bs)) (u .stopped (omega (arith, length-bytes key)) (choice 1 (has-tree .tree)))
@@ -181,7 +181,7 @@ module _ (T key : List ℕ) where
             pub whole-done : length key * 8 ≤ f → Wholly T key c
             whole-done l =
                 record {
-                  verdict =
+                  judges =
                       record {
                         stopped = λ x. absurd (x o);
                         tree = has-tree .tree;
@@ -192,3 +192,10 @@ module _ (T key : List ℕ) where
                   end = c .bit;
                   read = λ _. has-tree .read;
                 }
+
+-- What is answered of a key, where the check stopped and where it did not.
+pub judged-bad : {x : Taken} {c : Check} → Judges x c → (c .why ≡ 0 → ⊥) → c ≡ verdict x
+judged-bad j z = sym (ap verdict (j .stopped z))
+
+pub judged-good : {x : Taken} {c : Check} → Judges x c → c .why ≡ 0 → (r : Check) → r ≡ checkAt 0 0 → r ≡ verdict x
+judged-good j z r e = e ∙ sym (ap verdict (j .good z))

@@ -49,7 +49,7 @@ abbrev pub inside : Bool → Pair → List Pair → List Pair
 inside true p l = l
 inside false p l = p ∷ []
 
--- The pairs of two contents with the same choices, in the key's order: spellings that differ, and what differs of two nodes.
+-- The pairs of two contents with the same choices, in the key's order: spellings that differ, and what differs of two nodes. Other contents have none.
 abbrev pub differences : Content → Content → List Pair
 differences ends d = []
 differences (chooses k c) ends = []

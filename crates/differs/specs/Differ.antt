@@ -7,7 +7,7 @@ use lib.ListN.{length}
 use Rattle.keys.specs.Form.{Value, Grammar}
 use Rattle.keys.specs.Key.{Taken, taken, refused, nodeTable, takeKey}
 use Rattle.keys.specs.Store.{filled}
-use Rattle.differs.specs.Content.{content, contentOf, own, Pair, differences}
+use Rattle.differs.specs.Content.{Content, chooses, spells, enters, contentOf, Pair, differences}
 
 -- ---- Is it a key?
 
@@ -32,13 +32,15 @@ wordsOf (p ∷ l) = p .0 ∷ p .1 ∷ wordsOf l
 abbrev pub manyDifferences : ℕ
 manyDifferences = 29
 
--- The side of a refusal: neither key's, the left key's, the right key's.
+-- The side of a refusal that is neither key's.
 abbrev pub noSide : ℕ
 noSide = 0
 
+-- The side of the left key's refusal.
 abbrev pub leftSide : ℕ
 leftSide = 1
 
+-- The side of the right key's.
 abbrev pub rightSide : ℕ
 rightSide = 2
 
@@ -94,3 +96,17 @@ turned (p ∷ l) = (p .1, p .0) ∷ turned l
 pub data Rises : (a b : ℕ) → List Pair → (e g : ℕ) → Type 0 where
   no-more : {a b e g : ℕ} → a ≤ e → b ≤ g → Rises a b [] e g
   one-more : {a b x y e g : ℕ} {l : List Pair} → a ≤ x → b ≤ y → Rises (suc x) (suc y) l e g → Rises a b ((x, y) ∷ l) e g
+
+-- A bit at which a spelling or a node of a content begins, or one of a node inside it.
+pub data Place (x : ℕ) : Content → Type 0 where
+  at-spelling : {s : List ℕ} {c : Content} → Place x (spells x s c)
+  at-node : {u c : Content} → Place x (enters x u c)
+  in-node : {a : ℕ} {u c : Content} → Place x u → Place x (enters a u c)
+  past-choice : {k : ℕ} {c : Content} → Place x c → Place x (chooses k c)
+  past-spelling : {a : ℕ} {s : List ℕ} {c : Content} → Place x c → Place x (spells a s c)
+  past-node : {a : ℕ} {u c : Content} → Place x c → Place x (enters a u c)
+
+-- Each pair is of a place of the left content and one of the right.
+pub data Places (c d : Content) : List Pair → Type 0 where
+  no-place : Places c d []
+  one-place : {x y : ℕ} {l : List Pair} → Place x c → Place y d → Places c d l → Places c d ((x, y) ∷ l)

@@ -7,7 +7,7 @@ ghost use Rattle.keys.specs.Limits.{longestKey, widest, countWidth};
 ghost use Rattle.keys.specs.Bits.{bitsOfBytes};
 ghost use Rattle.keys.specs.Form.{isNever};
 ghost use Rattle.node_table.specs.Forms.{formBy, formOf, leads, grammarOf, entryOf, spellingsThen, spellingIf, nodesThen, tableWords, Narrow};
-ghost use Rattle.key_in.specs.Back.{Ends};
+ghost use Rattle.key_in.specs.Back.{Ends, Sized};
 ghost use Rattle.differs.specs.Differ.{checked};
 ghost use Rattle.differs.specs.Sound as check;
 use fields::take;
@@ -60,7 +60,7 @@ fn stopped(why: u32, bit: usize) -> Check
 // A spelling: 10 where it is cut short or has no byte.
 fn check_spelling(key: &[u8], w: usize, bit: usize) -> Check
     requires { ⌜ (length (now key) ≤ longestKey) × (bit ≤ length (now key) * 8) × (w ≤ widest) ⌝ }
-    ensures { λ r. ⌜ check.Checks (length (bitsOfBytes (now (key .entry)))) (check.readSpelling (bitsOfBytes (now (key .entry))) w bit) r ⌝ }
+    ensures { λ r. ⌜ check.ComesTo (length (bitsOfBytes (now (key .entry)))) (check.readSpelling (bitsOfBytes (now (key .entry))) w bit) r ⌝ }
 {
     let taken = take::take_field(key, bit, w);
     let TakenField::Number(n) = taken else {
@@ -132,7 +132,7 @@ fn is_never(forms: &[u16], steps: usize, n: usize, form: usize) -> bool
 // A field that chooses: 10 where it is cut short or leads to no form.
 fn check_choice(forms: &[u16], key: &[u8], steps: usize, r: Row, bit: usize) -> Spot
     requires { ⌜ (length (now key) ≤ longestKey) × (bit ≤ length (now key) * 8) × (r .w ≤ widest) × (r .a < 2 ^ 32) × (r .b < 2 ^ 32) × (5 ≤ r .op) ⌝ }
-    ensures { λ q. ⌜ check.Chosen (bitsOfBytes (now (key .entry))) (now (forms .entry)) steps (r .w) (leads (now (forms .entry)) (formOf (now (forms .entry)) steps) (entryOf r) (r .op - 5)) bit q ⌝ }
+    ensures { λ q. ⌜ check.ChoiceOn (bitsOfBytes (now (key .entry))) (now (forms .entry)) steps (r .w) (leads (now (forms .entry)) (formOf (now (forms .entry)) steps) (entryOf r) (r .op - 5)) bit q ⌝ }
 {
     let taken = take::take_field(key, bit, r.w);
     let TakenField::Number(n) = taken else {
@@ -154,7 +154,7 @@ fn check_choice(forms: &[u16], key: &[u8], steps: usize, r: Row, bit: usize) -> 
 // The tag of a class: 10 where it is cut short or there is no such row.
 fn check_tag(forms: &[u16], key: &[u8], steps: usize, tags: Row, bit: usize) -> Spot
     requires { ⌜ (length (now key) ≤ longestKey) × (bit ≤ length (now key) * 8) × (tags .w ≤ widest) × (tags .a < 2 ^ 32) ⌝ }
-    ensures { λ q. ⌜ check.Chosen (bitsOfBytes (now (key .entry))) (now (forms .entry)) steps (tags .w) (leads (now (forms .entry)) (formOf (now (forms .entry)) steps) (entryOf tags) 0) bit q ⌝ }
+    ensures { λ q. ⌜ check.ChoiceOn (bitsOfBytes (now (key .entry))) (now (forms .entry)) steps (tags .w) (leads (now (forms .entry)) (formOf (now (forms .entry)) steps) (entryOf tags) 0) bit q ⌝ }
 {
     let taken = take::take_field(key, bit, tags.w);
     let TakenField::Number(n) = taken else {
@@ -175,7 +175,7 @@ fn check_tag(forms: &[u16], key: &[u8], steps: usize, tags: Row, bit: usize) -> 
 
 // A step that goes into no child.
 fn check_plain(forms: &[u16], key: &[u8], steps: usize, r: Row, s: Spot) -> Spot
-    requires { ⌜ (length (now key) ≤ longestKey) × check.Placed (length (now key) * 8) s × check.Sized r × (r .op ≡ 1 → ⊥) × (r .op ≡ 3 → ⊥) ⌝ }
+    requires { ⌜ (length (now key) ≤ longestKey) × check.Spotted (length (now key) * 8) s × Sized r × (r .op ≡ 1 → ⊥) × (r .op ≡ 3 → ⊥) ⌝ }
     ensures { λ q. ⌜ check.PlainOn (bitsOfBytes (now (key .entry))) (now (forms .entry)) steps r s q ⌝ }
 {
     let op = r.op;
@@ -218,7 +218,7 @@ fn check_after(key: &[u8], w: usize, bit: usize) -> Check
 // A node of a class, with room for `left` nodes one above the other: it meets 10 at its tag, 6, then its fields in order.
 fn check_node(forms: &[u16], key: &[u8], class: usize, left: usize, bit: usize) -> Check
     requires { ⌜ (length (now key) ≤ longestKey) × (bit ≤ length (now key) * 8) × (class < 2 ^ 32) × Narrow (now forms) ⌝ }
-    ensures { λ r. ⌜ check.Checks (length (bitsOfBytes (now (key .entry)))) (check.readNode (bitsOfBytes (now (key .entry))) (grammarOf (now (forms .entry))) left class bit) r ⌝ }
+    ensures { λ r. ⌜ check.ComesTo (length (bitsOfBytes (now (key .entry)))) (check.readNode (bitsOfBytes (now (key .entry))) (grammarOf (now (forms .entry))) left class bit) r ⌝ }
 {
     let steps = forms::word_at(forms, 1);
     let tags = forms::class_at(forms, class);
@@ -234,8 +234,8 @@ fn check_node(forms: &[u16], key: &[u8], class: usize, left: usize, bit: usize) 
 
 // What is left of a node from a form on.
 pub fn check_rest(forms: &[u16], key: &[u8], left: usize, steps: usize, from: Spot) -> Check
-    requires { ⌜ (length (now key) ≤ longestKey) × check.Placed (length (now key) * 8) from × Narrow (now forms) ⌝ }
-    ensures { λ r. ⌜ check.Checks (length (bitsOfBytes (now (key .entry)))) (check.readForm (bitsOfBytes (now (key .entry))) (check.readNode (bitsOfBytes (now (key .entry))) (grammarOf (now (forms .entry))) left) (formOf (now (forms .entry)) steps (from .n) (from .form)) (from .bit)) r ⌝ }
+    requires { ⌜ (length (now key) ≤ longestKey) × check.Spotted (length (now key) * 8) from × Narrow (now forms) ⌝ }
+    ensures { λ r. ⌜ check.ComesTo (length (bitsOfBytes (now (key .entry)))) (check.readForm (bitsOfBytes (now (key .entry))) (check.readNode (bitsOfBytes (now (key .entry))) (grammarOf (now (forms .entry))) left) (formOf (now (forms .entry)) steps (from .n) (from .form)) (from .bit)) r ⌝ }
 {
     let mut s = from;
     let mut depth = steps;
@@ -263,7 +263,7 @@ pub fn check_rest(forms: &[u16], key: &[u8], left: usize, steps: usize, from: Sp
 
 // n nodes, one after the other, a spelling after each if its length has any bits.
 fn check_nodes(forms: &[u16], key: &[u8], left: usize, r: Row, s: Spot) -> Spot
-    requires { ⌜ (length (now key) ≤ longestKey) × check.Placed (length (now key) * 8) s × check.Sized r × Narrow (now forms) ⌝ }
+    requires { ⌜ (length (now key) ≤ longestKey) × check.Spotted (length (now key) * 8) s × Sized r × Narrow (now forms) ⌝ }
     ensures { λ q. ⌜ check.NodesOn (bitsOfBytes (now (key .entry))) (grammarOf (now (forms .entry))) left r s q ⌝ }
 {
     let n = s.n;
@@ -340,10 +340,14 @@ pub fn check_whole(forms: &[u16], key: &[u8]) -> Check
     c
 }
 
-// Is this a key? Its refusal and its bit where take-back with room enough has one.
+// Is this a key? Its refusal and its bit where take-back with room enough has one, else zeros.
 pub fn sound(key: &[u8]) -> Check
-    ensures { λ r. ⌜ check.Verdict (checked (now (key .entry))) r ⌝ }
+    ensures { λ r. ⌜ r ≡ check.verdict (checked (now (key .entry))) ⌝ }
 {
     let words = forms::words();
-    check_whole(&words, key)
+    let c = check_whole(&words, key);
+    if c.why != 0 {
+        return c;
+    }
+    stopped(0, 0)
 }

@@ -13,10 +13,10 @@ use Rattle.keys.proofs.BitsLaws.{clash, length-bits, length-bytes, take-back, b
 use Rattle.keys.specs.Form.{Value, nothing, spelt, choice, pair, node, Form, never, one, word, choose, both, child, Grammar, isNever, write, State, state, Result, got, stop, stopAt, into, andThen, allowed, ifWhole, takeChoice, keep, takeLetters, takeLength, takeSpelling, takeRoom, takeForm, takeNode}
 use Rattle.keys.specs.Limits.{badKey, tooTall, noSpace}
 use Rattle.differs.specs.Content.{Content, ends, chooses, spells, content}
-use Rattle.differs.specs.Sound.{Outcome, reads, fails, _⊕_, after, thenRead, asNode, readAllowed, readWhole, readLetters, readLength, readChoice, readSpelling, readForm, readNode}
+use Rattle.differs.specs.Sound.{Scan, reads, fails, _⊕_, after, thenRead, asNode, readAllowed, readWhole, readLetters, readLength, readChoice, readSpelling, readForm, readNode}
 
 -- Room for what the bits may hold; d is 1 where a node was counted before its first bit.
-pub record Enough (d : ℕ) (s : State) : Type 0 where
+pub record Roomy (d : ℕ) (s : State) : Type 0 where
   pub nodes : length (s .bits) < s .nodesLeft + d
   pub names : length (s .bits) ≤ s .namesLeft
   pub text : length (s .bits) ≤ s .textLeft * 8
@@ -43,8 +43,8 @@ module _ (all : Bits) (G : Grammar) where
     pub in-key : a ≤ length all
 
   -- Taking and reading come to the same, and there is room enough left.
-  pub data Same (f : Form) (a : ℕ) (x : Result) (y : Outcome) : Type 0 where
-    same-got : (v : Value) (s : State) (e : ℕ) → x ≡ got v s → y ≡ reads (content G f v a ends) e → e ≡ a + length (write G f v) → At e s → Enough 0 s → Same f a x y
+  pub data Same (f : Form) (a : ℕ) (x : Result) (y : Scan) : Type 0 where
+    same-got : (v : Value) (s : State) (e : ℕ) → x ≡ got v s → y ≡ reads (content G f v a ends) e → e ≡ a + length (write G f v) → At e s → Roomy 0 s → Same f a x y
     same-stop : (n b : ℕ) → x ≡ stop n (length all - b) → y ≡ fails n b → b ≤ length all → eqb n noSpace ≡ false → Same f a x y
 
   module _ {a : ℕ} {s : State} (h : At a s) where
@@ -64,7 +64,7 @@ module _ (all : Bits) (G : Grammar) where
         )
 
     -- A choice.
-    choice-by : (P : Result → Outcome → Type 0) (w : ℕ) (fs : ℕ → Form) (K : ℕ → Bits → Result) (K' : ℕ → Outcome) → P (stopAt badKey s) (fails badKey a)
+    choice-by : (P : Result → Scan → Type 0) (w : ℕ) (fs : ℕ → Form) (K : ℕ → Bits → Result) (K' : ℕ → Scan) → P (stopAt badKey s) (fails badKey a)
         → ((t : ℕ) (r : Bits) → Written w t (s .bits) r → P (K t r) (K' t)) → P (takeChoice w fs s K) (readChoice all w fs a K')
     choice-by P w fs K K' z k =
         subst (λ (x : Bits). P (takeChoice w fs s K) (readWhole a fs K' (takeField w x))) (h .bits) (whole (takeField w (s .bits)) refl)
@@ -78,7 +78,7 @@ module _ (all : Bits) (G : Grammar) where
         whole (field t r) i = known t r i (isNever (fs t))
 
     -- A spelling.
-    same-word : (w : ℕ) → Enough 1 s → Same (word w) a (takeSpelling w s) (readSpelling all w a)
+    same-word : (w : ℕ) → Roomy 1 s → Same (word w) a (takeSpelling w s) (readSpelling all w a)
     same-word w n = subst (λ (x : Bits). Same (word w) a (takeSpelling w s) (readLength w a (takeField w x))) (h .bits) (long (takeField w (s .bits)) refl)
       where
         bad : Same (word w) a (stopAt badKey s) (fails badKey a)
@@ -127,35 +127,35 @@ module _ (all : Bits) (G : Grammar) where
     field-size w t r i = ap length (i .bits) ∙ length-append (bitsOf w t) r ∙ ap (λ (x : ℕ). x + length r) (length-bits w t)
 
   -- A choice and what it leads to.
-  into-choice : (w : ℕ) (fs : ℕ → Form) (a t : ℕ) {x : Result} {y : Outcome} → Same (fs t) (a + w) x y → Same (choose w fs) a (into (choice t) x) (after (chooses t ends) y)
+  into-choice : (w : ℕ) (fs : ℕ → Form) (a t : ℕ) {x : Result} {y : Scan} → Same (fs t) (a + w) x y → Same (choose w fs) a (into (choice t) x) (after (chooses t ends) y)
   into-choice w fs a t (same-got v s e i j k p n) =
       same-got (choice t v) s e (ap (into (choice t)) i) (ap (after (chooses t ends)) j)
       (omega (arith, k, length-append (bitsOf w t) (write G (fs t) v), length-bits w t)) p n
   into-choice w fs a t (same-stop n b i j l z) = same-stop n b (ap (into (choice t)) i) (ap (after (chooses t ends)) j) l z
 
-  into-node : (c a t : ℕ) {x : Result} {y : Outcome} → Same (G .row c t) (a + G .tagWidth c) x y → Same (child c) a (into (node t) x) (asNode a (after (chooses t ends) y))
+  into-node : (c a t : ℕ) {x : Result} {y : Scan} → Same (G .row c t) (a + G .tagWidth c) x y → Same (child c) a (into (node t) x) (asNode a (after (chooses t ends) y))
   into-node c a t (same-got v s e i j k p n) =
-      same-got (node t v) s e (ap (into (node t)) i) (ap (λ (o : Outcome). asNode a (after (chooses t ends) o)) j)
+      same-got (node t v) s e (ap (into (node t)) i) (ap (λ (o : Scan). asNode a (after (chooses t ends) o)) j)
       (omega (arith, k, length-append (bitsOf (G .tagWidth c) t) (write G (G .row c t) v), length-bits (G .tagWidth c) t)) p n
-  into-node c a t (same-stop n b i j l z) = same-stop n b (ap (into (node t)) i) (ap (λ (o : Outcome). asNode a (after (chooses t ends) o)) j) l z
+  into-node c a t (same-stop n b i j l z) = same-stop n b (ap (into (node t)) i) (ap (λ (o : Scan). asNode a (after (chooses t ends) o)) j) l z
 
-  then-both : (f g : Form) (a : ℕ) {x : Result} {y : Outcome} (K : State → Result) (K' : ℕ → Outcome) → Same f a x y
-      → ((s : State) (e : ℕ) → At e s → Enough 0 s → Same g e (K s) (K' e)) → Same (both f g) a (andThen x λ v s. into (pair v) (K s)) (thenRead y K')
-  then-both f g a K K' (same-stop n b i j l z) k = same-stop n b (ap (λ (x : Result). andThen x λ v s. into (pair v) (K s)) i) (ap (λ (y : Outcome). thenRead y K') j) l z
+  then-both : (f g : Form) (a : ℕ) {x : Result} {y : Scan} (K : State → Result) (K' : ℕ → Scan) → Same f a x y
+      → ((s : State) (e : ℕ) → At e s → Roomy 0 s → Same g e (K s) (K' e)) → Same (both f g) a (andThen x λ v s. into (pair v) (K s)) (thenRead y K')
+  then-both f g a K K' (same-stop n b i j l z) k = same-stop n b (ap (λ (x : Result). andThen x λ v s. into (pair v) (K s)) i) (ap (λ (y : Scan). thenRead y K') j) l z
   then-both f g a {x} {y} K K' (same-got v s e i j l p n) k = by (k s e p n)
     where
       by : Same g e (K s) (K' e) → Same (both f g) a (andThen x λ v s. into (pair v) (K s)) (thenRead y K')
       by (same-stop m b i' j' l' z) =
           same-stop m b (ap (λ (r : Result). andThen r λ v s. into (pair v) (K s)) i ∙ ap (into (pair v)) i')
-          (ap (λ (o : Outcome). thenRead o K') j ∙ ap (after (content G f v a ends)) j') l' z
+          (ap (λ (o : Scan). thenRead o K') j ∙ ap (after (content G f v a ends)) j') l' z
       by (same-got w s' e' i' j' l' p' n') =
           same-got (pair v w) s' e' (ap (λ (r : Result). andThen r λ u q. into (pair u) (K q)) i ∙ ap (into (pair v)) i')
-          (ap (λ (o : Outcome). thenRead o K') j ∙ ap (after (content G f v a ends)) j'
+          (ap (λ (o : Scan). thenRead o K') j ∙ ap (after (content G f v a ends)) j'
           ∙ ap (λ (c : Content). reads c e') (content-join G f v a ends (content G g w e ends) ∙ ap (λ (o : ℕ). content G f v a (content G g w o ends)) l))
           (omega (arith, l, l', length-append (write G f v) (write G g w))) p' n'
 
-  module _ (X : ℕ → State → Result) (Y : ℕ → ℕ → Outcome) (nodes : (c : ℕ) (s : State) (a : ℕ) → At a s → Enough 0 s → Same (child c) a (X c s) (Y c a)) where
-    same-form : (f : Form) (s : State) (a : ℕ) → At a s → Enough 0 s → Same f a (takeForm X f s) (readForm all Y f a)
+  module _ (X : ℕ → State → Result) (Y : ℕ → ℕ → Scan) (nodes : (c : ℕ) (s : State) (a : ℕ) → At a s → Roomy 0 s → Same (child c) a (X c s) (Y c a)) where
+    same-form : (f : Form) (s : State) (a : ℕ) → At a s → Roomy 0 s → Same f a (takeForm X f s) (readForm all Y f a)
     same-form never s a h n = stops h never badKey refl
     same-form one s a h n = same-got nothing s a refl refl (omega arith) h n
     same-form (word w) s a h n = same-word h w (record { nodes = omega (arith, n .nodes); names = n .names; text = n .text })
@@ -168,7 +168,7 @@ module _ (all : Bits) (G : Grammar) where
     same-form (child c) s a h n = nodes c s a h n
 
     -- The same where a node was counted before its first bit.
-    same-eager : {f : Form} → Eager f → (s : State) (a : ℕ) → At a s → Enough 1 s → Same f a (takeForm X f s) (readForm all Y f a)
+    same-eager : {f : Form} → Eager f → (s : State) (a : ℕ) → At a s → Roomy 1 s → Same f a (takeForm X f s) (readForm all Y f a)
     same-eager eager-never s a h n = stops h never badKey refl
     same-eager (eager-word {w = w}) s a h n = same-word h w n
     same-eager (eager-choose {w = w} {fs = fs} l) s a h n =
@@ -180,14 +180,14 @@ module _ (all : Bits) (G : Grammar) where
 
   module _ (eager : (c t : ℕ) → G .tagWidth c ≡ 0 → Eager (G .row c t)) where
     -- A node.
-    pub same-node : (high c : ℕ) (s : State) (a : ℕ) → At a s → Enough 0 s → Same (child c) a (takeNode G high c s) (readNode all G high c a)
+    pub same-node : (high c : ℕ) (s : State) (a : ℕ) → At a s → Roomy 0 s → Same (child c) a (takeNode G high c s) (readNode all G high c a)
     same-node zero c s a h n =
         choice-by h (Same (child c) a) (G .tagWidth c) (G .row c) _ _ (stops h (child c) badKey refl) λ t r i. stops h (child c) tooTall refl
     same-node (suc high) c s a h n =
-        choice-by h (λ (x : Result) (y : Outcome). Same (child c) a x (asNode a y)) (G .tagWidth c) (G .row c) _ _ (stops h (child c) badKey refl)
+        choice-by h (λ (x : Result) (y : Scan). Same (child c) a x (asNode a y)) (G .tagWidth c) (G .row c) _ _ (stops h (child c) badKey refl)
         λ t r i. room t r i (λ c₁ s₁ a₁ h₁ n₁. same-node high c₁ s₁ a₁ h₁ n₁) (s .nodesLeft) refl
       where
-        inner : (t : ℕ) (r : Bits) → Written (G .tagWidth c) t (s .bits) r → ((c₁ : ℕ) (s₁ : State) (a₁ : ℕ) → At a₁ s₁ → Enough 0 s₁ → Same (child c₁) a₁ (takeNode G high c₁ s₁) (readNode all G high c₁ a₁))
+        inner : (t : ℕ) (r : Bits) → Written (G .tagWidth c) t (s .bits) r → ((c₁ : ℕ) (s₁ : State) (a₁ : ℕ) → At a₁ s₁ → Roomy 0 s₁ → Same (child c₁) a₁ (takeNode G high c₁ s₁) (readNode all G high c₁ a₁))
             → (m : ℕ) → s .nodesLeft ≡ suc m → (w : ℕ) → G .tagWidth c ≡ w
             → Same (G .row c t) (a + G .tagWidth c) (takeForm (takeNode G high) (G .row c t) (state m (s .namesLeft) (s .textLeft) r)) (readForm all (readNode all G high) (G .row c t) (a + G .tagWidth c))
         inner t r i ih m u zero z =
@@ -197,7 +197,7 @@ module _ (all : Bits) (G : Grammar) where
             same-form (takeNode G high) (readNode all G high) ih (G .row c t) (state m (s .namesLeft) (s .textLeft) r) (a + G .tagWidth c) (past-field h (G .tagWidth c) t r i m (s .namesLeft) (s .textLeft))
             (record { nodes = omega (arith, field-size h (G .tagWidth c) t r i, n .nodes); names = omega (arith, field-size h (G .tagWidth c) t r i, n .names); text = omega (arith, field-size h (G .tagWidth c) t r i, n .text) })
 
-        room : (t : ℕ) (r : Bits) → Written (G .tagWidth c) t (s .bits) r → ((c₁ : ℕ) (s₁ : State) (a₁ : ℕ) → At a₁ s₁ → Enough 0 s₁ → Same (child c₁) a₁ (takeNode G high c₁ s₁) (readNode all G high c₁ a₁))
+        room : (t : ℕ) (r : Bits) → Written (G .tagWidth c) t (s .bits) r → ((c₁ : ℕ) (s₁ : State) (a₁ : ℕ) → At a₁ s₁ → Roomy 0 s₁ → Same (child c₁) a₁ (takeNode G high c₁ s₁) (readNode all G high c₁ a₁))
             → (m : ℕ) → s .nodesLeft ≡ m
             → Same (child c) a (takeRoom s t (λ k. takeForm (takeNode G high) (G .row c t) (state k (s .namesLeft) (s .textLeft) r)) m)
             (asNode a (after (chooses t ends) (readForm all (readNode all G high) (G .row c t) (a + G .tagWidth c))))
