@@ -1,7 +1,8 @@
-/* The type key library: reads a TypeScript type into a tree and its key, and takes a key back.
+/* The type key library: reads a TypeScript type into a tree and its key, takes a key back, and says what differs between two keys.
 
    typekey_read        text and token words in; tree, diagnostics, end and key out, or a refusal
    typekey_take_back   a key in; its tree and spellings out, or a refusal
+   typekey_differ      two keys in; the places where their trees differ out, or a refusal
 
    Lent memory. Each slice is two arguments: a pointer and how many ELEMENTS it has. A slice of none may be null; `answer` may not.
    Slices of words stand at multiples of 8. A slice that is written overlaps no other. Nothing is asked of what slices hold.
@@ -34,6 +35,15 @@ void typekey_read(const uint8_t *text, uint64_t text_len, const uint64_t *tokens
 void typekey_take_back(const uint8_t *key, uint64_t key_len, uint64_t *nodes, uint64_t node_words, uint64_t *names, uint64_t name_words,
                        uint8_t *text, uint64_t text_bytes, uint64_t answer[8]);
 
+/* Says what differs between two keys: pairs of bits, two words each, the left key's and the right key's, in the key's order on both
+   sides. A pair is the first bits of two nodes at one place whose own choices differ (tag, flags, counts, small numbers), of which
+   nothing inside is reported; or of two spellings that differ, at their lengths. No pair at all: the keys are the same bytes.
+   answer, found:    0, pairs, 0, 0, 0, 0, 0, 0
+   answer, refused:  number (6, 10 or 29), side (TYPEKEY_LEFT_KEY, TYPEKEY_RIGHT_KEY or TYPEKEY_NO_SIDE), bit of that key, 0, 0, 0, 0, 0
+   The left key is looked at first. Both may be the same slice. */
+void typekey_differ(const uint8_t *left, uint64_t left_len, const uint8_t *right, uint64_t right_len, uint64_t *list, uint64_t list_words,
+                    uint64_t answer[8]);
+
 #define TYPEKEY_PRESERVE_PARENS 1   /* keep (A) as a node of its own */
 
 /* ---- Refusals: answer[0] ---- */
@@ -49,6 +59,12 @@ void typekey_take_back(const uint8_t *key, uint64_t key_len, uint64_t *nodes, ui
 #define TYPEKEY_MANY_NOTES 9    /* more than 32 diagnostics, or `notes` is too short */
 #define TYPEKEY_BAD_KEY 10      /* not a key, or too long for one; at the first bit of the wrong field */
 #define TYPEKEY_NO_SPACE 11     /* `names`, `key` or `text` is too short; place 0 */
+#define TYPEKEY_MANY_DIFFERENCES 29 /* `list` is too short; side 0, bit 0 */
+
+/* ---- The side of a refusal of typekey_differ: answer[1] ---- */
+#define TYPEKEY_NO_SIDE 0
+#define TYPEKEY_LEFT_KEY 1
+#define TYPEKEY_RIGHT_KEY 2
 
 /* ---- Limits ---- */
 #define TYPEKEY_MOST_TEXT 65535     /* bytes of a text */
@@ -60,7 +76,9 @@ void typekey_take_back(const uint8_t *key, uint64_t key_len, uint64_t *nodes, ui
 #define TYPEKEY_MOST_KEY 262144     /* bytes of a key */
 
 /* ---- How much to lend ----
-   With these a read is never refused for want of room (8, 11, or 9 below 33 diagnostics), and taking back neither (8, 11). */
+   With these a read is never refused for want of room (8, 11, or 9 below 33 diagnostics), and taking back neither (8, 11), nor
+   comparing (29): nothing that a pair stands for has fewer than 9 bits, and no two of them share one, so there are fewer pairs than
+   bytes in either key. */
 #define TYPEKEY_READ_NODE_WORDS(token_count) (4 * (uint64_t)(token_count))
 #define TYPEKEY_READ_NAME_WORDS(token_count) ((uint64_t)(token_count))
 #define TYPEKEY_READ_NOTE_WORDS (3 * TYPEKEY_MOST_NOTES)
@@ -68,6 +86,7 @@ void typekey_take_back(const uint8_t *key, uint64_t key_len, uint64_t *nodes, ui
 #define TYPEKEY_BACK_NODE_WORDS(key_len) (4 * ((uint64_t)(key_len) + (uint64_t)(key_len) / 3 + 1))
 #define TYPEKEY_BACK_NAME_WORDS(key_len) ((uint64_t)(key_len) / 3 + 1)
 #define TYPEKEY_BACK_TEXT_BYTES(key_len) ((uint64_t)(key_len))
+#define TYPEKEY_DIFFER_LIST_WORDS(left_len, right_len) (2 * ((uint64_t)(left_len) < (uint64_t)(right_len) ? (uint64_t)(left_len) : (uint64_t)(right_len)))
 
 /* ---- Token words ----
    Most significant bit first: kind 8 bits, line break before it 1, zeros 6, length in bytes 17, first byte in the text 32.

@@ -59,6 +59,7 @@ fn main() {
     let mut answer = [0u64; 8];
     typekey_read(&bytes, &tokens, 0, 0, &mut nodes, &mut names, &mut notes, &mut more, &mut answer);
     typekey_take_back(&bytes, &mut nodes, &mut names, &mut more, &mut answer);
+    typekey_differ(&bytes, &bytes, &mut nodes, &mut answer);
 }
 END
     (cd "$work" && sh "$root/tools/unproved.sh" typekey_try "$work/try" >"$work/say") || { cat "$work/say"; exit 1; }
@@ -86,8 +87,8 @@ gcc -shared -s "$work/typekey.o" -Wl,--gc-sections -Wl,--no-undefined -Wl,--vers
 # The stack stands first in the memory, so that running out of it is a trap. Pointers have 32 bits: the memory stays below 2 GiB.
 compile "$work/wasm.o" wasm32-unknown-unknown -mbulk-memory -mllvm -inline-threshold=1000
 ln -s "$clang" "$work/wasm-ld"
-"$work/wasm-ld" -mwasm32 --no-entry --export=typekey_read --export=typekey_take_back --export=__heap_base --stack-first -z stack-size=1048576 \
-    --initial-memory=4194304 --max-memory=1073741824 --strip-all "$work/wasm.o" -o "$out/typekey.wasm"
+"$work/wasm-ld" -mwasm32 --no-entry --export=typekey_read --export=typekey_take_back --export=typekey_differ --export=__heap_base \
+    --stack-first -z stack-size=1048576 --initial-memory=4194304 --max-memory=1073741824 --strip-all "$work/wasm.o" -o "$out/typekey.wasm"
 
 ls -l "$out/libtypekey.a" "$out/libtypekey.so" "$out/typekey.wasm"
 if [ $proved = yes ]; then echo "PROVED: rt staticlib has checked typekey_c and all below it, and these are compiled from the module that it wrote."

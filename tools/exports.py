@@ -5,7 +5,7 @@ import re
 import sys
 
 # s: a slice, u: a 64-bit number, p: a reference to an array
-EXPORTS = {"typekey_read": "ssuussssp", "typekey_take_back": "ssssp"}
+EXPORTS = {"typekey_read": "ssuussssp", "typekey_take_back": "ssssp", "typekey_differ": "sssp"}
 
 
 def exported(program, name, parts):

@@ -12,12 +12,13 @@ import unittest
 
 ROOT = pathlib.Path(__file__).resolve().parents[2]
 sys.path[:0] = [str(ROOT / "bindings" / "python"), str(ROOT / "tools")]
+import differ_model
 import keys_model
 import model
 import rules_model
 import typekey
 from keys_vectors import sum_bytes, sum_words
-from typekey import Buffers, Diagnostic, Node, Note, Refused, Why, kind_of, token
+from typekey import Buffers, Diagnostic, Node, Note, Pair, Refused, Side, Why, differ, kind_of, token
 
 
 def read(text, **options):
@@ -227,6 +228,60 @@ class Vectors(unittest.TestCase):
             k = model.key_of(keys_model.gen())
             self.assertEqual(written(typekey.take_back(k)), k)
         print("%d texts beside the model, 0 different" % len(cases))
+
+
+class Differences(unittest.TestCase):
+    # 02's rows: left bit, right bit.
+    ROWS = {
+        ("A", "A"): [], ("A", "B"): [(22, 22)], ("A", "AB"): [(22, 22)], ("A", "A.B"): [(4, 4)], ("A.B.C", "X.B.D"): [(22, 22), (70, 70)],
+        ("string", "number"): [(4, 4)], ("A", "A[]"): [(4, 4)], ("A | B", "A | C"): [(83, 83)], ("A | B", "A | B | C"): [(4, 4)],
+        ("A | B", "A & B"): [(4, 4)], ("[A, B, C]", "[A?, X, ...C]"): [(22, 22), (83, 89), (108, 114)],
+        ("{ [K in A]: B }", "{ [L in X]?: B }"): [(4, 4)], ("{ [K in A]: B }", "{ [L in X]: Y }"): [(12, 12), (54, 54), (101, 101)],
+        ("(a: A, b?: B) => C", "(x: A, b: Y) => Z"): [(25, 25), (94, 94), (182, 182)],
+        ("<T, U extends A>() => B", "<V, U>() => C"): [(23, 23), (49, 49), (149, 106)], ("'a'", '"a"'): [(13, 13)], ("1", "-1"): [(4, 4)],
+        ("A | B | C", "X | Y | Z"): [(40, 40), (83, 83), (126, 126)]}
+
+    def refusal(self, left, right, **options):
+        with self.assertRaises(Refused) as c: differ(bytes.fromhex(left), bytes.fromhex(right), **options)
+        return c.exception.number, c.exception.side, c.exception.bit
+
+    def test_rows(self):
+        for (left, right), pairs in self.ROWS.items():
+            l, r = read(left).key, read(right).key
+            self.assertEqual(differ(l, r), pairs, (left, right))
+            self.assertEqual(differ(r, l), [p[::-1] for p in pairs], (right, left))
+            self.assertEqual(differ(l, r, most=len(pairs)), pairs)
+            for most in range(len(pairs)): self.assertEqual(self.refusal(l.hex(), r.hex(), most=most), (29, Side.Neither, 0))
+        self.assertEqual(differ(read("A").key, read("B").key)[0], Pair(left=22, right=22))
+
+    def test_refusals(self):
+        a, strings = "104004000504", "11C270"
+        self.assertEqual(self.refusal("", a), (10, Side.Left, 0))
+        self.assertEqual(self.refusal(a, "20" + a[2:]), (10, Side.Right, 0))
+        self.assertEqual(self.refusal("104004000505", ""), (10, Side.Left, 47))
+        self.assertEqual(self.refusal(a + "00", strings), (10, Side.Left, 48))
+        self.assertEqual(self.refusal(strings, "11C271"), (10, Side.Right, 23))
+        with self.assertRaises(Refused) as c: differ(b"\x11\xc2\x70", b"\x11\xc2\x71")
+        self.assertEqual(str(c.exception), "refusal 10 (BadKey): a field that is no part of a key, at bit 23 of the right key")
+        self.assertEqual(str(pickle.loads(pickle.dumps(c.exception))), str(c.exception))
+        with self.assertRaises(Refused) as c: differ(read("A").key, read("B").key, most=0)
+        self.assertEqual(str(c.exception), "refusal 29 (ManyDifferences): more differences than the list has room for")
+
+    def test_beside_the_model(self):
+        """Keys of trees by chance, the same, alike and not, sound and damaged: answer and list."""
+        keys_model.seed(20261)
+        keys = [model.key_of(keys_model.gen()) for _ in range(300)]
+        keys += [k[:-1] for k in keys[:40]] + [k[:-1] + bytes([k[-1] ^ 255]) for k in keys[:40]]
+        keys += [k[:i] + bytes([k[i] ^ 1]) + k[i + 1:] for k in keys[40:200] for i in (len(k) // 2, len(k) - 2) if i > 0]
+        run = found = 0
+        for i, l in enumerate(keys):
+            for r in (l, keys[i * 7 % len(keys)], keys[(i + 1) % len(keys)], l[:-1] + bytes([l[-1] ^ 64])):
+                answer, said = differ_model.differ(l, r, 2 * min(len(l), len(r)))
+                try: got = (0, len(differ(l, r)), 0), [bit for p in differ(l, r) for bit in p]
+                except Refused as x: got = (x.number, int(x.side), x.bit), []
+                self.assertEqual(got, (answer, said[:2 * answer[1] if answer[0] == 0 else 0]), (l.hex(), r.hex()))
+                run, found = run + 1, found + len(got[1]) // 2
+        print("%d pairs of keys beside the model, %d differences, 0 different" % (run, found))
 
 
 if __name__ == "__main__":

@@ -1,8 +1,8 @@
 """The type key from Python: ctypes over the shared object libtypekey.so. This file is all there is; it needs Python 3.8.
 
-read(text, tokens) gives a type's tree, its diagnostics and its key. take_back(key) gives the tree again. Two texts have
-the same key exactly when they are the same type; that is proved of the library, and not of this file, which only passes
-memory on and reads the words that come back.
+read(text, tokens) gives a type's tree, its diagnostics and its key. take_back(key) gives the tree again. differ(left, right)
+says where the trees of two keys differ. Two texts have the same key exactly when they are the same type; that is proved of
+the library, and not of this file, which only passes memory on and reads the words that come back.
 
     import typekey
     from typekey import kind_of, token
@@ -46,6 +46,8 @@ _library.typekey_read.argtypes = _given + _words + [ctypes.c_uint64] * 2 + _word
 _library.typekey_read.restype = None
 _library.typekey_take_back.argtypes = _given + _words * 2 + _bytes + [_Answer]
 _library.typekey_take_back.restype = None
+_library.typekey_differ.argtypes = _given * 2 + _words + [_Answer]
+_library.typekey_differ.restype = None
 
 # ---- token words
 
@@ -78,30 +80,38 @@ def kind_of(spelling: Union[str, bytes]) -> int:
 class Why(enum.IntEnum):
     """Why a call was refused, with the refusal's number."""
     BadList, BadToken, Unexpected, Unsupported, TooDeep, TooTall, TooLong, NoRoom, ManyNotes, BadKey, NoSpace = range(1, 12)
+    ManyDifferences = 29
 
 
-_WHY = ("no tokens or too many, too long a text, or a start that is no token", "a word that is no good token", "a token that no rule takes",
+_WHY = dict(zip(Why, ("no tokens or too many, too long a text, or a start that is no token", "a word that is no good token", "a token that no rule takes",
         "a form that is not read", "a 65th type rule open", "a node higher than 256", "a list of more than 4,095 entries",
         "no room for another node", "no record for another diagnostic, or a 33rd one", "a field that is no part of a key",
-        "no space for the names, the key or the letters")
+        "no space for the names, the key or the letters", "more differences than the list has room for")))
+
+
+class Side(enum.IntEnum):
+    """Which of two keys a refusal is about."""
+    Neither, Left, Right = range(3)
 
 
 class Refused(Exception):
     """A refusal. As text it is a sentence.
 
     why is its name and number its number. token, half and byte are its place in reading: the token's index, 1 if the first
-    half of that token was used (else 0), and the first byte not yet used. bit is its place in taking a key back. What does
-    not apply is None, or 0 where the library has no place: all three for BadList and NoSpace, half and byte for BadToken.
+    half of that token was used (else 0), and the first byte not yet used. bit is its place in a key, and side which of two keys
+    that is. What does not apply is None, or 0 where the library has no place: all for BadList, NoSpace and ManyDifferences, half
+    and byte for BadToken.
     """
-    def __init__(self, number: int, token: Optional[int] = None, half: Optional[int] = None, byte: Optional[int] = None, bit: Optional[int] = None):
-        self.why, self.number, self.token, self.half, self.byte, self.bit = Why(number), number, token, half, byte, bit
-        super().__init__("refusal %d (%s): %s%s" % (number, self.why.name, _WHY[number - 1], self._where()))
+    def __init__(self, number: int, token: Optional[int] = None, half: Optional[int] = None, byte: Optional[int] = None, bit: Optional[int] = None,
+                 side: Optional[Side] = None):
+        self.why, self.number, self.token, self.half, self.byte, self.bit, self.side = Why(number), number, token, half, byte, bit, side
+        super().__init__("refusal %d (%s): %s%s" % (number, self.why.name, _WHY[self.why], self._where()))
 
-    def __reduce__(self): return Refused, (self.number, self.token, self.half, self.byte, self.bit)
+    def __reduce__(self): return Refused, (self.number, self.token, self.half, self.byte, self.bit, self.side)
 
     def _where(self) -> str:
-        if self.why in (Why.BadList, Why.NoSpace): return ""
-        if self.bit is not None: return ", at bit %d" % self.bit
+        if self.why in (Why.BadList, Why.NoSpace, Why.ManyDifferences): return ""
+        if self.bit is not None: return ", at bit %d%s" % (self.bit, " of the %s key" % self.side.name.lower() if self.side else "")
         if self.why == Why.BadToken: return ", at token %d" % self.token
         return ", %s token %d, byte %d" % ("behind the first half of" if self.half else "at", self.token, self.byte)
 
@@ -341,3 +351,26 @@ def take_back(key: bytes, *, buffers: Optional[Buffers] = None) -> Tree:
     refused, nodes, names, letters = answer[:4]
     if refused: raise Refused(refused, bit=nodes)
     return Tree(bytes(b.letters[:letters]), b.nodes[:4 * nodes], b.names[:names])
+
+
+class Pair(NamedTuple):
+    """A place where two keys differ: the bit of the left key and the bit of the right key."""
+    left: int
+    right: int
+
+
+def differ(left: bytes, right: bytes, *, most: Optional[int] = None) -> List[Pair]:
+    """Where the trees of two keys differ, in the key's order; an empty list exactly when the keys are the same bytes.
+
+    A pair is the first bits of two nodes at one place that differ in themselves (tag, a flag, a count, a small number), of which
+    nothing inside is told; or of two names that differ. A key's first node has bit 4. There are fewer pairs than bytes in
+    either key, and room for as many is lent; with most there is room for so many, and more are a refusal (ManyDifferences)."""
+    left, right = memoryview(left).tobytes(), memoryview(right).tobytes()
+    room = min(len(left), len(right), 262144)
+    list_ = (ctypes.c_uint64 * (2 * (room if most is None else min(most, room))))()
+    answer = _Answer()
+    _library.typekey_differ(left, len(left), right, len(right), list_, len(list_), answer)
+    refused, pairs, bit = answer[:3]
+    if refused: raise Refused(refused, bit=bit, side=Side(pairs))
+    said = list_[:2 * pairs]
+    return [Pair(*p) for p in zip(said[::2], said[1::2])]

@@ -1,4 +1,4 @@
-"""Prints the key of a type and walks its tree: python3 key_of_a_type.py 'A | B & C'"""
+"""Prints the key of a type, walks its tree and compares it with another: python3 key_of_a_type.py 'A | B & C'"""
 import pathlib
 import sys
 
@@ -31,3 +31,8 @@ for note in reading.notes:
 # From the key alone the same tree comes back, without places in the text.
 tree = typekey.take_back(reading.key)
 print("taken back: a %s of %d nodes" % (tree.root.tag, tree.size))
+
+# Two keys are the same bytes, or there are places where their trees differ: bits of the one and of the other.
+other = b"A | B & D"
+for left, right in typekey.differ(reading.key, typekey.read(other, cut(other)).key):
+    print("beside %s: bit %d, bit %d" % (other.decode(), left, right))

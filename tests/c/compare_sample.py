@@ -6,7 +6,9 @@ import struct
 import sys
 
 sys.path.insert(0, os.path.join(os.path.dirname(os.path.abspath(__file__)), "..", "..", "tools"))
-from rules_model import expected
+import differ_model
+import rules_model
+from keys_vectors import sum_words
 
 
 def records(data):
@@ -20,9 +22,20 @@ def records(data):
             yield ("key", data[at:at + key], (nodes, names, letters)), tuple(n[8:])
             at += key
             continue
+        if op == 8:
+            yield ("pair", data[at:at + key], data[at + key:at + key + letters], nodes), tuple(n[8:])
+            at += key + letters
+            continue
         words = list(struct.unpack_from("<%dQ" % tokens, data, at + text))
         yield ("read", data[at:at + text], words, start, op == 1, (nodes, names, notes, key)), tuple(n[8:])
         at += text + 8 * tokens
+
+
+def expected(case):
+    """The eleven numbers. Of two keys: the answer, filled with zeros, and a sum over the list."""
+    if case[0] != "pair": return rules_model.expected(case)
+    answer, said = differ_model.differ(*case[1:])
+    return answer + (0,) * 4 + (sum_words(said, len(said), 1), 0, 0, 0)
 
 
 def main():
@@ -37,7 +50,7 @@ def main():
             if different <= 8:
                 print("DIFFERENT", case[0], case[1][:200], "lent", case[-1], "\n  library", *got, "\n  model  ", *want)
     print("%d records, %d different" % (sum(run.values()), different))
-    for sort in ("read", "key"):
+    for sort in ("read", "key", "pair"):
         print(sort + ": " + ", ".join("%d answer %d" % (n, k[1]) for k, n in sorted(run.items()) if k[0] == sort))
     sys.exit(different != 0)
 

@@ -1,4 +1,4 @@
-/* fuzz [CASES [SEED [SAMPLE EVERY]]]: calls both functions on texts and keys by chance, sound and damaged, and holds what they leave
+/* fuzz [CASES [SEED [SAMPLE EVERY]]]: calls all three functions on texts and keys by chance, sound and damaged, and holds what they leave
    against each other. Every so many cases it writes one to the file SAMPLE, as a record for compare_sample.py. It stops at the first fault. */
 #include "tree.h"
 #include <inttypes.h>
@@ -212,7 +212,7 @@ static uint8_t pool[POOL][LONG];
 static uint64_t pool_len[POOL], pooled;
 
 /* ---- figures, and the sample ---- */
-static uint64_t reads_by[12], backs_by[12];
+static uint64_t reads_by[30], backs_by[30], differ_by[30], pairs_found;
 static FILE *sample;
 static uint64_t every = 0, written;
 static int four_out(uint64_t v) { for (int i = 0; i < 4; i++) fputc((int)(v >> 8 * i & 255), sample); return 0; }
@@ -225,6 +225,17 @@ static void record(int op, uint64_t start, const Slice *last) {
     four_out(sum(&nodes)), four_out(sum(&names)), four_out(sum(back ? last : &notes)), four_out(back ? 0 : sum(last));
     if (back) fwrite(key.at, 1, key.count, sample);
     else fwrite(text.at, 1, text.count, sample), fwrite(tokens.at, 8, tokens.count, sample);
+    written++;
+}
+
+/* Two keys and a list: their lengths where those of key and letters stand, and the words of the list where those of the nodes do. */
+static void record_pair(void) {
+    uint64_t head[8] = {0, 0, 0, pairs.count, 0, 0, key.count, other.count};
+    fputc(8, sample);
+    for (int i = 0; i < 8; i++) four_out(head[i]);
+    for (int i = 0; i < 7; i++) four_out(answer[i]);
+    four_out(sum(&pairs)), four_out(0), four_out(0), four_out(0);
+    fwrite(key.at, 1, key.count, sample), fwrite(other.at, 1, other.count, sample);
     written++;
 }
 
@@ -257,6 +268,68 @@ static void comes_back(void) {
     lend(&nodes, 4 * n - (few == 0)), lend(&names, m - (few == 1)), lend(&letters, spelled - (few == 2));
     take_back_lent();
     must(answer[0] == want, "a key comes back into too little");
+}
+
+/* Two keys, whatever they are: a list of every length about the number of pairs, the sides exchanged, and refusals beside those of taking back. */
+static void compare(const uint8_t *l, uint64_t n, const uint8_t *r, uint64_t m, int sampled) {
+    static uint64_t found[2 * 2048], turned[8];
+    uint64_t enough = TYPEKEY_DIFFER_LIST_WORDS(n, m);
+    give(&key, l, n), give(&other, r, m), lend(&pairs, enough + below(3));
+    differ_lent();
+    must(same(&key, l, n) && same(&other, r, m), "comparing writes to a key");
+    must(answer[0] != 29, "pairs find no room in what the header says to lend");
+    differ_by[answer[0]]++;
+    if (sampled) record_pair();
+    memcpy(turned, answer, 64);
+    if (answer[0]) {
+        const Slice *bad = answer[1] == 1 ? &key : &other;
+        uint64_t size = bad->count;
+        if (answer[1] == 1) give(&key, l, n); else give(&key, r, m);
+        lend(&nodes, TYPEKEY_BACK_NODE_WORDS(size)), lend(&names, TYPEKEY_BACK_NAME_WORDS(size)), lend(&letters, TYPEKEY_BACK_TEXT_BYTES(size));
+        take_back_lent();
+        must(answer[0] == turned[0] && answer[1] == turned[2], "a key is refused otherwise than in taking back");
+        give(&key, r, m), give(&other, l, n), lend(&pairs, below(9));
+        differ_lent();
+        must(answer[0] && (answer[1] != turned[1] ? answer[0] == turned[0] && answer[2] == turned[2] : 1), "a bad key is not refused on the other side");
+        return;
+    }
+    uint64_t k = answer[1];
+    pairs_found += k;
+    must(k <= sizeof found / 16, "a test finds too many pairs");
+    if (k) memcpy(found, pairs.at, 16 * k);
+    give(&key, r, m), give(&other, l, n), lend(&pairs, 2 * k);
+    differ_lent();
+    must(same_answer(turned), "the sides exchanged give another number of pairs");
+    for (uint64_t i = 0; i < k; i++) must(words(&pairs)[2 * i] == found[2 * i + 1] && words(&pairs)[2 * i + 1] == found[2 * i], "the sides exchanged give other pairs");
+    give(&key, l, n), give(&other, r, m);
+    for (uint64_t few = k < 6 ? 0 : 2 * k - 3; few < 2 * k + 3; few++) {
+        lend(&pairs, few);
+        differ_lent();
+        must(few < 2 * k ? answer[0] == 29 : same_answer(turned) && (k == 0 || same(&pairs, found, 2 * k)), "a list of another length");
+    }
+    if (sampled && k) lend(&pairs, below(2 * k)), differ_lent(), record_pair(), differ_by[29]++;
+}
+
+/* The text once more with a few words or keywords as others, its key beside the one that is kept. */
+static void compare_alike(int sampled) {
+    static uint8_t before[LONG];
+    uint64_t n = kept[4], changed = 0;
+    memcpy(before, kept_key, n);
+    for (int times = (int)below(4); times && laid_count > 1; times--) {
+        uint64_t i = below(laid_count - 1), w = laid_words[i], kind = w >> 56, at = w & 0xffffffff, length = w >> 32 & 0x1ffff;
+        if (kind == 1) laid[at + below(length)] = (uint8_t)("ABCxyz"[below(6)]), changed++;
+        else if (kind == 27 || kind == 28) laid_words[i] ^= (uint64_t)(27 ^ 28) << 56, laid[at] = kind == 27 ? '&' : '|', changed++;
+        else if (kind == 70) laid_words[i] = (w & 0xffffffffffffff) | (uint64_t)68 << 56, memcpy(laid + at, "number", 6), changed++;
+        else if (kind == 29 && one_in(2)) laid_words[i] = (w & 0xffffffffffffff) | (uint64_t)37 << 56, laid[at] = '!', changed++;
+    }
+    give(&text, laid, laid_len), give(&tokens, laid_words, laid_count);
+    lend(&nodes, TYPEKEY_READ_NODE_WORDS(tokens.count)), lend(&names, TYPEKEY_READ_NAME_WORDS(tokens.count)), lend(&notes, TYPEKEY_READ_NOTE_WORDS);
+    lend(&key, TYPEKEY_READ_KEY_BYTES(text.count, tokens.count));
+    read_lent(0, 0);
+    if (answer[0] || answer[4] > LONG) return;
+    uint64_t m = answer[4];
+    memcpy(made, key.at, m);
+    compare(before, n, made, m, sampled);
 }
 
 static void lend_for_read(int by_need) {
@@ -325,6 +398,28 @@ static void a_read(int sampled) {
     }
     comes_back();
     if (kept[4] <= LONG) { uint64_t p = pooled++ % POOL; memcpy(pool[p], kept_key, kept[4]), pool_len[p] = kept[4]; }
+    if (kept[4] <= LONG && start == 0 && one_in(4)) compare_alike(sampled);
+}
+
+/* Two keys that were seen, or one twice; the left, the right or both damaged. */
+static uint64_t some_key(uint8_t *k, uint64_t p, int damaged) {
+    uint64_t n = pool_len[p];
+    memcpy(k, pool[p], n);
+    for (int times = damaged ? 1 + (int)below(2) : 0; times; times--) switch (below(5)) {
+        case 0: case 1: if (n) k[below(n)] ^= (uint8_t)(1 << below(8)); break;
+        case 2: if (n) k[below(n)] = (uint8_t)chance(); break;
+        case 3: n = below(n + 1); break;
+        default: k[n++] = one_in(2) ? 0 : (uint8_t)chance();
+    }
+    return n;
+}
+
+static void two_keys(int sampled) {
+    static uint8_t l[LONG + 8], r[LONG + 8];
+    uint64_t p = below(pooled < POOL ? pooled : POOL), q = one_in(2) ? p : below(pooled < POOL ? pooled : POOL);
+    int damaged = (int)below(5);
+    uint64_t n = some_key(l, p, damaged & 1), m = some_key(r, q, damaged >> 1 & 1);
+    compare(l, n, r, m, sampled);
 }
 
 static void a_key(int sampled) {
@@ -360,7 +455,7 @@ static void a_key(int sampled) {
 
 static void told(const char *what, const uint64_t *by) {
     printf("%s:", what);
-    for (int i = 0; i < 12; i++) if (by[i]) printf("%s %" PRIu64 " answer %d", i ? "," : "", by[i], i);
+    for (int i = 0; i < 30; i++) if (by[i]) printf("%s %" PRIu64 " answer %d", i ? "," : "", by[i], i);
     printf("\n");
 }
 
@@ -376,10 +471,12 @@ int main(int argc, char **argv) {
     clock_t began = clock();
     for (uint64_t i = 0; i < cases; i++) {
         int sampled = sample && i % every == 0;
-        if (pooled == 0 || below(10) < 7) a_read(sampled); else a_key(sampled);
+        uint64_t which = below(10);
+        if (pooled == 0 || which < 6) a_read(sampled); else if (which < 8) a_key(sampled); else two_keys(sampled);
     }
     printf("%" PRIu64 " cases, seed %" PRIu64 ", 0 faults, %.1f s\n", cases, seed, (double)(clock() - began) / CLOCKS_PER_SEC);
-    told("reads", reads_by), told("taken back", backs_by);
+    told("reads", reads_by), told("taken back", backs_by), told("compared", differ_by);
+    printf("%" PRIu64 " pairs\n", pairs_found);
     if (sample) { fclose(sample); printf("%" PRIu64 " in the sample\n", written); }
     return 0;
 }

@@ -71,7 +71,7 @@ static inline uint64_t sum(const Slice *s) {
     return h;
 }
 
-static Slice text, tokens, nodes, names, notes, key, letters;
+static Slice text, tokens, nodes, names, notes, key, letters, other, pairs;
 static uint64_t answer_room[10], *const answer = answer_room + 1;
 
 static void make_slices(void) {
@@ -82,6 +82,8 @@ static void make_slices(void) {
     notes = slice_of(128, 8);
     key = slice_of(TYPEKEY_MOST_KEY + 2 + 65536, 1);
     letters = slice_of(TYPEKEY_MOST_KEY + 2, 1);
+    other = slice_of(TYPEKEY_MOST_KEY + 2, 1);
+    pairs = slice_of(TYPEKEY_DIFFER_LIST_WORDS(TYPEKEY_MOST_KEY + 2, TYPEKEY_MOST_KEY + 2), 8);
 }
 
 static void dirty_answer(void) { memset(answer_room, 0xff, sizeof answer_room); }
@@ -131,5 +133,25 @@ static void take_back_lent(void) {
     must(answer[0] == 6 || answer[0] == 8 || answer[0] == 10 || answer[0] == 11, "no refusal of taking back");
     must(answer[1] <= 8 * key.count, "bit of a refusal");
     zero_from(&nodes, 0, "nodes after a refusal"), zero_from(&names, 0, "names after a refusal"), zero_from(&letters, 0, "text after a refusal");
+}
+
+/* The same for two keys, `key` on the left and `other` on the right. */
+static inline void differ_lent(void) {
+    dirty_answer();
+    typekey_differ(key.at, key.count, other.at, other.count, words_mut(&pairs), pairs.count, answer);
+    watch(&key), watch(&other), watch(&pairs);
+    if (answer[0] == 0) {
+        watch_answer(2);
+        zero_from(&pairs, 2 * answer[1], "words past the last pair are not 0");
+        for (uint64_t i = 0, a = 4, b = 4; i < answer[1]; a = words(&pairs)[2 * i] + 1, b = words(&pairs)[2 * i + 1] + 1, i++)
+            must(a <= words(&pairs)[2 * i] && words(&pairs)[2 * i] < 8 * key.count && b <= words(&pairs)[2 * i + 1] && words(&pairs)[2 * i + 1] < 8 * other.count,
+                 "pairs do not rise inside the keys");
+        must((answer[1] == 0) == (key.count == other.count && memcmp(key.at, other.at, key.count) == 0), "no pair of two keys, or a pair of one");
+        return;
+    }
+    watch_answer(3);
+    must(answer[0] == 6 || answer[0] == 10 || answer[0] == 29, "no refusal of comparing");
+    must(answer[0] == 29 ? answer[1] + answer[2] == 0 : answer[1] == 1 ? answer[2] <= 8 * key.count : answer[1] == 2 && answer[2] <= 8 * other.count, "side or bit of a refusal");
+    zero_from(&pairs, 0, "list after a refusal");
 }
 #endif

@@ -13,7 +13,7 @@ use Rattle.keys.proofs.BitsLaws.{clash, length-bits, length-bytes}
 use Rattle.keys.specs.Form.{Value, choice, Form, never, one, word, choose, both, child, Grammar, nodes, names, Bytes, write, Fits, fits-one, fits-word, fits-choose, fits-both, fits-child}
 use Rattle.keys.proofs.FormLaws.{letters-written}
 use Rattle.keys.proofs.KeyLaws.{length-packed}
-use Rattle.keys.specs.Limits.{edition}
+use Rattle.keys.specs.Limits.{newest, edition}
 use Rattle.keys.specs.Table.{wholeKey}
 use Rattle.keys.specs.Key.{Taken, taken, refused, nodeTable, keyOf, IsTree, IsKey, IsRefusal, is-tooTall, is-noRoom, is-badKey, is-noSpace}
 use Rattle.keys.proofs.TakeLaws.{with-edition}
@@ -31,7 +31,7 @@ abbrev starts : Form → Bool
 starts never = true
 starts one = false
 starts (word w) = true
-starts (choose w fs) = leb 1 w
+starts (choose w x fs) = leb 1 w
 starts (both f g) = starts f
 starts (child c) = false
 
@@ -98,15 +98,15 @@ pub record Passed (key : List ℕ) : Type 0 where
 
 -- Bytes pass the check as a tree exactly where the tree is one of the node table within the limits, and they are its key: room is never short.
 pub passes : (key : List ℕ) → Bytes key → (t : Value) → (checked key ≡ taken t) ↔ (IsTree t × (key ≡ keyOf t))
-passes key ok t = (λ e. let k = exactly ok .0 e in (k .isTree, k .is), λ p. exactly ok .1 (roomy (p .0) (p .1)))
+passes key ok t = (λ e. let k = exactly newest ok .0 e in (k .isTree, k .is), λ p. exactly newest ok .1 (roomy (p .0) (p .1)))
   where
     roomy : IsTree t → key ≡ keyOf t → IsKey (length key * 8) (length key * 8) (length key) t key
     roomy a e =
         let l : length key ≡ length (keyOf t) = ap length e in
         let w = length-packed (write nodeTable wholeKey (choice edition t)) in
-        let i = few nodeTable starting-table (with-edition (a .fits)) .most in
-        let j = names-few nodeTable starting-table (with-edition (a .fits)) in
-        let k = letters-written nodeTable (with-edition (a .fits)) in
+        let i = few nodeTable starting-table (with-edition newest (a .fits)) .most in
+        let j = names-few nodeTable starting-table (with-edition newest (a .fits)) in
+        let k = letters-written nodeTable (with-edition newest (a .fits)) in
         record { isTree = a; hasRoom = record { forNodes = omega arith; forNames = omega arith; forText = omega arith }; is = e }
 
 -- The check answers zero exactly for what passes.

@@ -70,7 +70,7 @@ module _ (bs : Bits) where
       let j : a ≡ e = cc in
       omega arith
   later-form X h (word w) a c e i = later-word w a c e i
-  later-form X h (choose w fs) a c e i =
+  later-form X h (choose w x fs) a c e i =
       later-choice w fs a (λ k. after (chooses k ends) (readForm bs X (fs k) (a + w)))
       (λ t. later-after (chooses t ends) (readForm bs X (fs t) (a + w)) a (a + w) (omega arith) (later-form X h (fs t) (a + w))) c e i
   later-form X h (both f g) a c e i = by (readForm bs X f a) refl (later-form X h f a) (λ b. later-form X h g b)

@@ -25,7 +25,7 @@ pub record Roomy (d : ℕ) (s : State) : Type 0 where
 pub data Eager : Form → Type 0 where
   eager-never : Eager never
   eager-word : {w : ℕ} → Eager (word w)
-  eager-choose : {w : ℕ} {fs : ℕ → Form} → 1 ≤ w → Eager (choose w fs)
+  eager-choose : {w x : ℕ} {fs : ℕ → Form} → 1 ≤ w → Eager (choose w x fs)
   eager-both : {f g : Form} → Eager f → Eager (both f g)
 
 -- A content and what follows it.
@@ -127,7 +127,7 @@ module _ (all : Bits) (G : Grammar) where
     field-size w t r i = ap length (i .bits) ∙ length-append (bitsOf w t) r ∙ ap (λ (x : ℕ). x + length r) (length-bits w t)
 
   -- A choice and what it leads to.
-  into-choice : (w : ℕ) (fs : ℕ → Form) (a t : ℕ) {x : Result} {y : Scan} → Same (fs t) (a + w) x y → Same (choose w fs) a (into (choice t) x) (after (chooses t ends) y)
+  into-choice : (w : ℕ) {z : ℕ} (fs : ℕ → Form) (a t : ℕ) {x : Result} {y : Scan} → Same (fs t) (a + w) x y → Same (choose w z fs) a (into (choice t) x) (after (chooses t ends) y)
   into-choice w fs a t (same-got v s e i j k p n) =
       same-got (choice t v) s e (ap (into (choice t)) i) (ap (after (chooses t ends)) j)
       (omega (arith, k, length-append (bitsOf w t) (write G (fs t) v), length-bits w t)) p n
@@ -159,8 +159,8 @@ module _ (all : Bits) (G : Grammar) where
     same-form never s a h n = stops h never badKey refl
     same-form one s a h n = same-got nothing s a refl refl (omega arith) h n
     same-form (word w) s a h n = same-word h w (record { nodes = omega (arith, n .nodes); names = n .names; text = n .text })
-    same-form (choose w fs) s a h n =
-        choice-by h (Same (choose w fs) a) w fs _ _ (stops h (choose w fs) badKey refl)
+    same-form (choose w x fs) s a h n =
+        choice-by h (Same (choose w x fs) a) w fs _ _ (stops h (choose w x fs) badKey refl)
         λ t r i. into-choice w fs a t
         (same-form (fs t) (state (s .nodesLeft) (s .namesLeft) (s .textLeft) r) (a + w) (past-field h w t r i (s .nodesLeft) (s .namesLeft) (s .textLeft))
         (record { nodes = omega (arith, field-size h w t r i, n .nodes); names = omega (arith, field-size h w t r i, n .names); text = omega (arith, field-size h w t r i, n .text) }))
@@ -171,8 +171,8 @@ module _ (all : Bits) (G : Grammar) where
     same-eager : {f : Form} → Eager f → (s : State) (a : ℕ) → At a s → Roomy 1 s → Same f a (takeForm X f s) (readForm all Y f a)
     same-eager eager-never s a h n = stops h never badKey refl
     same-eager (eager-word {w = w}) s a h n = same-word h w n
-    same-eager (eager-choose {w = w} {fs = fs} l) s a h n =
-        choice-by h (Same (choose w fs) a) w fs _ _ (stops h (choose w fs) badKey refl)
+    same-eager (eager-choose {w = w} {x = x} {fs = fs} l) s a h n =
+        choice-by h (Same (choose w x fs) a) w fs _ _ (stops h (choose w x fs) badKey refl)
         λ t r i. into-choice w fs a t
         (same-form (fs t) (state (s .nodesLeft) (s .namesLeft) (s .textLeft) r) (a + w) (past-field h w t r i (s .nodesLeft) (s .namesLeft) (s .textLeft))
         (record { nodes = omega (arith, field-size h w t r i, n .nodes); names = omega (arith, field-size h w t r i, n .names); text = omega (arith, field-size h w t r i, n .text) }))

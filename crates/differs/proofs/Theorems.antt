@@ -252,7 +252,7 @@ word-first : {G : Grammar} {w : ℕ} {g : Form} {v : Value} → Fits G (both (wo
 word-first {G} (fits-both {g = g} {b = u} (fits-word {w = w} {s = s} l m n) y) =
     omega (arith, length-append (bitsOf w (length s) ++ bitsOfBytes s) (write G g u), length-append (bitsOf w (length s)) (bitsOfBytes s), length-bytes s)
 
-choice-first : {G : Grammar} {w : ℕ} {fs : ℕ → Form} {g : Form} {v : Value} → 1 ≤ w → Fits G (both (choose w fs) g) v → 1 ≤ length (write G (both (choose w fs) g) v)
+choice-first : {G : Grammar} {w x : ℕ} {fs : ℕ → Form} {g : Form} {v : Value} → 1 ≤ w → Fits G (both (choose w x fs) g) v → 1 ≤ length (write G (both (choose w x fs) g) v)
 choice-first {G} h (fits-both {g = g} {b = u} (fits-choose {w = w} {fs = fs} {k = k} {v = v} l m) y) =
     omega (arith, length-append (bitsOf w k ++ write G (fs k) v) (write G g u), length-append (bitsOf w k) (write G (fs k) v), length-bits w k)
 

@@ -1,18 +1,18 @@
 -- A whole key: its length, its edition, its tree and its last bits.
 use mathlib.Core.Path.{_≡_, refl, sym, ap, ap₂, _∙_, subst}
 use mathlib.Core.Bool.{Bool, true}
-use mathlib.Core.List.{List, [], _∷_}
+use mathlib.Core.List.{List}
 use Prim.Native.Nat.{ℕ, zero, suc, _+_, _-_, _*_, _%_, _≤_, _<_}
 use native.Mathlib.Nat.{le-refl}
 use native.Mathlib.Omega.{arith}
-use borrow.Author.Tests.{le-leb, lt-leb}
+use borrow.Author.Tests.{le-leb, lt-leb, ne-eqb}
 use lib.ListN.{length, drop, length-drop}
 use Rattle.keys.specs.Bits.{Bits, short, field, takeField, bitsOfBytes}
 use Rattle.keys.proofs.BitsLaws.{clash, length-bytes}
-use Rattle.keys.specs.Form.{Value, nothing, choice, never, child, Grammar, isNever, State, state, Result, stop, into, allowed, ifWhole, takeForm, takeNode}
-use Rattle.keys.specs.Limits.{longestKey, tallest, countWidth, badKey}
-use Rattle.keys.specs.Table.{oneOf, type, wholeKey}
-use Rattle.keys.specs.Key.{Taken, padding, closed, taken, refused, placeOf, outcome, nodeTable, takeWithin}
+use Rattle.keys.specs.Form.{Value, nothing, choice, child, Grammar, isNever, State, state, Result, stop, into, allowed, ifWhole, takeForm, takeNode}
+use Rattle.keys.specs.Limits.{longestKey, tallest, newest, countWidth, badKey}
+use Rattle.keys.specs.Table.{when, type, typeUnder, wholeKey}
+use Rattle.keys.specs.Key.{padding, closed, taken, refused, refusalPlace, outcome, nodeTable, takeWithin}
 use Rattle.fields.specs.Take.{answered}
 use Rattle.fields.specs.declared.take.TakenField.the-variants.{Number, Short}
 use Rattle.fields.proofs.Chunks.{Told, number-told, field-short}
@@ -39,10 +39,9 @@ eager-table (suc (suc (suc (suc (suc zero))))) zero e = eager-both (eager-choose
 eager-table (suc (suc (suc (suc (suc zero))))) (suc t) e = eager-never
 eager-table (suc (suc (suc (suc (suc (suc c)))))) t e = eager-never
 
-other-edition : (e : ℕ) → (e ≡ 1 → ⊥) → isNever (oneOf (never ∷ type ∷ []) e) ≡ true
-other-edition zero h = refl
-other-edition (suc zero) h = absurd (h refl)
-other-edition (suc (suc e)) h = refl
+-- Another edition's number leads to nothing.
+other-edition : (e : ℕ) → (e ≡ 1 → ⊥) → isNever (typeUnder newest e) ≡ true
+other-edition e h = ap (λ (b : Bool). isNever (when b type)) (ne-eqb e 1 h)
 
 module _ (T key : List ℕ) where
   abbrev bs : Bits
@@ -63,11 +62,11 @@ module _ (T key : List ℕ) where
       })
 
   pub whole-long : longestKey < length key → (r : Check) → r ≡ checkAt badKey 0 → Wholly T key r
-  whole-long h r e = bad (ap (λ (b : Bool). takeWithin b (length key * 8) (length key * 8) (length key) key) (lt-leb (length key) longestKey h)) r e
+  whole-long h r e = bad (ap (λ (b : Bool). takeWithin newest b (length key * 8) (length key * 8) (length key) key) (lt-leb (length key) longestKey h)) r e
 
   module _ (h : length key ≤ longestKey) where
     within : checked key ≡ outcome (length (bitsOfBytes key)) (closed (takeForm (takeNode nodeTable tallest) wholeKey S))
-    within = ap (λ (b : Bool). takeWithin b (length key * 8) (length key * 8) (length key) key) (le-leb (length key) longestKey h)
+    within = ap (λ (b : Bool). takeWithin newest b (length key * 8) (length key * 8) (length key) key) (le-leb (length key) longestKey h)
 
     early : takeForm (takeNode nodeTable tallest) wholeKey S ≡ stop badKey (length (bitsOfBytes key)) → checked key ≡ refused badKey 0
     early e =
@@ -75,10 +74,10 @@ module _ (T key : List ℕ) where
         ∙ ap (refused badKey) (let z : length (bitsOfBytes key) - length (bitsOfBytes key) ≡ 0 = omega arith in z)
 
     abbrev K : ℕ → Bits → Result
-    K t r = into (choice t) (takeForm (takeNode nodeTable tallest) (oneOf (never ∷ type ∷ []) t) (state (length key * 8) (length key * 8) (length key) r))
+    K t r = into (choice t) (takeForm (takeNode nodeTable tallest) (typeUnder newest t) (state (length key * 8) (length key * 8) (length key) r))
 
     pub whole-short : Short ≡ answered (takeField 4 (drop 0 (bitsOfBytes key))) → (r : Check) → r ≡ checkAt badKey 0 → Wholly T key r
-    whole-short e r i = bad (early (ap (ifWhole S (oneOf (never ∷ type ∷ [])) K) (field-short (takeField 4 bs) e))) r i
+    whole-short e r i = bad (early (ap (ifWhole S (typeUnder newest) K) (field-short (takeField 4 bs) e))) r i
 
     module _ (e : ℕ) (i : Number e ≡ answered (takeField 4 (drop 0 (bitsOfBytes key)))) where
       t : Told (bitsOfBytes key) 0 4 e
@@ -87,8 +86,8 @@ module _ (T key : List ℕ) where
       pub whole-four : 4 ≤ length key * 8
       whole-four = omega (arith, t .within (omega arith), length-bytes key)
 
-      in-edition : takeForm (takeNode nodeTable tallest) wholeKey S ≡ allowed S K e (drop (0 + 4) (bitsOfBytes key)) (isNever (oneOf (never ∷ type ∷ []) e))
-      in-edition = ap (ifWhole S (oneOf (never ∷ type ∷ [])) K) (t .is)
+      in-edition : takeForm (takeNode nodeTable tallest) wholeKey S ≡ allowed S K e (drop (0 + 4) (bitsOfBytes key)) (isNever (typeUnder newest e))
+      in-edition = ap (ifWhole S (typeUnder newest) K) (t .is)
 
       pub whole-other : (e ≡ 1 → ⊥) → (r : Check) → r ≡ checkAt badKey 0 → Wholly T key r
       whole-other z r j = bad (early (in-edition ∙ ap (allowed S K e (drop (0 + 4) bs)) (other-edition e z))) r j
@@ -96,13 +95,13 @@ module _ (T key : List ℕ) where
       module _ (z : e ≡ 1) (w : T ≡ tableWords countWidth) where
         in-tree : takeForm (takeNode nodeTable tallest) wholeKey S
             ≡ into (choice 1) (takeNode nodeTable tallest 0 (state (length key * 8) (length key * 8) (length key) (drop 4 (bitsOfBytes key))))
-        in-tree = in-edition ∙ ap (λ (x : ℕ). allowed S K x (drop (0 + 4) bs) (isNever (oneOf (never ∷ type ∷ []) x))) z
+        in-tree = in-edition ∙ ap (λ (x : ℕ). allowed S K x (drop (0 + 4) bs) (isNever (typeUnder newest x))) z
 
         -- Reading by the words and taking with room enough.
         agrees : Same (bitsOfBytes key) nodeTable (child 0) 4 (takeNode nodeTable tallest 0 (state (length key * 8) (length key * 8) (length key) (drop 4 (bitsOfBytes key)))) (readNode (bitsOfBytes key) (grammarOf T) tallest 0 4)
         agrees =
             subst (Same (bitsOfBytes key) nodeTable (child 0) 4 (takeNode nodeTable tallest 0 (state (length key * 8) (length key * 8) (length key) (drop 4 (bitsOfBytes key)))))
-            (sym (ap (λ (G : Grammar). readNode (bitsOfBytes key) G tallest 0 4) (ap grammarOf w ∙ words-are countWidth) ∙ lined-read (bitsOfBytes key) nodeTable 54 table-fine tallest 0 4))
+            (sym (ap (λ (G : Grammar). readNode (bitsOfBytes key) G tallest 0 4) (ap grammarOf w ∙ words-are newest) ∙ lined-read (bitsOfBytes key) nodeTable 54 table-fine tallest 0 4))
             (same-node (bitsOfBytes key) nodeTable eager-table tallest 0 (state (length key * 8) (length key * 8) (length key) (drop 4 (bitsOfBytes key))) 4
             (record { bits = refl; in-key = omega (arith, whole-four, length-bytes key) })
             (record { nodes = omega (arith, length-drop 4 (bitsOfBytes key), length-bytes key, whole-four); names = omega (arith, length-drop 4 (bitsOfBytes key), length-bytes key); text = omega (arith, length-drop 4 (bitsOfBytes key), length-bytes key) }))
@@ -126,7 +125,7 @@ module _ (T key : List ℕ) where
                         record {
                           stopped =
                               λ _. within ∙ ap (λ (u : Result). outcome (length bs) (closed u)) (in-tree ∙ ap (into (choice 1)) x)
-                              ∙ ap₂ (λ (u : Bool) (m : ℕ). refused n (placeOf u m)) g (back-to b l) ∙ ap₂ refused q₁ q₂;
+                              ∙ ap₂ (λ (u : Bool) (m : ℕ). refused n (refusalPlace u m)) g (back-to b l) ∙ ap₂ refused q₁ q₂;
                           tree = nothing;
                           good = λ j. absurd (o j);
                         };

@@ -78,7 +78,7 @@ module _ (bs : Bits) where
   readForm X never a = fails badKey a
   readForm X one a = reads ends a
   readForm X (word w) a = readSpelling w a
-  readForm X (choose w fs) a = readChoice w fs a λ k. after (chooses k ends) (readForm X (fs k) (a + w))
+  readForm X (choose w x fs) a = readChoice w fs a λ k. after (chooses k ends) (readForm X (fs k) (a + w))
   readForm X (both f g) a = thenRead (readForm X f a) λ e. readForm X g e
   readForm X (child c) a = X c a
 

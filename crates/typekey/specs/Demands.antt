@@ -1,18 +1,20 @@
--- The three demands, sentence by sentence, of what a caller of the two open calls sees. A text or a key is a list of bytes; trees are compared as bare values, positions aside.
--- That what is seen is `left c` or `takeBack`, whatever is given and lent, is the promise of each call: `Reads` in `calls/specs/Reading`, `TakesBack` in Taking.
-use mathlib.Core.Path.{_≡_, sym, ap, _∙_, subst}
+-- The three demands, sentence by sentence, of what a caller of the open calls sees, and what W9 asks of the third. A text or a key is a list of bytes; trees are compared as bare values, positions aside.
+-- That what is seen is `left c`, `takeBack` or `differ`, whatever is given and lent, is the promise of each call: `Reads` in `calls/specs/Reading`, `TakesBack` in Taking, `Differs` in `differs/specs/Call`.
+use mathlib.Core.Path.{_≡_, refl, sym, ap, _∙_, subst}
 use mathlib.Core.Logic.{_↔_}
-use mathlib.Core.Bool.{true, false}
-use mathlib.Core.List.{List}
-use Prim.Native.Nat.{ℕ, _/_}
+use mathlib.Core.Bool.{Bool, true, false}
+use mathlib.Core.List.{List, []}
+use Prim.Native.Nat.{ℕ, _+_, _*_, _/_}
+use lib.Dec.{leb}
 use lib.ListN.{length, take}
 use lib.Seq.{take-append-seam}
 use Rattle.keys.specs.Bits.{bitsOfBytes}
-use Rattle.keys.specs.Form.{Value, Bytes, nodes}
-use Rattle.keys.specs.Limits.{newest, recordWords}
+use Rattle.keys.specs.Form.{Value, Bytes, nodes, write}
+use Rattle.keys.specs.Limits.{newest, recordWords, editionWidth}
+use Rattle.keys.specs.Table.{type}
 use Rattle.keys.specs.Placed.{Placed, bare}
 use Rattle.keys.specs.Key as table
-use Rattle.keys.specs.Key.{taken, refused, keyOf, HasRoom, IsKey}
+use Rattle.keys.specs.Key.{taken, refused, nodeTable, keyOf, HasRoom, IsKey}
 use Rattle.keys.specs.Store.{TakenBack, back, no, lent, takeBack, nodesOf, namesOf, Left}
 use Rattle.keys.specs.Holds.{Stands}
 use Rattle.keys.proofs.BitsLaws.{clash}
@@ -22,11 +24,20 @@ use Rattle.rules.specs.State.{State}
 use Rattle.rules.specs.Read.{granted, refuses, Called, written}
 use Rattle.rules.specs.Call.{Call, left, grants, keyLeft, Granted, Kept, AllZero, IsRefusal}
 use Rattle.rules.proofs.Theorems as rules
+use Rattle.differs.specs.Content.{Pair, contentOf, differences}
+use Rattle.differs.specs.Differ as difference
+use Rattle.differs.specs.Differ.{checked, found, Differed, declined, reported, besides, begins, differ, turned, Rises, manyDifferences, noSide, leftSide, rightSide}
+use Rattle.differs.specs.Call as differing
+use Rattle.differs.proofs.Theorems as pairs
+use Rattle.differs.proofs.Keys as alike
 use Rattle.calls.specs.Reading as reading
 use Rattle.typekey.specs.Taking as taking
 use Rattle.calls.specs.declared.reading.Reading.{Reading}
 use Rattle.calls.specs.declared.reading.Reading.the-variants as reads
 use Rattle.calls.specs.declared.reading.Reading.the-variants.{Read}
+use Rattle.differs.specs.declared.differ.Differing.{Differing}
+use Rattle.differs.specs.declared.differ.Differing.the-variants as compares
+use Rattle.differs.specs.declared.differ.Differing.the-variants.{Found}
 use Rattle.typekey.specs.declared.taking.Taking.{Taking}
 use Rattle.typekey.specs.declared.taking.Taking.the-variants as takes
 use Rattle.typekey.specs.declared.taking.Taking.the-variants.{Taken}
@@ -98,6 +109,74 @@ module _ (key : List ℕ) (bytes : Bytes key) (a b d : ℕ) {z : TakenBack} (see
 pub one-tree : {n k m n' k' m' : ℕ} {key : List ℕ} {t u : Value} → IsKey n k m t key → IsKey n' k' m' u key → t ≡ u
 one-tree x y = keys.one-tree newest x y
 
+-- ---- What a caller of `differ` sees, who lends a list of n words
+
+-- A refusal is one that taking back may meet: the left key's, or else the right key's; or 29, which has no side and no bit.
+pub data IsDeclined (left right : List ℕ) : (number side bit : ℕ) → Type 0 where
+  of-left : {number bit : ℕ} → table.IsRefusal (length (bitsOfBytes left)) number bit → IsDeclined left right number leftSide bit
+  of-right : {number bit : ℕ} → table.IsRefusal (length (bitsOfBytes right)) number bit → IsDeclined left right number rightSide bit
+  of-neither : IsDeclined left right manyDifferences noSide 0
+
+module _ (n : ℕ) (left right : List ℕ) {z : Differed} (seen : z ≡ differ n left right) where
+  -- W9: a refusal has one of the numbers, its side, and a bit of that key or its end; 0 for 29. It leaves zeros.
+  pub undiffered : {number side bit : ℕ} → z .answer ≡ difference.no number side bit → IsDeclined left right number side bit × (z ≡ declined n number side bit)
+  undiffered {number} {side} {bit} e =
+      let w = by-left (checked left) refl (sym (ap (λ y. y .answer) seen) ∙ e) in (w .0, seen ∙ w .1)
+    where
+      Is : Differed → Type 0
+      Is d = d .answer ≡ difference.no number side bit → IsDeclined left right number side bit × (d ≡ declined n number side bit)
+
+      listed : (b : Bool) (l : List Pair) → Is (reported n b l)
+      unfolding Is
+      listed true l f = clash (cc)
+      listed false l f =
+          let a : manyDifferences ≡ number = cc in
+          let b : noSide ≡ side = cc in
+          let c : 0 ≡ bit = cc in
+          (subst (λ (x : ℕ). IsDeclined left right x side bit) a (subst (λ (x : ℕ). IsDeclined left right manyDifferences x bit) b (subst (λ (x : ℕ). IsDeclined left right manyDifferences noSide x) c of-neither)), λ i. declined n (a i) (b i) (c i))
+
+      by-right : (t : Value) (o : table.Taken) → checked right ≡ o → Is (besides n t o)
+      unfolding Is
+      by-right t (taken u) j f =
+          listed (leb (length (differences (contentOf nodeTable t) (contentOf nodeTable u))) (n / 2)) (differences (contentOf nodeTable t) (contentOf nodeTable u)) f
+      by-right t (refused w x) j f =
+          let a : w ≡ number = cc in
+          let b : rightSide ≡ side = cc in
+          let c : x ≡ bit = cc in
+          let h = keys.refusals newest (length right * 8) (length right * 8) (length right) right j in
+          (subst (λ (y : ℕ). IsDeclined left right y side bit) a (subst (λ (y : ℕ). IsDeclined left right w y bit) b (subst (λ (y : ℕ). IsDeclined left right w rightSide y) c (of-right h))), λ i. declined n (a i) (b i) (c i))
+
+      by-left : (o : table.Taken) → checked left ≡ o → Is (begins n o right)
+      unfolding Is
+      by-left (taken t) j f = by-right t (checked right) refl f
+      by-left (refused w x) j f =
+          let a : w ≡ number = cc in
+          let b : leftSide ≡ side = cc in
+          let c : x ≡ bit = cc in
+          let h = keys.refusals newest (length left * 8) (length left * 8) (length left) left j in
+          (subst (λ (y : ℕ). IsDeclined left right y side bit) a (subst (λ (y : ℕ). IsDeclined left right w y bit) b (subst (λ (y : ℕ). IsDeclined left right w leftSide y) c (of-left h))), λ i. declined n (a i) (b i) (c i))
+
+  -- Of two keys, each of a tree (`alike.passes`):
+  module _ (bytes : Bytes left) (bytes' : Bytes right) {t u : Value} (l-is : checked left ≡ taken t) (r-is : checked right ≡ taken u) where
+    -- there is no pair exactly where they are the same bytes ..
+    pub no-pair-alike : (z .answer ≡ found 0) ↔ (left ≡ right)
+    no-pair-alike =
+        let same = alike.same-bytes n left right bytes bytes' l-is r-is in
+        (λ e. same .0 (sym (ap (λ y. y .answer) seen) ∙ e), λ e. ap (λ y. y .answer) seen ∙ same .1 e)
+
+    -- .. and that is where the trees are the same;
+    pub no-pair-one-tree : (differences (contentOf nodeTable t) (contentOf nodeTable u) ≡ []) ↔ (t ≡ u)
+    no-pair-one-tree = pairs.none-same (alike.passes left bytes t .0 l-is .0 .fits) (alike.passes right bytes' u .0 r-is .0 .fits)
+
+    -- the list holds the pairs, or there are too many; exchanging the keys exchanges the sides of each pair, and no more;
+    pub pairs-turn : {z' : Differed} → z' ≡ differ n right left → (l : List Pair) → l ≡ differences (contentOf nodeTable t) (contentOf nodeTable u)
+        → (z ≡ reported n (leb (length l) (n / 2)) l) × (z' ≡ reported n (leb (length l) (n / 2)) (turned l))
+    pairs-turn seen' l e = let w = pairs.call-turned n left right l-is r-is l e in (seen ∙ w .0, seen' ∙ w .1)
+
+    -- each place stands there once, in the key's order, inside the tree.
+    pub pairs-rise : Rises editionWidth editionWidth (differences (contentOf nodeTable t) (contentOf nodeTable u)) (editionWidth + length (write nodeTable type t)) (editionWidth + length (write nodeTable type u))
+    pairs-rise = pairs.in-order (alike.passes left bytes t .0 l-is .0 .fits) (alike.passes right bytes' u .0 r-is .0 .fits)
+
 -- ---- Two readings, under either option
 module _ {c c' : Call} {t t' : Placed} {s s' : State} (x : Granted c t s) (x' : Granted c' t' s') {z z' : Called} (seen : z ≡ left c) (seen' : z' ≡ left c') where
   -- Demand 3: they have equal keys exactly when the rules give the same tree.
@@ -158,3 +237,19 @@ pub one-taking : {c : TakenBack} (r r' : Taking) {N M X N' M' X' : List ℕ} →
     → (r ≡ r') × (N ≡ N') × (M ≡ M') × (X ≡ X')
 one-taking r r' a b =
     let e = a ∙ sym b in (same-taking r r' (ap (λ y. y .answer) e), ap (λ y. y .nodeWords) e, ap (λ y. y .nameWords) e, ap (λ y. y .text) e)
+
+same-difference : (a b : Differing) → differing.answerOf a ≡ differing.answerOf b → a ≡ b
+same-difference (Found n) (Found m) e =
+    let e0 : n ≡ m = cc in ap Found e0
+same-difference (Found n) (compares.Refused w s p) e = clash (cc)
+same-difference (compares.Refused w s p) (Found m) e = clash (cc)
+same-difference (compares.Refused w s p) (compares.Refused w' s' p') e =
+    let e0 : w ≡ w' = cc in
+    let e1 : s ≡ s' = cc in
+    let e2 : p ≡ p' = cc in
+    λ i. compares.Refused (e0 i) (e1 i) (e2 i)
+
+-- Of `differ`.
+pub one-difference : {c : Differed} (r r' : Differing) {L L' : List ℕ} → differing.seen r L ≡ c → differing.seen r' L' ≡ c → (r ≡ r') × (L ≡ L')
+one-difference r r' a b =
+    let e = a ∙ sym b in (same-difference r r' (ap (λ y. y .answer) e), ap (λ y. y .list) e)

@@ -8,7 +8,10 @@ use Rattle.calls.specs.Reading as reading
 use Rattle.typekey.specs.Taking as taking
 use Rattle.calls.specs.declared.reading.Reading.{Reading}
 use Rattle.typekey.specs.declared.taking.Taking.{Taking}
-use Rattle.typekey_c.specs.Words.{told, TellsIn, toldBack, TellsBackIn}
+use Rattle.differs.specs.Differ.{Differed}
+use Rattle.differs.specs.Call as difference
+use Rattle.differs.specs.declared.differ.Differing.{Differing}
+use Rattle.typekey_c.specs.Words.{told, TellsIn, toldBack, TellsBackIn, toldDifference, TellsDifferenceIn}
 
 pub tells : {c : Called} {r s : Reading} {N M O K : List ℕ} → reading.seen r N M O K ≡ c → r ≡ s → TellsIn c (told (reading.answerOf s)) N M O K
 tells {s = s} e f =
@@ -30,3 +33,8 @@ tells-back {s = s} e f =
       names-are = ap (λ y. y .nameWords) seen;
       text-is = ap (λ y. y .text) seen;
     }
+
+pub tells-difference : {d : Differed} {r s : Differing} {L : List ℕ} → difference.seen r L ≡ d → r ≡ s → TellsDifferenceIn d (toldDifference (difference.answerOf s)) L
+tells-difference {s = s} e f =
+    let seen = rw f at e in
+    record { answer-is = ap (λ y. toldDifference (y .answer)) seen; list-is = ap (λ y. y .list) seen }

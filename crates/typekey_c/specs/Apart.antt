@@ -1,7 +1,8 @@
 -- The words tell the answer: no two answers that the calls give are told by the same words, since no refusal has the number 0.
 use mathlib.Core.Path.{_≡_, refl}
+use mathlib.Core.Bool.{Bool, true, false}
 use mathlib.Core.List.{List}
-use Prim.Native.Nat.{ℕ, suc, zero, _<_, _/_}
+use Prim.Native.Nat.{ℕ, zero, suc, _*_, _<_, _/_}
 use native.Mathlib.Omega.{arith}
 use Rattle.keys.specs.Form.{Bytes}
 use Rattle.keys.specs.Key as key
@@ -16,7 +17,14 @@ use Rattle.rules.specs.Read.{reads, refuses}
 use Rattle.rules.specs.Call as call
 use Rattle.rules.specs.Call.{Call, left}
 use Rattle.rules.proofs.Theorems as theorems
-use Rattle.typekey_c.specs.Words.{told, toldBack}
+use lib.Dec.{leb}
+use lib.ListN.{length}
+use Rattle.keys.specs.Form.{Value}
+use Rattle.keys.specs.Key.{nodeTable}
+use Rattle.differs.specs.Content.{Pair, contentOf, differences}
+use Rattle.differs.specs.Differ as differs
+use Rattle.differs.specs.Differ.{checked, begins, besides, compared, reported, differ, found}
+use Rattle.typekey_c.specs.Words.{told, toldBack, toldDifference}
 
 -- ---- Reading
 
@@ -87,3 +95,48 @@ pub told-back-apart : (k k' : List ℕ) (a b c a' b' c' : ℕ) → toldBack (tak
     → takeBack k a b c .answer ≡ takeBack k' a' b' c' .answer
 told-back-apart k k' a b c a' b' c' e =
     apart-back (takeBack k a b c .answer) (takeBack k' a' b' c' .answer) (numbered-back k a b c) (numbered-back k' a' b' c') e
+
+-- ---- What differs
+
+NumberedDifference : differs.Answer → Type 0
+NumberedDifference a = (n i p : ℕ) → a ≡ differs.no n i p → 0 < n
+
+apart-difference : (a b : differs.Answer) → NumberedDifference a → NumberedDifference b → toldDifference a ≡ toldDifference b → a ≡ b
+unfolding NumberedDifference
+apart-difference (found m) (found m') p q e = cc
+apart-difference (found m) (differs.no n' i' b') p q e =
+    let z : n' ≡ 0 = cc in
+    let h = q n' i' b' refl in clash (omega arith)
+apart-difference (differs.no n i b) (found m') p q e =
+    let z : n ≡ 0 = cc in
+    let h = p n i b refl in clash (omega arith)
+apart-difference (differs.no n i b) (differs.no n' i' b') p q e = cc
+
+numbered-difference : (m : ℕ) (l r : List ℕ) → NumberedDifference (differ m l r .answer)
+unfolding NumberedDifference
+numbered-difference m l r n i p e = left (checked l) refl e
+  where
+    listed : (b : Bool) (d : List Pair) → reported m b d .answer ≡ differs.no n i p → 0 < n
+    listed true d f = clash (cc)
+    listed false d f =
+        let same : 29 ≡ n = cc in
+        omega arith
+
+    right : (t : Value) (o : Taken) → checked r ≡ o → besides m t o .answer ≡ differs.no n i p → 0 < n
+    right t (taken u) j f =
+        listed (leb (length (differences (contentOf nodeTable t) (contentOf nodeTable u))) (m / 2)) (differences (contentOf nodeTable t) (contentOf nodeTable u)) f
+    right t (refused w x) j f =
+        let same : w ≡ n = cc in
+        let h = above-zero-back (keys.refusals newest (length r * 8) (length r * 8) (length r) r j) in omega arith
+
+    left : (o : Taken) → checked l ≡ o → begins m o r .answer ≡ differs.no n i p → 0 < n
+    left (taken t) j f = right t (checked r) refl f
+    left (refused w x) j f =
+        let same : w ≡ n = cc in
+        let h = above-zero-back (keys.refusals newest (length l * 8) (length l * 8) (length l) l j) in omega arith
+
+-- Two comparisons that are told by the same words have the same answer.
+pub told-difference-apart : (m m' : ℕ) (l r l' r' : List ℕ) → toldDifference (differ m l r .answer) ≡ toldDifference (differ m' l' r' .answer)
+    → differ m l r .answer ≡ differ m' l' r' .answer
+told-difference-apart m m' l r l' r' e =
+    apart-difference (differ m l r .answer) (differ m' l' r' .answer) (numbered-difference m l r) (numbered-difference m' l' r') e

@@ -10,6 +10,8 @@ use Rattle.keys.specs.Store.{TakenBack, takeBack}
 use Rattle.rules.specs.Read as rules
 use Rattle.rules.specs.Read.{Called, read}
 use Rattle.calls.specs.Reading.{Slice, lentOf}
+use Rattle.differs.specs.Differ as differs
+use Rattle.differs.specs.Differ.{Differed, differ}
 
 -- ---- Reading
 
@@ -66,3 +68,25 @@ TellsBack key nodes names text answer =
 pub one-told-back : {d : TakenBack} {A N M X A' N' M' X' : List ℕ} → TellsBackIn d A N M X → TellsBackIn d A' N' M' X' → (A ≡ A') × (N ≡ N') × (M ≡ M') × (X ≡ X')
 one-told-back x y =
     (x .answer-is ∙ sym (y .answer-is), x .nodes-are ∙ sym (y .nodes-are), x .names-are ∙ sym (y .names-are), x .text-is ∙ sym (y .text-is))
+
+-- ---- What differs
+
+-- 0 and the number of pairs; or a refusal's number, side and bit. Then zeros.
+abbrev pub toldDifference : differs.Answer → List ℕ
+toldDifference (differs.found pairs) = 0 ∷ pairs ∷ 0 ∷ 0 ∷ 0 ∷ 0 ∷ 0 ∷ 0 ∷ []
+toldDifference (differs.no number side bit) = number ∷ side ∷ bit ∷ 0 ∷ 0 ∷ 0 ∷ 0 ∷ 0 ∷ []
+
+-- The answer's words and the final content of the list are those of two keys compared.
+pub record TellsDifferenceIn (d : Differed) (A L : List ℕ) : Type 0 where
+  pub answer-is : A ≡ toldDifference (d .answer)
+  pub list-is : L ≡ d .list
+
+-- The promise, whatever the call is given and lent.
+abbrev pub TellsDifference : (left right list answer : Slice) → Type 0
+TellsDifference left right list answer =
+    let d = differ (length (list .entry .now)) (left .entry .now) (right .entry .now) in
+    TellsDifferenceIn d (answer .exit .now) (list .exit .now)
+
+-- Nothing is left open: any two results that fit it coincide.
+pub one-told-difference : {d : Differed} {A L A' L' : List ℕ} → TellsDifferenceIn d A L → TellsDifferenceIn d A' L' → (A ≡ A') × (L ≡ L')
+one-told-difference x y = (x .answer-is ∙ sym (y .answer-is), x .list-is ∙ sym (y .list-is))

@@ -1,5 +1,7 @@
 // The open calls as C, Rust, Python and JavaScript see them: pointers, lengths and 64-bit numbers only, each answer as eight words.
-ghost use Rattle.typekey_c.specs.Words.{Tells, TellsBack};
+ghost use Rattle.typekey_c.specs.Words.{Tells, TellsBack, TellsDifference};
+use typekey::differing::Differing;
+use typekey::differing::differ;
 use typekey::reading::Reading;
 use typekey::reading::read;
 use typekey::taking::Taking;
@@ -86,6 +88,27 @@ pub extern "C" fn typekey_take_back(
         }
         Taking::Refused(n) => {
             *answer = [n.number as u64, n.bit as u64, 0, 0, 0, 0, 0, 0];
+        }
+    }
+}
+
+// Says what differs between two keys. The answer is 0 and how many pairs there are; or the refusal's number, side and bit. The other words are 0.
+#[no_mangle]
+pub extern "C" fn typekey_differ(
+    left: &[u8],
+    right: &[u8],
+    list: &mut [u64],
+    answer: &mut [u64; 8],
+)
+    ensures { λ _. ⌜ TellsDifference left right list answer ⌝ }
+{
+    let r = differ(left, right, list);
+    match r {
+        Differing::Found(pairs) => {
+            *answer = [0, pairs as u64, 0, 0, 0, 0, 0, 0];
+        }
+        Differing::Refused(number, side, bit) => {
+            *answer = [number as u64, side as u64, bit as u64, 0, 0, 0, 0, 0];
         }
     }
 }
