@@ -122,7 +122,7 @@ zero-passes key r e z = by (checked key) refl
     by : (x : Taken) → checked key ≡ x → Passed key
     by (taken t) i = record { tree = t; is = i }
     by (refused n p) i =
-        absurd (some (refusals (length key * 8) (length key * 8) (length key) key i) (sym (ap (λ (c : Check). c .why) (e ∙ ap verdict i)) ∙ z))
+        absurd (some (refusals newest (length key * 8) (length key * 8) (length key) key i) (sym (ap (λ (c : Check). c .why) (e ∙ ap verdict i)) ∙ z))
 
 -- Of two keys that pass, the call finds no pair exactly where they are the same bytes.
 pub same-bytes : (n : ℕ) (left right : List ℕ) → Bytes left → Bytes right → {t u : Value} → checked left ≡ taken t → checked right ≡ taken u

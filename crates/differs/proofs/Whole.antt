@@ -12,7 +12,7 @@ use Rattle.keys.proofs.BitsLaws.{clash, length-bytes}
 use Rattle.keys.specs.Form.{Value, nothing, choice, child, Grammar, isNever, State, state, Result, stop, into, allowed, ifWhole, takeForm, takeNode}
 use Rattle.keys.specs.Limits.{longestKey, tallest, newest, countWidth, badKey}
 use Rattle.keys.specs.Table.{when, type, typeUnder, wholeKey}
-use Rattle.keys.specs.Key.{padding, closed, taken, refused, refusalPlace, outcome, nodeTable, takeWithin}
+use Rattle.keys.specs.Key.{Taken, padding, closed, taken, refused, refusalPlace, outcome, nodeTable, takeWithin}
 use Rattle.fields.specs.Take.{answered}
 use Rattle.fields.specs.declared.take.TakenField.the-variants.{Number, Short}
 use Rattle.fields.proofs.Chunks.{Told, number-told, field-short}
