@@ -66,6 +66,33 @@ test('keys come back, and what is none is refused', () => {
   assert.throws(() => fromHex('11 cg'), /`g` is no hex digit/);
 });
 
+test('what differs', () => {
+  const pairs = (a, b) => keys.differ(read(a).key, read(b).key).pairs.map((p) => `${p.left}-${p.right}`).join(' ');
+  const rows = [
+    ['A', 'A', ''], ['A', 'B', '22-22'], ['A', 'A.B', '4-4'], ['A.B.C', 'X.B.D', '22-22 70-70'], ['string', 'number', '4-4'], ['A | B', 'A | C', '83-83'],
+    ['A | B', 'A | B | C', '4-4'], ['[A, B, C]', '[A?, X, ...C]', '22-22 83-89 108-114'], ['{ [K in A]: B }', '{ [L in X]?: B }', '4-4'],
+    ['{ [K in A]: B }', '{ [L in X]: Y }', '12-12 54-54 101-101'], ['(a: A, b?: B) => C', '(x: A, b: Y) => Z', '25-25 94-94 182-182'],
+    ['<T, U extends A>() => B', '<V, U>() => C', '23-23 49-49 149-106'], ['`a${A}b${B}c`', '`x${Y}b${[Z]}d`', '22-22 88-88 161-161 204-222'], ["'a'", '"a"', '13-13'],
+  ];
+  for (const [a, b, want] of rows) {
+    assert.equal(pairs(a, b), want);
+    assert.equal(pairs(b, a), want.replace(/(\d+)-(\d+)/g, '$2-$1'));
+  }
+  const a = read('A | B | C').key, x = read('X | Y | Z').key;
+  for (let words = 0; words < 9; words++) {
+    const { answer, list } = keys.differInto(a, x, words);
+    assert.deepEqual(answer, words < 6 ? [29, 0, 0, 0, 0, 0, 0, 0] : [0, 3, 0, 0, 0, 0, 0, 0]);
+    assert.deepEqual(Array.from(list).filter((_, i) => i % 2 === 0), words < 6 ? Array(words).fill(0) : [40, 40, 83, 83, 126, 126, ...Array(words - 6).fill(0)]);
+  }
+  const refused = (l, r, options) => { const { name, side, bit, sentence } = keys.differ(fromHex(l), fromHex(r), options); return [name, side, bit, sentence]; };
+  assert.deepEqual(refused(toHex(a), toHex(x), { most: 2 }), ['ManyDifferences', 'neither', 0, 'There are more than 2 differences.']);
+  assert.deepEqual(refused('', '11c270'), ['BadKey', 'left', 0, 'The left key: A key has at least one byte.']);
+  assert.deepEqual(refused('11c270', '11c271').slice(0, 3), ['BadKey', 'right', 23]);
+  assert.deepEqual(refused('11c271', '20').slice(0, 3), ['BadKey', 'left', 23]);
+  assert.equal(keys.differ(a, new Uint8Array(300000)).sentence, 'The right key: The key has 300000 bytes; it may have 262144.');
+  assert.equal(keys.differ(a, x, { most: -1 }).number, 29);
+});
+
 test('brackets, and results that outlive the next call', () => {
   assert.equal(tree('(A)'), 'reference A');
   assert.equal(tree('(A)', { preserveParens: true }), 'parens(reference A)');

@@ -8,11 +8,14 @@ export class TypeKey {
   read(text: string | Uint8Array, tokens: BigUint64Array | Iterable<bigint>, options?: { preserveParens?: boolean; start?: number }): Reading | ReadRefusal;
   /** Takes a key back: the tree that it stands for. Positions in it are 0. */
   takeBack(key: Uint8Array): Taken | KeyRefusal;
+  /** Says what differs between two keys. `most`: refuse if there are more pairs; by itself there is room for all. */
+  differ(left: Uint8Array, right: Uint8Array, options?: { most?: number }): Compared | DifferRefusal;
   /** The call as C sees it, and all that was lent. Words are two halves each, the lower first. */
   readInto(text: Uint8Array, tokens: BigUint64Array, start: number, options: number, room: { nodes: number; names: number; notes: number; key: number }):
     { answer: number[]; nodes: Uint32Array; names: Uint32Array; notes: Uint32Array; key: Uint8Array };
   takeBackInto(key: Uint8Array, room: { nodes: number; names: number; text: number }):
     { answer: number[]; nodes: Uint32Array; names: Uint32Array; text: Uint8Array };
+  differInto(left: Uint8Array, right: Uint8Array, words: number): { answer: number[]; list: Uint32Array };
   /** For tests: a byte that lent memory is filled with before each call. */
   dirt: number | undefined;
 }
@@ -50,8 +53,31 @@ export interface KeyRefusal {
   sentence: string;
 }
 
+export interface Compared {
+  ok: true;
+  /** Where the trees differ, in the key's order: no pair exactly when the keys are the same bytes. */
+  pairs: Pair[];
+}
+
+/** The first bits of two nodes that differ in themselves, of which nothing inside is told; or of two spellings that differ. */
+export interface Pair {
+  /** A bit of the left key, as in `Node.bits`. */
+  left: number;
+  right: number;
+}
+
+export interface DifferRefusal {
+  ok: false;
+  number: 6 | 10 | 29;
+  name: RefusalName;
+  /** Whose key it is; `neither` for ManyDifferences. */
+  side: 'left' | 'right' | 'neither';
+  bit: number;
+  sentence: string;
+}
+
 export type RefusalName =
-  | 'BadList' | 'BadToken' | 'Unexpected' | 'Unsupported' | 'TooDeep' | 'TooTall' | 'TooLong' | 'NoRoom' | 'ManyNotes' | 'BadKey' | 'NoSpace';
+  | 'BadList' | 'BadToken' | 'Unexpected' | 'Unsupported' | 'TooDeep' | 'TooTall' | 'TooLong' | 'NoRoom' | 'ManyNotes' | 'BadKey' | 'NoSpace' | 'ManyDifferences';
 
 export interface Diagnostic {
   number: 1 | 2 | 3 | 4 | 5 | 6 | 7;

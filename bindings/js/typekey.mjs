@@ -136,6 +136,8 @@ const DIAGNOSTICS = [
 ];
 
 const REFUSALS = ['', 'BadList', 'BadToken', 'Unexpected', 'Unsupported', 'TooDeep', 'TooTall', 'TooLong', 'NoRoom', 'ManyNotes', 'BadKey', 'NoSpace'];
+REFUSALS[29] = 'ManyDifferences';
+const SIDES = ['neither', 'left', 'right'];
 
 // Why a form that begins at a token is not read. kind: the kind of the token so many places on.
 function unsupported(kind, spelled) {
@@ -181,6 +183,11 @@ function takeBackSentence(number, bit, length) {
   if (bit === 0) return 'This is no key: it does not begin with edition 1.';
   if (bit >= 8 * length) return `This is no key: more should follow behind its last bit, ${bit - 1}.`;
   return `This is no key: the field at bit ${bit} is not one that can stand there, or it is cut short.`;
+}
+
+function differSentence(number, side, bit, length, room) {
+  if (number === 29) return `There are more than ${room} differences.`;
+  return `The ${SIDES[side]} key: ${takeBackSentence(number, bit, length)}`;
 }
 
 // ---- The calls
@@ -246,11 +253,23 @@ export class TypeKey {
     return { ok: true, tree: new Tree(left.text.slice(0, text), left.nodes.slice(0, 8 * nodes), left.names.slice(0, 2 * names)) };
   }
 
+  // Says what differs between two keys: pairs of bits, the left key's and the right key's, in the key's order. No pair: the keys are the same bytes.
+  // most: how many pairs there is room for. There are fewer than bytes in either key, since what differs has nine bits or more.
+  differ(left, right, { most = Infinity } = {}) {
+    const n = Math.min(left.length, right.length, LIMITS.key, Math.max(0, Math.floor(most)));
+    const { answer, list } = this.#differ(left, right, 2 * n), [number, found, bit] = answer;
+    if (number) return { ok: false, number, name: REFUSALS[number], side: SIDES[found], bit, sentence: differSentence(number, found, bit, [0, left.length, right.length][found], n) };
+    return { ok: true, pairs: Array.from({ length: found }, (_, i) => ({ left: list[4 * i], right: list[4 * i + 2] })) };
+  }
+
   // The call as C sees it: the eight words of the answer, and all that was lent. room: words for nodes, names and notes, bytes for the key.
   readInto(text, tokens, start, options, room) { return copied(this.#read(text, tokens, start, options, room)); }
 
   // The same for a key. room: words for nodes and names, bytes for the text.
   takeBackInto(key, room) { return copied(this.#takeBack(key, room)); }
+
+  // The same for two keys. words: of the list.
+  differInto(left, right, words) { return copied(this.#differ(left, right, words)); }
 
   // Past a limit the answer hangs on nothing further on, so one more than the limit is enough of a text, tokens or a key.
   #read(text, tokens, start, options, { nodes, names, notes, key }) {
@@ -268,6 +287,14 @@ export class TypeKey {
     m.bytes.set(k, at[0]);
     this.#call('typekey_take_back', at[0], BigInt(k.length), at[3], BigInt(nodes), at[4], BigInt(names), at[5], BigInt(text), at[2]);
     return { answer: this.#answer(at[2]), nodes: this.#words(at[3], nodes), names: this.#words(at[4], names), text: m.bytes.subarray(at[5], at[5] + text) };
+  }
+
+  #differ(left, right, words) {
+    const l = left.subarray(0, LIMITS.key + 1), r = right.subarray(0, LIMITS.key + 1), at = this.#lay([l.length, r.length, 64, 8 * words]), m = this.#memory;
+    m.bytes.set(l, at[0]);
+    m.bytes.set(r, at[1]);
+    this.#call('typekey_differ', at[0], BigInt(l.length), at[1], BigInt(r.length), at[3], BigInt(words), at[2]);
+    return { answer: this.#answer(at[2]), list: this.#words(at[3], words) };
   }
 
   // Parts of so many bytes one after the other behind the library's own memory, which grows if it has to; gives where they begin.

@@ -10,5 +10,7 @@ if (a.ok) {
 } else console.log(a.name, a.byte, a.sentence);
 const b = keys.takeBack(fromHex('11 c2 70'));
 console.log(b.ok ? b.tree.root.spellings : b.bit);
+const c = keys.differ(fromHex('11 c2 70'), fromHex('11 c2 50'), { most: 3 });
+console.log(c.ok ? c.pairs.map((p) => p.left + p.right) : [c.side, c.bit]);
 // @ts-expect-error: a refusal has no tree
 console.log(b.tree);

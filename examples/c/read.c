@@ -1,4 +1,4 @@
-/* Reads the type `A | B & C`, and prints its key and its tree. After tools/build_library.sh:
+/* Reads the type `A | B & C`, prints its key and its tree, and says what differs from `A | B & D`. After tools/build_library.sh:
 
    gcc -I include examples/c/read.c target/lib/libtypekey.a -o target/read && target/read */
 #include "typekey.h"
@@ -38,5 +38,18 @@ int main(void) {
     for (uint64_t i = 0; i < answer[4]; i++) printf(" %02x", key[i]);
     printf("\n");
     show(answer[1] - 1, 0); /* the root is the last node */
+
+    /* The key of `A | B & D`: the last letter of the last name is another. */
+    static uint8_t other[sizeof key];
+    static uint64_t list[TYPEKEY_DIFFER_LIST_WORDS(sizeof key, sizeof other)];
+    uint64_t size = answer[4];
+    for (uint64_t i = 0; i < size; i++) other[i] = key[i];
+    other[size - 2] ^= 'C' ^ 'D';
+    typekey_differ(key, size, other, size, list, sizeof list / 8, answer);
+    if (answer[0] != TYPEKEY_OK) {
+        printf("refusal %d, side %d, bit %d\n", (int)answer[0], (int)answer[1], (int)answer[2]);
+        return 1;
+    }
+    for (uint64_t i = 0; i < answer[1]; i++) printf("beside A | B & D: bit %d, bit %d\n", (int)list[2 * i], (int)list[2 * i + 1]);
     return 0;
 }

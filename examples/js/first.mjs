@@ -1,4 +1,4 @@
-// The key of a type and its tree: node first.mjs typekey.wasm ['A | B & C']
+// The key of a type, its tree, and what differs from another: node first.mjs typekey.wasm ['A | B & C']
 import { cut } from '../../bindings/js/cut.mjs';
 import { load, toHex } from '../../bindings/js/typekey.mjs';
 
@@ -20,3 +20,6 @@ for (const { number, first, end, sentence } of answer.diagnostics) console.log(`
 const same = (a, b) => toHex(keys.read(a, cut(a)).key) === toHex(keys.read(b, cut(b)).key);
 console.log(`A|(B&C) is the same type: ${same('A | B & C', 'A|(B&C)')}`);
 console.log(`(A | B) & C is the same type: ${same('A | B & C', '(A | B) & C')}`);
+
+// Where two types differ: the nodes or spellings that begin at these bits of the one key and of the other.
+for (const { left, right } of keys.differ(answer.key, keys.read('A | B & D', cut('A | B & D')).key).pairs) console.log(`beside A | B & D: bit ${left}, bit ${right}`);

@@ -108,13 +108,93 @@ static void long_inputs(void) {
     }
 }
 
+/* ---- What differs: 02's rows (W9), as keys ---- */
+static const struct { const char *left; unsigned left_len; const char *right; unsigned right_len; unsigned pairs; uint64_t bits[6]; } ROWS[] = {
+    {/* A, A */ "\x10\x40\x04\x00\x05\x04", 6, "\x10\x40\x04\x00\x05\x04", 6, 0, {0}},
+    {/* A, B */ "\x10\x40\x04\x00\x05\x04", 6, "\x10\x40\x04\x00\x05\x08", 6, 1, {22, 22}},
+    {/* A, AB */ "\x10\x40\x04\x00\x05\x04", 6, "\x10\x40\x04\x00\x09\x05\x08", 7, 1, {22, 22}},
+    {/* A, A.B */ "\x10\x40\x04\x00\x05\x04", 6, "\x10\x40\x08\x00\x05\x04\x00\x05\x08", 9, 1, {4, 4}},
+    {/* A.B.C, X.B.D */ "\x10\x40\x0c\x00\x05\x04\x00\x05\x08\x00\x05\x0c", 12, "\x10\x40\x0c\x00\x05\x60\x00\x05\x08\x00\x05\x10", 12, 2, {22, 22, 70, 70}},
+    {/* string, number */ "\x10\x9c", 2, "\x10\x94", 2, 1, {4, 4}},
+    {/* A, A[] */ "\x10\x40\x04\x00\x05\x04", 6, "\x11\xc1\x00\x10\x00\x14\x10", 7, 1, {4, 4}},
+    {/* A | B, A | C */ "\x11\x40\x08\x10\x01\x00\x01\x41\x02\x00\x20\x00\x28\x40", 14, "\x11\x40\x08\x10\x01\x00\x01\x41\x02\x00\x20\x00\x28\x60", 14, 1, {83, 83}},
+    {/* A | B, A | B | C */ "\x11\x40\x08\x10\x01\x00\x01\x41\x02\x00\x20\x00\x28\x40", 14, "\x11\x40\x0c\x10\x01\x00\x01\x41\x02\x00\x20\x00\x28\x40\x40\x04\x00\x05\x0c", 19, 1, {4, 4}},
+    {/* A | B, A & B */ "\x11\x40\x08\x10\x01\x00\x01\x41\x02\x00\x20\x00\x28\x40", 14, "\x11\x80\x08\x10\x01\x00\x01\x41\x02\x00\x20\x00\x28\x40", 14, 1, {4, 4}},
+    {/* [A, B, C], [A?, X, ...C] */ "\x14\xc0\x0c\x10\x01\x00\x01\x41\x02\x00\x20\x00\x28\x40\x40\x04\x00\x05\x0c", 19, "\x14\xc0\x0d\x40\x40\x04\x00\x05\x04\x08\x00\x80\x00\xac\x15\x04\x00\x40\x00\x50\xc0", 21, 3, {22, 22, 83, 89, 108, 114}},
+    {/* { [K in A]: B }, { [L in X]?: B } */ "\x13\x80\x00\x14\xb0\x40\x04\x00\x05\x04\x20\x80\x08\x00\x0a\x10", 16, "\x13\x80\x00\x14\xc0\x40\x04\x00\x05\x60\x60\x80\x08\x00\x0a\x10", 16, 1, {4, 4}},
+    {/* { [K in A]: B }, { [L in X]: Y } */ "\x13\x80\x00\x14\xb0\x40\x04\x00\x05\x04\x20\x80\x08\x00\x0a\x10", 16, "\x13\x80\x00\x14\xc0\x40\x04\x00\x05\x60\x20\x80\x08\x00\x0a\xc8", 16, 3, {12, 12, 54, 54, 101, 101}},
+    {/* (a: A, b?: B) => C, (x: A, b: Y) => Z */ "\x13\x00\x02\x00\x00\xb0\xa0\x80\x08\x00\x0a\x08\x00\x02\xc5\x82\x00\x20\x00\x28\x40\x40\x04\x00\x05\x0c", 26, "\x13\x00\x02\x00\x00\xbc\x20\x80\x08\x00\x0a\x08\x00\x02\xc4\x82\x00\x20\x00\x2b\x20\x40\x04\x00\x05\x68", 26, 3, {25, 25, 94, 94, 182, 182}},
+    {/* <T, U extends A>() => B, <V, U>() => C */ "\x13\x20\x04\x00\x02\xa8\x00\x00\xaa\xc1\x00\x10\x00\x14\x10\x00\x00\x80\x08\x00\x0a\x10", 22, "\x13\x20\x04\x00\x02\xac\x00\x00\xaa\x80\x00\x04\x00\x40\x00\x50\xc0", 17, 3, {23, 23, 49, 49, 149, 106}},
+    {/* 'a', "a" */ "\x10\xc0\x00\x19\x3b\x09\x38", 7, "\x10\xc0\x00\x19\x13\x09\x10", 7, 1, {13, 13}},
+    {/* 1, -1 */ "\x10\xc8\x00\x09\x88", 5, "\x10\xe8\x00\x09\x88", 5, 1, {4, 4}},
+    {/* A | B | C, X | Y | Z */ "\x11\x40\x0c\x10\x01\x00\x01\x41\x02\x00\x20\x00\x28\x40\x40\x04\x00\x05\x0c", 19, "\x11\x40\x0c\x10\x01\x00\x01\x58\x02\x00\x20\x00\x2b\x20\x40\x04\x00\x05\x68", 19, 3, {40, 40, 83, 83, 126, 126}},
+};
+
+static void differ_rows(void) {
+    for (unsigned i = 0; i < sizeof ROWS / sizeof *ROWS; i++)
+        for (int turn = 0; turn < 2; turn++)
+            for (uint64_t n = 0; n < 2 * ROWS[i].pairs + 4; n++, run++) {
+                uint64_t k = ROWS[i].pairs;
+                give(&key, turn ? ROWS[i].right : ROWS[i].left, turn ? ROWS[i].right_len : ROWS[i].left_len);
+                give(&other, turn ? ROWS[i].left : ROWS[i].right, turn ? ROWS[i].left_len : ROWS[i].right_len);
+                lend(&pairs, n);
+                differ_lent();
+                if (n < 2 * k) EXPECT("a list that is too short", 29);
+                else {
+                    EXPECT("what differs", 0, k);
+                    for (uint64_t j = 0; j < 2 * k; j++) must(words(&pairs)[j] == ROWS[i].bits[j ^ (uint64_t)turn], "a pair of a row");
+                }
+            }
+}
+
+/* Two keys and a list of so many words. */
+static void differ_of(const void *l, uint64_t n, const void *r, uint64_t m, uint64_t list) {
+    give(&key, l, n), give(&other, r, m), lend(&pairs, list);
+    differ_lent();
+}
+
+static void differ_edges(void) {
+    const char *const a = "\x10\x40\x04\x00\x05\x04", *const strings = "\x11\xc2\x70";
+    static uint8_t long_key[TYPEKEY_MOST_KEY + 1];
+    for (uint64_t list = 0; list < 4; list++) {
+        differ_of(0, 0, 0, 0, list), EXPECT("no keys", 10, 1);
+        differ_of(0, 0, a, 6, list), EXPECT("no left key", 10, 1);
+        differ_of(a, 6, 0, 0, list), EXPECT("no right key", 10, 2);
+        differ_of(a, 6, a, 6, list), EXPECT("one key twice", 0);
+        differ_of(a, 6, "\x20\x40\x04\x00\x05\x04", 6, list), EXPECT("another edition", 10, 2);
+        differ_of("\x10\x40\x04\x00\x05\x05", 6, 0, 0, list), EXPECT("a padding bit, and no right key", 10, 1, 47);
+        differ_of("\x10\x40\x04\x00\x05\x04\x00", 7, strings, 3, list), EXPECT("a byte too many", 10, 1, 48);
+        differ_of(strings, 3, "\x11\xc2\x71", 3, list), EXPECT("a padding bit on the right", 10, 2, 23);
+        differ_of("\x11\xc2\x71", 3, "\x11\xc2", 2, list), EXPECT("both damaged", 10, 1, 23);
+    }
+    memcpy(long_key, read_key, key_size);
+    for (uint64_t n = TYPEKEY_MOST_KEY; n <= TYPEKEY_MOST_KEY + 1; n++) {
+        uint64_t bit = n == TYPEKEY_MOST_KEY ? 8 * key_size : 0;
+        differ_of(long_key, n, read_key, key_size, 2), EXPECT("a long left key", 10, 1, bit);
+        differ_of(read_key, key_size, long_key, n, 2), EXPECT("a long right key", 10, 2, bit);
+    }
+    for (uint64_t n = 0; n < key_size; n++)
+        for (int turn = 0; turn < 2; turn++, run++) {
+            if (turn) differ_of(read_key, n, read_key, key_size, 8); else differ_of(read_key, key_size, read_key, n, 8);
+            must(answer[0] == 10 && answer[1] == (turn ? 1 : 2), "a key that is cut short, on one side");
+        }
+    /* the same slice on both sides */
+    give(&key, read_key, key_size), lend(&pairs, 2), dirty_answer();
+    typekey_differ(key.at, key.count, key.at, key.count, words_mut(&pairs), pairs.count, answer);
+    watch(&key), watch(&pairs), watch_answer(1), EXPECT("one slice twice", 0);
+    zero_from(&pairs, 0, "a list without pairs is not 0");
+    dirty_answer();
+    typekey_differ(0, 0, 0, 0, 0, 0, answer);
+    watch_answer(2), EXPECT("all null, to compare", 10, 1);
+}
+
 int main(void) {
     make_slices();
     read_without(0, 0, 0);
     must(answer[0] == 0, "A | B & C");
     key_size = answer[4];
     memcpy(read_key, key.at, key_size);
-    empty_slices(), starts_and_options(), long_inputs();
+    empty_slices(), starts_and_options(), long_inputs(), differ_rows(), differ_edges();
     printf("%u calls at the edges, 0 different\n", run);
     return 0;
 }

@@ -401,25 +401,13 @@ static void a_read(int sampled) {
     if (kept[4] <= LONG && start == 0 && one_in(4)) compare_alike(sampled);
 }
 
-/* Two keys that were seen, or one twice; the left, the right or both damaged. */
-static uint64_t some_key(uint8_t *k, uint64_t p, int damaged) {
-    uint64_t n = pool_len[p];
-    memcpy(k, pool[p], n);
-    for (int times = damaged ? 1 + (int)below(2) : 0; times; times--) switch (below(5)) {
-        case 0: case 1: if (n) k[below(n)] ^= (uint8_t)(1 << below(8)); break;
-        case 2: if (n) k[below(n)] = (uint8_t)chance(); break;
-        case 3: n = below(n + 1); break;
-        default: k[n++] = one_in(2) ? 0 : (uint8_t)chance();
-    }
-    return n;
-}
-
-static void two_keys(int sampled) {
-    static uint8_t l[LONG + 8], r[LONG + 8];
-    uint64_t p = below(pooled < POOL ? pooled : POOL), q = one_in(2) ? p : below(pooled < POOL ? pooled : POOL);
-    int damaged = (int)below(5);
-    uint64_t n = some_key(l, p, damaged & 1), m = some_key(r, q, damaged >> 1 & 1);
-    compare(l, n, r, m, sampled);
+/* Arrays of arrays, about as high as a node may be. */
+static uint64_t high_key(uint8_t *k) {
+    Tree t = {.out = k};
+    bits_out(&t, 1, 4);
+    for (uint64_t high = 250 + below(10); high; high--) bits_out(&t, TYPEKEY_ARRAY, 6);
+    bits_out(&t, TYPEKEY_KEYWORD, 6), bits_out(&t, below(13), 4);
+    return (t.bits + 7) / 8;
 }
 
 static void a_key(int sampled) {
@@ -427,13 +415,8 @@ static void a_key(int sampled) {
     uint64_t p = below(pooled < POOL ? pooled + 1 : POOL), n = pool_len[p];
     memcpy(k, pool[p], n);
     if (one_in(12)) for (n = below(40), p = 0; p < n; p++) k[p] = p ? (uint8_t)chance() : (uint8_t)(0x10 | below(8));
-    else if (one_in(150)) { /* arrays of arrays, about as high as a node may be */
-        Tree t = {.out = k};
-        bits_out(&t, 1, 4);
-        for (uint64_t high = 250 + below(10); high; high--) bits_out(&t, TYPEKEY_ARRAY, 6);
-        bits_out(&t, TYPEKEY_KEYWORD, 6), bits_out(&t, below(13), 4);
-        n = (t.bits + 7) / 8;
-    } else if (!one_in(4)) for (int times = 1 + (int)below(2); times; times--) switch (below(6)) {
+    else if (one_in(150)) n = high_key(k);
+    else if (!one_in(4)) for (int times = 1 + (int)below(2); times; times--) switch (below(6)) {
         case 0: case 1: if (n) k[below(n)] ^= (uint8_t)(1 << below(8)); break;
         case 2: if (n) k[below(n)] = (uint8_t)chance(); break;
         case 3: n = below(n + 1); break;
@@ -451,6 +434,28 @@ static void a_key(int sampled) {
     if (sampled) record(4, 0, &letters);
     if (answer[0]) return;
     must(key_of_tree(words(&nodes), answer[1], words(&names), answer[2], letters.at, answer[3], 0, made) == n && memcmp(made, k, n) == 0, "a key that is taken back is not its tree's");
+}
+
+/* Two keys that were seen, or one twice; the left, the right or both damaged. */
+static uint64_t some_key(uint8_t *k, uint64_t p, int damaged) {
+    uint64_t n = pool_len[p];
+    memcpy(k, pool[p], n);
+    for (int times = damaged ? 1 + (int)below(2) : 0; times; times--) switch (below(5)) {
+        case 0: case 1: if (n) k[below(n)] ^= (uint8_t)(1 << below(8)); break;
+        case 2: if (n) k[below(n)] = (uint8_t)chance(); break;
+        case 3: n = below(n + 1); break;
+        default: k[n++] = one_in(2) ? 0 : (uint8_t)chance();
+    }
+    return n;
+}
+
+static void two_keys(int sampled) {
+    static uint8_t l[LONG + 8], r[LONG + 8];
+    uint64_t p = below(pooled < POOL ? pooled : POOL), q = one_in(2) ? p : below(pooled < POOL ? pooled : POOL);
+    int damaged = (int)below(5);
+    uint64_t n = one_in(100) ? high_key(l) : some_key(l, p, damaged & 1), m = one_in(100) ? high_key(r) : some_key(r, q, damaged >> 1 & 1);
+    if (one_in(100)) n = high_key(l), m = high_key(r);
+    compare(l, n, r, m, sampled);
 }
 
 static void told(const char *what, const uint64_t *by) {

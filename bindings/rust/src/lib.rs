@@ -1,8 +1,9 @@
 //! The type key from Rust: safe calls over the static library `libtypekey.a`, with no other crate and without `std`.
 //!
 //! [`read`] takes a text and its tokens and gives the type's tree, its diagnostics and its key. [`take_back`] takes a key
-//! and gives the tree again. Two texts have the same key exactly when they are the same type; that is proved of the
-//! library, and not of this crate, which only passes slices on and reads the words that come back.
+//! and gives the tree again. [`differ`] says where the trees of two keys differ. Two texts have the same key exactly when
+//! they are the same type; that is proved of the library, and not of this crate, which only passes slices on and reads the
+//! words that come back.
 //!
 //! ```
 //! use typekey::{Buffers, Options, kind_of, read, token};
@@ -27,7 +28,8 @@
 //!   word, [`kind_of`] has the kind of a word or a mark. The library checks each word before it reads.
 //! - **Any input is fine.** Bad input is a [`Refusal`], which says what is wrong and where. Nothing panics.
 //! - **Room is lent by need.** A call clears all that it is lent, so [`Need`] has just what is enough. [`Buffers`] grow to
-//!   it and can be used again. Without the feature `alloc` lend slices by [`read_into`] and [`take_back_into`].
+//!   it and can be used again. Without the feature `alloc` lend slices by [`read_into`], [`take_back_into`] and
+//!   [`differ_into`].
 //! - **No state.** Threads may call at the same time, each with buffers of its own. A call's stack grows with the type's
 //!   depth, which has a limit: a thread with 512 KiB is enough for every stored vector.
 //! - **Linking.** `libtypekey.a` is looked for in the repository's `target/lib`, or in the folder that `TYPEKEY_LIB` names by
@@ -41,7 +43,7 @@ mod said;
 mod tokens;
 mod tree;
 
-pub use said::{Diagnostic, Note, Place, Refusal, Why};
+pub use said::{Diagnostic, Note, Place, Refusal, Side, Why};
 pub use tokens::*;
 pub use tree::{Field, Node, Tag, Tree, Value, Walk};
 
@@ -73,6 +75,15 @@ unsafe extern "C" {
         name_words: u64,
         text: *mut u8,
         text_bytes: u64,
+        answer: *mut [u64; 8],
+    );
+    fn typekey_differ(
+        left: *const u8,
+        left_len: u64,
+        right: *const u8,
+        right_len: u64,
+        list: *mut u64,
+        list_words: u64,
         answer: *mut [u64; 8],
     );
 }
@@ -111,6 +122,12 @@ impl Need {
     pub const fn to_take_back(key: usize) -> Need {
         let key = least(key, 262_144);
         Need { nodes: 4 * (4 * key / 3), names: key / 3, notes: 0, bytes: key }
+    }
+
+    /// Words enough for all differences of two keys of so many bytes, two for each: what differs has 9 bits at least on
+    /// either side, and no two differences share one.
+    pub const fn to_differ(left: usize, right: usize) -> usize {
+        2 * least(least(left, right), 262_144)
     }
 }
 
@@ -201,6 +218,28 @@ pub fn take_back<'a>(key: &[u8], buffers: &'a mut Buffers) -> Result<Tree<'a>, R
     take_back_into(key, buffers.lend(Need::to_take_back(key.len())))
 }
 
+/// Says what differs between two keys, in buffers that grow by need. There is no difference exactly when the keys are the
+/// same bytes.
+///
+/// ```
+/// use typekey::{Buffers, Difference, differ};
+///
+/// let (a, b) = ([0x10, 0x40, 0x04, 0x00, 0x05, 0x04], [0x10, 0x40, 0x04, 0x00, 0x05, 0x08]); // the keys of A and B
+/// let mut buffers = Buffers::default();
+/// let differences = differ(&a, &b, &mut buffers)?;
+/// assert!(differences.eq([Difference { left: 22, right: 22 }])); // the name
+/// # Ok::<(), typekey::Refusal>(())
+/// ```
+#[cfg(feature = "alloc")]
+pub fn differ<'a>(
+    left: &[u8],
+    right: &[u8],
+    buffers: &'a mut Buffers,
+) -> Result<impl ExactSizeIterator<Item = Difference> + use<'a>, Refusal> {
+    let nodes = Need::to_differ(left.len(), right.len());
+    differ_into(left, right, buffers.lend(Need { nodes, names: 0, notes: 0, bytes: 0 }).nodes)
+}
+
 /// Reads the type that begins at a token, in slices that are lent.
 ///
 /// ```
@@ -268,4 +307,42 @@ pub fn take_back_into<'a>(key: &[u8], lent: Lent<'a>) -> Result<Tree<'a>, Refusa
         return Err(Refusal { why: Why::of(refused), place: Place::Bit(a) });
     }
     Ok(Tree::new(&bytes[..letters], &nodes[..4 * a], &names[..b]))
+}
+
+/// A place where two keys differ: the first bits of two nodes that differ in themselves (tag, a flag, a count, a small
+/// number), of which nothing inside is told; or of two names that differ. The first node of a key has bit 4.
+#[derive(Clone, Copy, Debug, PartialEq, Eq, Hash)]
+pub struct Difference {
+    /// The bit of the left key.
+    pub left: usize,
+    /// The bit of the right key.
+    pub right: usize,
+}
+
+/// Says what differs between two keys, in a list that is lent, two words for each difference. They come in the key's order,
+/// on both sides. If there are more than the list has room for, that is a refusal. All of the list is cleared first.
+pub fn differ_into<'a>(
+    left: &[u8],
+    right: &[u8],
+    list: &'a mut [u64],
+) -> Result<impl ExactSizeIterator<Item = Difference> + use<'a>, Refusal> {
+    let mut answer = [0; 8];
+    // SAFETY: as in `read_into`.
+    unsafe {
+        typekey_differ(
+            left.as_ptr(),
+            left.len() as u64,
+            right.as_ptr(),
+            right.len() as u64,
+            list.as_mut_ptr(),
+            list.len() as u64,
+            &mut answer,
+        )
+    }
+    let [refused, a, bit, ..] = answer.map(|w| w as usize);
+    if refused != 0 {
+        return Err(Refusal { why: Why::of(refused), place: Place::Key { side: Side::of(a), bit } });
+    }
+    let list: &'a [u64] = list;
+    Ok(list[..2 * a].chunks_exact(2).map(|d| Difference { left: d[0] as usize, right: d[1] as usize }))
 }

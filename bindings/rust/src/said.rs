@@ -28,11 +28,13 @@ pub enum Why {
     BadKey,
     /// The names, the key or the letters do not fit.
     NoSpace,
+    /// There are more differences than the list has room for.
+    ManyDifferences = 29,
 }
 
 use Why::*;
 
-const WHY: [(Why, &str); 11] = [
+const WHY: [(Why, &str); 12] = [
     (BadList, "no tokens or too many, too long a text, or a start that is no token"),
     (BadToken, "a word that is no good token"),
     (Unexpected, "a token that no rule takes"),
@@ -44,12 +46,18 @@ const WHY: [(Why, &str); 11] = [
     (ManyNotes, "no record for another diagnostic, or a 33rd one"),
     (BadKey, "a field that is no part of a key"),
     (NoSpace, "no space for the names, the key or the letters"),
+    (ManyDifferences, "more differences than the list has room for"),
 ];
+
+// Where a refusal stands among them.
+const fn at(number: usize) -> usize {
+    if number == ManyDifferences as usize { WHY.len() - 1 } else { number - 1 }
+}
 
 impl Why {
     // The library has no other numbers.
     pub(crate) fn of(number: usize) -> Why {
-        WHY[number - 1].0
+        WHY[at(number)].0
     }
 
     /// The refusal's number.
@@ -59,7 +67,7 @@ impl Why {
 
     /// What it says, in words.
     pub const fn words(self) -> &'static str {
-        WHY[self as usize - 1].1
+        WHY[at(self as usize)].1
     }
 }
 
@@ -77,6 +85,32 @@ pub enum Place {
     },
     /// In taking a key back: the bit's number, from 0; 0 also for `NoSpace`, which has no place.
     Bit(usize),
+    /// In comparing two keys.
+    Key {
+        /// Whose key it is.
+        side: Side,
+        /// The bit's number in that key, from 0; 0 also for `ManyDifferences`, which has no place.
+        bit: usize,
+    },
+}
+
+/// One of two keys. The discriminant is the side's number.
+#[derive(Clone, Copy, Debug, PartialEq, Eq, Hash)]
+#[repr(u8)]
+pub enum Side {
+    /// Neither key: `ManyDifferences`.
+    Neither,
+    /// The left key.
+    Left,
+    /// The right key.
+    Right,
+}
+
+impl Side {
+    // The library has no other numbers.
+    pub(crate) fn of(number: usize) -> Side {
+        [Side::Neither, Side::Left, Side::Right][number]
+    }
 }
 
 /// A refusal: why and where. It displays as a sentence.
@@ -95,6 +129,9 @@ impl fmt::Display for Refusal {
         match place {
             _ if matches!(why, BadList | NoSpace) => Ok(()),
             Place::Bit(bit) => write!(f, ", at bit {bit}"),
+            Place::Key { side: Side::Neither, .. } => Ok(()),
+            Place::Key { side: Side::Left, bit } => write!(f, ", at bit {bit} of the left key"),
+            Place::Key { side: Side::Right, bit } => write!(f, ", at bit {bit} of the right key"),
             Place::Token { token, .. } if why == BadToken => write!(f, ", at token {token}"),
             Place::Token { token, half: false, byte } => write!(f, ", at token {token}, byte {byte}"),
             Place::Token { token, half: true, byte } => {

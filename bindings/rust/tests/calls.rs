@@ -158,6 +158,68 @@ fn less_than_is_needed() {
     assert_eq!(bit, Refusal { why: Why::NoRoom, place: Place::Bit(4) });
 }
 
+/// The differences of two texts' keys.
+fn differing(left: &str, right: &str) -> Vec<(usize, usize)> {
+    let (l, r) = (key_of(left, Options::default()).unwrap(), key_of(right, Options::default()).unwrap());
+    differ(&l, &r, &mut Buffers::default()).unwrap().map(|d| (d.left, d.right)).collect()
+}
+
+#[test]
+fn differences() {
+    let rows: [(&str, &str, &[(usize, usize)]); 12] = [
+        ("A", "A", &[]),
+        ("A", "AB", &[(22, 22)]),
+        ("A", "A.B", &[(4, 4)]),
+        ("A.B.C", "X.B.D", &[(22, 22), (70, 70)]),
+        ("string", "number", &[(4, 4)]),
+        ("A | B", "A | C", &[(83, 83)]),
+        ("A | B", "A | B | C", &[(4, 4)]),
+        ("[A, B, C]", "[A?, X, ...C]", &[(22, 22), (83, 89), (108, 114)]),
+        ("{ [K in A]: B }", "{ [L in X]?: B }", &[(4, 4)]),
+        ("{ [K in A]: B }", "{ [L in X]: Y }", &[(12, 12), (54, 54), (101, 101)]),
+        ("(a: A, b?: B) => C", "(x: A, b: Y) => Z", &[(25, 25), (94, 94), (182, 182)]),
+        ("<T, U extends A>() => B", "<V, U>() => C", &[(23, 23), (49, 49), (149, 106)]),
+    ];
+    for (left, right, pairs) in rows {
+        assert_eq!(differing(left, right), pairs, "{left} {right}");
+        let turned: Vec<_> = pairs.iter().map(|p| (p.1, p.0)).collect();
+        assert_eq!(differing(right, left), turned, "{right} {left}");
+    }
+}
+
+#[test]
+fn lists_and_sides() {
+    let [a, x] = ["A | B | C", "X | Y | Z"].map(|t| key_of(t, Options::default()).unwrap());
+    for words in 0..9 {
+        let mut list = [u64::MAX; 9];
+        let list = &mut list[..words];
+        match differ_into(&a, &x, list).map(|d| d.len()) {
+            Ok(found) => assert!(found == 3 && words >= 6 && list[..6] == [40, 40, 83, 83, 126, 126]),
+            Err(refusal) => {
+                assert_eq!(
+                    refusal,
+                    Refusal { why: Why::ManyDifferences, place: Place::Key { side: Side::Neither, bit: 0 } }
+                );
+                assert_eq!(
+                    refusal.to_string(),
+                    "refusal 29 (ManyDifferences): more differences than the list has room for"
+                );
+                assert!(words < 6 && list.iter().all(|w| *w == 0));
+            }
+        }
+        assert!(list[words.min(6)..].iter().all(|w| *w == 0));
+    }
+    let (strings, bad) = ([0x11, 0xc2, 0x70], [0x11, 0xc2, 0x71]);
+    for (left, right, side) in [(&bad, &strings, Side::Left), (&strings, &bad, Side::Right), (&bad, &bad, Side::Left)] {
+        let mut list = [u64::MAX; 5];
+        let refusal = differ_into(left, right, &mut list).map(|d| d.len()).unwrap_err();
+        assert_eq!(refusal, Refusal { why: Why::BadKey, place: Place::Key { side, bit: 23 } });
+        assert_eq!(list, [0; 5]);
+    }
+    let refusal = differ(&[], &strings, &mut Buffers::default()).map(|d| d.len()).unwrap_err();
+    assert_eq!(refusal.to_string(), "refusal 10 (BadKey): a field that is no part of a key, at bit 0 of the left key");
+}
+
 #[test]
 fn nothing_is_a_refusal() {
     let empty = read_into(&[], &[], Options::default(), Lent::default()).unwrap_err();
@@ -206,6 +268,7 @@ fn null_slices() {
             _: u64,
             answer: *mut [u64; 8],
         );
+        fn typekey_differ(l: *const u8, _: u64, r: *const u8, _: u64, p: Words, _: u64, answer: *mut [u64; 8]);
     }
     let (n, mut answer) = (null_mut(), [9; 8]);
     // SAFETY: slices of length 0 may be null.
@@ -215,6 +278,10 @@ fn null_slices() {
     // SAFETY: as above.
     unsafe { typekey_take_back(null(), 0, n, 0, n, 0, null_mut(), 0, &mut answer) };
     assert_eq!(answer, [10, 0, 0, 0, 0, 0, 0, 0]);
+    answer = [9; 8];
+    // SAFETY: as above.
+    unsafe { typekey_differ(null(), 0, null(), 0, n, 0, &mut answer) };
+    assert_eq!(answer, [10, 1, 0, 0, 0, 0, 0, 0]);
 }
 
 #[test]

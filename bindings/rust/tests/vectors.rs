@@ -72,6 +72,7 @@ fn told(refusal: Refusal) -> [u64; 7] {
     match refusal.place {
         Place::Token { token, half, byte } => [number, token as u64, half as u64, byte as u64, 0, 0, 0],
         Place::Bit(bit) => [number, bit as u64, 0, 0, 0, 0, 0],
+        Place::Key { side, bit } => [number, side as u64, bit as u64, 0, 0, 0, 0],
     }
 }
 

@@ -123,38 +123,31 @@ module _ (n : ℕ) (left right : List ℕ) {z : Differed} (seen : z ≡ differ n
   undiffered {number} {side} {bit} e =
       let w = by-left (checked left) refl (sym (ap (λ y. y .answer) seen) ∙ e) in (w .0, seen ∙ w .1)
     where
-      Is : Differed → Type 0
-      Is d = d .answer ≡ difference.no number side bit → IsDeclined left right number side bit × (d ≡ declined n number side bit)
+      settled : {a b c : ℕ} → difference.no a b c ≡ difference.no number side bit → IsDeclined left right a b c
+          → IsDeclined left right number side bit × (declined n a b c ≡ declined n number side bit)
+      settled {a} {b} {c} f x =
+          let p : a ≡ number = cc in
+          let q : b ≡ side = cc in
+          let r : c ≡ bit = cc in (
+            subst (λ (y : ℕ). IsDeclined left right y side bit) p (subst (λ (y : ℕ). IsDeclined left right a y bit) q (subst (λ (y : ℕ). IsDeclined left right a b y) r x)),
+            λ i. declined n (p i) (q i) (r i),
+          )
 
-      listed : (b : Bool) (l : List Pair) → Is (reported n b l)
-      unfolding Is
+      listed : (b : Bool) (l : List Pair) → reported n b l .answer ≡ difference.no number side bit
+          → IsDeclined left right number side bit × (reported n b l ≡ declined n number side bit)
       listed true l f = clash (cc)
-      listed false l f =
-          let a : manyDifferences ≡ number = cc in
-          let b : noSide ≡ side = cc in
-          let c : 0 ≡ bit = cc in
-          (subst (λ (x : ℕ). IsDeclined left right x side bit) a (subst (λ (x : ℕ). IsDeclined left right manyDifferences x bit) b (subst (λ (x : ℕ). IsDeclined left right manyDifferences noSide x) c of-neither)), λ i. declined n (a i) (b i) (c i))
+      listed false l f = settled f of-neither
 
-      by-right : (t : Value) (o : table.Taken) → checked right ≡ o → Is (besides n t o)
-      unfolding Is
+      by-right : (t : Value) (o : table.Taken) → checked right ≡ o → besides n t o .answer ≡ difference.no number side bit
+          → IsDeclined left right number side bit × (besides n t o ≡ declined n number side bit)
       by-right t (taken u) j f =
           listed (leb (length (differences (contentOf nodeTable t) (contentOf nodeTable u))) (n / 2)) (differences (contentOf nodeTable t) (contentOf nodeTable u)) f
-      by-right t (refused w x) j f =
-          let a : w ≡ number = cc in
-          let b : rightSide ≡ side = cc in
-          let c : x ≡ bit = cc in
-          let h = keys.refusals newest (length right * 8) (length right * 8) (length right) right j in
-          (subst (λ (y : ℕ). IsDeclined left right y side bit) a (subst (λ (y : ℕ). IsDeclined left right w y bit) b (subst (λ (y : ℕ). IsDeclined left right w rightSide y) c (of-right h))), λ i. declined n (a i) (b i) (c i))
+      by-right t (refused w x) j f = settled f (of-right (keys.refusals newest (length right * 8) (length right * 8) (length right) right j))
 
-      by-left : (o : table.Taken) → checked left ≡ o → Is (begins n o right)
-      unfolding Is
+      by-left : (o : table.Taken) → checked left ≡ o → begins n o right .answer ≡ difference.no number side bit
+          → IsDeclined left right number side bit × (begins n o right ≡ declined n number side bit)
       by-left (taken t) j f = by-right t (checked right) refl f
-      by-left (refused w x) j f =
-          let a : w ≡ number = cc in
-          let b : leftSide ≡ side = cc in
-          let c : x ≡ bit = cc in
-          let h = keys.refusals newest (length left * 8) (length left * 8) (length left) left j in
-          (subst (λ (y : ℕ). IsDeclined left right y side bit) a (subst (λ (y : ℕ). IsDeclined left right w y bit) b (subst (λ (y : ℕ). IsDeclined left right w leftSide y) c (of-left h))), λ i. declined n (a i) (b i) (c i))
+      by-left (refused w x) j f = settled f (of-left (keys.refusals newest (length left * 8) (length left * 8) (length left) left j))
 
   -- Of two keys, each of a tree (`alike.passes`):
   module _ (bytes : Bytes left) (bytes' : Bytes right) {t u : Value} (l-is : checked left ≡ taken t) (r-is : checked right ≡ taken u) where

@@ -94,12 +94,7 @@ pub extern "C" fn typekey_take_back(
 
 // Says what differs between two keys. The answer is 0 and how many pairs there are; or the refusal's number, side and bit. The other words are 0.
 #[no_mangle]
-pub extern "C" fn typekey_differ(
-    left: &[u8],
-    right: &[u8],
-    list: &mut [u64],
-    answer: &mut [u64; 8],
-)
+pub extern "C" fn typekey_differ(left: &[u8], right: &[u8], list: &mut [u64], answer: &mut [u64; 8])
     ensures { λ _. ⌜ TellsDifference left right list answer ⌝ }
 {
     let r = differ(left, right, list);

@@ -1,5 +1,5 @@
-//! Prints the key of a type and walks its tree: `cargo run -- 'A | B & C'`.
-use typekey::{Buffers, EOF, Options, kind_of, read, take_back, token};
+//! Prints the key of a type, walks its tree and compares it with another: `cargo run -- 'A | B & C'`.
+use typekey::{Buffers, EOF, Options, differ, kind_of, read, take_back, token};
 
 /// Cuts at spaces, for words and marks. It stands in for the lexer that you have.
 fn cut(text: &str) -> Vec<u64> {
@@ -44,4 +44,17 @@ fn main() {
     let mut others = Buffers::default();
     let tree = take_back(reading.key, &mut others).expect("a key that was read");
     println!("taken back: a {} of {} nodes", tree.root().tag, tree.size());
+
+    // Two keys are the same bytes, or there are places where their trees differ: bits of the one and of the other.
+    let (other, mut beside) = ("A | B & D", Buffers::default());
+    let theirs = read(
+        other.as_bytes(),
+        &cut(other),
+        Options::default(),
+        &mut beside,
+    )
+    .expect("a type");
+    for d in differ(reading.key, theirs.key, &mut others).expect("keys that were read") {
+        println!("beside {other}: bit {}, bit {}", d.left, d.right);
+    }
 }
