@@ -2,10 +2,12 @@
 use mathlib.Core.Path.{_≡_}
 use mathlib.Core.Bool.{Bool, true, false}
 use mathlib.Core.List.{List, [], _∷_}
-use Prim.Native.Nat.{ℕ, _+_, _*_, _≤_, _<_}
+use Prim.Native.Nat.{ℕ, _+_, _*_, _^_, _≤_, _<_}
 use lib.ListN.{length}
 use Rattle.words.specs.Kind.{LParen, RParen, Str, Comma, Import, Typeof}
 use Rattle.words.specs.Test.{test}
+use Rattle.words.specs.Limits.{mostTokens}
+use Rattle.keys.specs.Limits.{recordWords}
 use Rattle.keys.specs.Bits.{unit}
 use Rattle.keys.specs.Placed as node
 use Rattle.keys.specs.Placed.{Placed, Spelling, Opt}
@@ -15,9 +17,9 @@ use Rattle.rules.specs.State as rule
 use Rattle.rules.specs.State.{State, Result, read, refused, then, next, stands, end, spelling, expect, make, turns}
 use Rattle.rules.specs.List.{count}
 use Rattle.rules.specs.Names as names
-use Rattle.parts.specs.State.{view, givenOf}
+use Rattle.parts.specs.State.{view, givenOf, Sound, Spelt, Fine, Under}
 use Rattle.parts.specs.Laid.{runsOpt, namesRun, Was, BuiltAt, AllOpt}
-use Rattle.parts.specs.Says.{Says, isThere}
+use Rattle.parts.specs.Says.{Says, SaysNames, isThere}
 use Rattle.parts.specs.declared.state.Given.{Given}
 use Rattle.parts.specs.declared.state.Mark.{Mark}
 use Rattle.parts.specs.declared.state.Begin.{Begin}
@@ -104,6 +106,18 @@ pub record Dotted (choices : ℕ) (make : List Spelling → Naming) : Type 0 whe
   pub scale-is : (l : List Spelling) → nameScale (make l) ≡ 64
   pub count-is : (l : List Spelling) → nameCount (make l) ≡ length l
 
+-- Names with dots from a mark on, by any such maker: what the rules read, from any text that is spelled so.
+abbrev pub StartsDotted : (W : List ℕ) (choices : ℕ) (m : Mark) (M : List ℕ) (n : Named) (M' : List ℕ) → Type 0
+StartsDotted W choices m M n M' =
+    (text O : List ℕ) (given : Given) (make : List Spelling → Naming) → Dotted choices make → Spelt text W
+    → SaysNames namesOf (NamingIs n) (dottedHead (givenOf text W given) make (view m O)) (n .why) m (n .m) M M' O
+
+-- The same of an import after its word, by whether a typeof stood before it.
+abbrev pub StartsImport : (W : List ℕ) (choices : ℕ) (m : Mark) (M : List ℕ) (n : Named) (M' : List ℕ) → Type 0
+StartsImport W choices m M n M' =
+    (text O : List ℕ) (given : Given) (isTypeof : Bool) → choices ≡ 18 + 64 * unit isTypeof → Spelt text W
+    → SaysNames namesOf (NamingIs n) (importHead (givenOf text W given) isTypeof (view m O)) (n .why) m (n .m) M M' O
+
 -- They are small.
 pub record NamedSmall (len : ℕ) (n : Named) : Type 0 where
   pub choices : n .choices ≤ 128
@@ -119,6 +133,12 @@ pub record OpenedAt (len : ℕ) (m q : Mark) : Type 0 where
   pub used-is : q .used ≡ m .used
   pub named-is : q .named ≡ m .named
   pub noted-is : q .noted ≡ m .noted
+
+-- The node may be put over its arguments.
+abbrev pub MayPutNamed : (W N : List ℕ) (given : Given) (b : Begin) (n : Named) (l : Listed) → Type 0
+MayPutNamed W N given b n l =
+    Sound W × (given .room * recordWords ≤ length N) × Fine (length W) given (l .m) × Under (l .m .used) (l .kids) × (b .first < 2 ^ 32) × (b .name ≤ mostTokens)
+    × NamedSmall (length W) n
 
 -- Its names and arguments stand since B, and the node that the rules make of them.
 abbrev pub MakesNamed : (W : List ℕ) (given : Given) (b : Begin) (n : Named) (l : Listed) (N : List ℕ) (a : Answer) (N' : List ℕ) → Type 0

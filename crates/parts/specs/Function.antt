@@ -2,11 +2,13 @@
 use mathlib.Core.Path.{_≡_}
 use mathlib.Core.Bool.{Bool, true, false}
 use mathlib.Core.List.{List}
-use Prim.Native.Nat.{ℕ, zero, suc, _+_, _*_}
+use Prim.Native.Nat.{ℕ, zero, suc, _+_, _*_, _^_, _≤_, _<_}
 use lib.ListN.{length}
 use Rattle.words.specs.Kind.{LParen, Question, Dot3, Abstract, New, This}
 use Rattle.words.specs.Test.{_and_, test}
 use Rattle.words.specs.Cursor.{firstByte}
+use Rattle.words.specs.Limits.{mostTokens}
+use Rattle.keys.specs.Limits.{recordWords}
 use Rattle.keys.specs.Bits.{unit}
 use Rattle.keys.specs.Placed.{Placed, Spelling, Opt, absent, present}
 use Rattle.keys.specs.Store.{Run, done, _⊕_}
@@ -17,10 +19,10 @@ use Rattle.rules.specs.List.{count}
 use Rattle.rules.specs.TypeParameters as types
 use Rattle.rules.specs.Function as function
 use Rattle.rules.specs.Function.{ThisParameter, Parameters}
-use Rattle.parts.specs.State.{view, givenOf, nextMark, pastMark}
+use Rattle.parts.specs.State.{notingWords, view, givenOf, nextMark, pastMark, Sound, Spelt, Fine, Under}
 use Rattle.parts.specs.Laid.{runIn, runOpt, runs, runsOpt, IsNode, IsOpt, AllNodes, AllOpt, Was, BuiltAt}
-use Rattle.parts.specs.Says.{Says, isThere}
-use Rattle.parts.specs.Node.{optList}
+use Rattle.parts.specs.Says.{Says, SaysNames, one, isThere}
+use Rattle.parts.specs.Node.{Links, optList}
 use Rattle.parts.specs.Names.{oneName}
 use Rattle.parts.specs.List.{here}
 use Rattle.parts.specs.declared.state.Given.{Given}
@@ -86,6 +88,11 @@ pub record SaysParams (B : Was) (t : Run) (R : Opt ThisParameter → Run) (x : R
   pub done : p .why ≡ 0 → GotParams B t R x p N M O
   pub refused : (p .why ≡ 0 → ⊥) → x ≡ refuse (p .why) (p .m .at) (p .m .half)
 
+-- Parameters p with one child more, the tree that was read from q to a.
+abbrev pub LinksParams : (p : Params) (q : Mark) (a : Answer) (N : List ℕ) (r : Params) (N' : List ℕ) → Type 0
+LinksParams p q a N r N' =
+    (r .why ≡ 0) × (r .count ≡ p .count) × (r .this ≡ p .this) × (r .m ≡ a .m) × Links (p .kids) (q .used) (a .m .used) (a .high) N (r .kids) N'
+
 -- A function type up to its type parameters.
 pub record HeadIs (W : List ℕ) (m : Mark) (h : FunctionHead) : Type 0 where
   pub first-is : h .b .first ≡ firstByte W (m .at) (m .half)
@@ -104,6 +111,12 @@ parameterHead g s =
     test (stands g Dot3 s and stands g This (past g Dot3 s)) (λ _. refused unsupported (past g Dot3 s)) λ _.
     then (oneName 0 g (past g Dot3 s)) λ x q.
     read (x, stands g Question q) (past g Question q)
+
+-- It from a mark on, with the choices of its dots and its `?`: what the rules read, from any text that is spelled so.
+abbrev pub StartsParameter : (W : List ℕ) (m : Mark) (M : List ℕ) (h : Head) (M' : List ℕ) → Type 0
+StartsParameter W m M h M' =
+    (text O : List ℕ) (given : Given) → Spelt text W
+    → SaysNames (λ x. one (x .0)) (λ x. h .choices ≡ unit (here W Dot3 m) + 2 * unit (x .1)) (parameterHead (givenOf text W given) (view m O)) (h .why) m (h .m) M M' O
 
 -- The bracket of parameters, and a `this` behind it.
 pub data Opens (W : List ℕ) (m : Mark) (h : Head) : Type 0 where
@@ -146,6 +159,18 @@ functionChoices there many bits params = 12 + 64 * (optList there many + listSca
 
 abbrev pub constructorChoices : (isAbstract there : Bool) (many params : ℕ) → ℕ
 constructorChoices isAbstract there many params = 13 + 64 * (unit isAbstract + 2 * (optList there many + listScale there * params))
+
+-- The node of a constructor type may be put, or a diagnostic be recorded before it.
+abbrev pub MayPutConstructor : (W N O : List ℕ) (given : Given) (h : FunctionHead) (p : Params) → Type 0
+MayPutConstructor W N O given h p =
+    Sound W × (given .room * recordWords ≤ length N) × (notingWords ≤ length O) × Fine (length W) given (p .m) × Under (p .m .used) (p .kids)
+    × (h .b .first < 2 ^ 32) × (h .b .name ≤ mostTokens)
+
+-- The same of any function type, whose `this` has two bits.
+abbrev pub MayPutFunction : (W N O : List ℕ) (given : Given) (h : FunctionHead) (p : Params) → Type 0
+MayPutFunction W N O given h p =
+    Sound W × (given .room * recordWords ≤ length N) × (notingWords ≤ length O) × Fine (length W) given (p .m) × Under (p .m .used) (p .kids)
+    × (p .this .bits ≤ 3) × (h .b .first < 2 ^ 32) × (h .b .name ≤ mostTokens)
 
 -- All parts of a function type that stand since B, and the node that the rules make of them.
 abbrev pub MakesFunction : (W : List ℕ) (given : Given) (h : FunctionHead) (there : Bool) (many : ℕ) (p : Params) (N O : List ℕ) (a : Answer) (N' O' : List ℕ) → Type 0

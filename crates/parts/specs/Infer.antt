@@ -2,18 +2,33 @@
 use mathlib.Core.Path.{_≡_}
 use mathlib.Core.Bool.{Bool, true, false}
 use mathlib.Core.List.{List, []}
-use Prim.Native.Nat.{ℕ}
+use Prim.Native.Nat.{ℕ, _*_, _^_, _≤_, _<_}
+use lib.ListN.{length}
+use Rattle.words.specs.Limits.{mostTokens, tallest}
+use Rattle.keys.specs.Limits.{recordWords}
 use Rattle.keys.specs.Placed as node
 use Rattle.keys.specs.Placed.{Placed, Spelling, absent, present}
 use Rattle.keys.specs.Store.{_⊕_}
 use Rattle.rules.specs.State.{end, make}
-use Rattle.parts.specs.State.{view, givenOf}
+use Rattle.parts.specs.State.{view, givenOf, nextMark, Sound, Spelt, Fine, placeOf}
 use Rattle.parts.specs.Laid.{heights, runIn, nameRun, IsNode, Was, Laid}
-use Rattle.parts.specs.Says.{Says}
+use Rattle.parts.specs.Says.{Says, SaysNames, Any, one}
+use Rattle.parts.specs.Names.{oneName}
 use Rattle.parts.specs.declared.state.Given.{Given}
 use Rattle.parts.specs.declared.state.Mark.{Mark}
 use Rattle.parts.specs.declared.state.Begin.{Begin}
 use Rattle.parts.specs.declared.state.Answer.{Answer}
+
+-- The name behind the infer at m: what the rules read, from any text that is spelled so.
+abbrev pub StartsInfer : (W : List ℕ) (m : Mark) (M : List ℕ) (a : Answer) (M' : List ℕ) → Type 0
+StartsInfer W m M a M' =
+    (text O : List ℕ) (given : Given) → Spelt text W → SaysNames one Any (oneName 0 (givenOf text W given) (view (nextMark m) O)) (a .why) m (a .m) M M' O
+
+-- The node may be put after a trial from m to q, which read a tree of a height.
+abbrev pub MayPutInfer : (W N : List ℕ) (given : Given) (b : Begin) (high : ℕ) (m q : Mark) → Type 0
+MayPutInfer W N given b high m q =
+    Sound W × (given .room * recordWords ≤ length N) × Fine (length W) given m × Fine (length W) given q × (placeOf m ≤ placeOf q) × (m .used < q .used)
+    × (high ≤ tallest) × (b .first < 2 ^ 32) × (b .name ≤ mostTokens)
 
 -- Over a name, and a constraint of a height if the trial was not dropped, the node that the rules make; the slices may hold more behind a dropped trial.
 abbrev pub Infers : (W : List ℕ) (given : Given) (b : Begin) (dropped : Bool) (high : ℕ) (m q : Mark) (N : List ℕ) (a : Answer) (N' : List ℕ) → Type 0

@@ -11,6 +11,7 @@ pub mod Infer
 pub mod Function
 pub mod Mapped
 pub mod Operator
+pub mod Postfix
 pub mod Primary
 pub mod Arguments
 pub mod Tuple

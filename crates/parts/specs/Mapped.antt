@@ -8,14 +8,15 @@ use Rattle.keys.specs.Store.{Run}
 use Rattle.rules.specs.State as rule
 use Rattle.rules.specs.State.{State, Result, read, then, end, past, expect, make}
 use Rattle.rules.specs.Mapped.{modifier}
-use Rattle.parts.specs.State.{view, givenOf}
+use Rattle.parts.specs.State.{view, givenOf, nextMark, Spelt}
 use Rattle.parts.specs.Laid.{Was, BuiltAt, Shape}
-use Rattle.parts.specs.Says.{Says}
+use Rattle.parts.specs.Says.{Says, SaysNames, one}
 use Rattle.parts.specs.Names.{oneName}
 use Rattle.parts.specs.declared.state.Given.{Given}
 use Rattle.parts.specs.declared.state.Mark.{Mark}
 use Rattle.parts.specs.declared.state.Begin.{Begin}
 use Rattle.parts.specs.declared.state.Kids.{Kids}
+use Rattle.parts.specs.declared.state.Head.{Head}
 use Rattle.parts.specs.declared.state.Answer.{Answer}
 
 -- From behind the `{` to the constraint: readonly, and the key.
@@ -26,6 +27,12 @@ mappedHead g s =
     then (oneName 0 g q) λ key q.
     expect g In q λ q.
     read (readonly, key) q
+
+-- It behind the `{` at m: what the rules read, from any text that is spelled so.
+abbrev pub StartsMapped : (W : List ℕ) (m : Mark) (M : List ℕ) (h : Head) (M' : List ℕ) → Type 0
+StartsMapped W m M h M' =
+    (text O : List ℕ) (given : Given) → Spelt text W
+    → SaysNames (λ x. one (x .1)) (λ x. h .choices ≡ x .0) (mappedHead (givenOf text W given) (view (nextMark m) O)) (h .why) m (h .m) M M' O
 
 -- From the `]` to the type: the `?`.
 abbrev pub mappedMiddle : rule.Given → State → Result ℕ

@@ -2,13 +2,14 @@
 use mathlib.Core.Path.{_≡_}
 use mathlib.Core.Bool.{Bool, true, false}
 use mathlib.Core.List.{List, [], _∷_}
-use Prim.Native.Nat.{ℕ, _+_, _*_, _≤_, _<_}
+use Prim.Native.Nat.{ℕ, _+_, _-_, _*_, _^_, _≤_, _<_}
 use lib.ListN.{length}
-use Rattle.words.specs.Limits.{tallest}
+use Rattle.words.specs.Limits.{mostTokens, tallest}
+use Rattle.keys.specs.Limits.{recordWords}
 use Rattle.keys.specs.Placed.{Placed, tree}
 use Rattle.keys.specs.Store.{Run, _⊕_}
 use Rattle.rules.specs.State.{make, end}
-use Rattle.parts.specs.State.{view, givenOf}
+use Rattle.parts.specs.State.{view, givenOf, Sound, Fine, Under}
 use Rattle.parts.specs.Laid.{heights, runIn, IsNode, Was, wasAt, Laid, Built, BuiltAt, Shape}
 use Rattle.parts.specs.Says.{Says}
 use Rattle.parts.specs.declared.state.Given.{Given}
@@ -18,6 +19,21 @@ use Rattle.parts.specs.declared.state.Kids.{Kids}
 use Rattle.parts.specs.declared.state.Answer.{Answer}
 
 -- ---- A node
+
+-- A node over children may be put: a sound list, room as told, a mark within what there is, and numbers that a record holds.
+abbrev pub MayPut : (W N : List ℕ) (given : Given) (b : Begin) (k : Kids) (m : Mark) → Type 0
+MayPut W N given b k m =
+    Sound W × (given .room * recordWords ≤ length N) × Fine (length W) given m × Under (m .used) k × (b .first < 2 ^ 32) × (b .name ≤ mostTokens)
+
+-- The same of a node whose one list are its children.
+abbrev pub MayPutList : (W N : List ℕ) (given : Given) (b : Begin) (tag : ℕ) (k : Kids) (m : Mark) → Type 0
+MayPutList W N given b tag k m =
+    Sound W × (given .room * recordWords ≤ length N) × Fine (length W) given m × Under (m .used) k × (b .first < 2 ^ 32) × (b .name ≤ mostTokens) × (tag < 64)
+
+-- The same of a node about the tree that was read last.
+abbrev pub MayPutAbout : (W N : List ℕ) (given : Given) (b : Begin) (high : ℕ) (m : Mark) → Type 0
+MayPutAbout W N given b high m =
+    Sound W × (given .room * recordWords ≤ length N) × Fine (length W) given m × (1 ≤ m .used) × (high ≤ tallest) × (b .first < 2 ^ 32) × (b .name ≤ mostTokens)
 
 -- At the same place there is one node more, or a refusal.
 pub record Put (given : Given) (m : Mark) (a : Answer) : Type 0 where
@@ -42,6 +58,10 @@ MakesList W given b tag k m N a N' =
     (text : List ℕ) (B : Was) (t : Run) (p : Placed) (M O : List ℕ)
     → BuiltAt B t k m N M O → b .name ≡ B .named → Shape 0 tag p t (tag + 64 * k .count)
     → Says 0 B (make (givenOf text W given) (k .count ∷ []) (tree tag (b .first) (end (givenOf text W given) (view m O)) p) (view m O)) a N' M O
+
+-- The same of a node whose one child is the tree that was read last.
+abbrev pub MakesAbout : (W : List ℕ) (given : Given) (b : Begin) (choices high : ℕ) (m : Mark) (N : List ℕ) (a : Answer) (N' : List ℕ) → Type 0
+MakesAbout W given b choices high m N a N' = Makes W given b choices (record { first = m .used - 1; count = 1; high = high }) m N a N'
 
 -- ---- A child
 

@@ -16,10 +16,13 @@ use Rattle.rules.specs.Arguments.{named, importType}
 use Rattle.rules.specs.Tuple.{tuple}
 use Rattle.rules.specs.Template.{template}
 use Rattle.rules.specs.Primary as primary
-use Rattle.parts.specs.State.{nextMark}
+use Rattle.parts.specs.State.{AnyGiven, view, givenOf, nextMark, Spelt}
+use Rattle.parts.specs.Laid.{was}
+use Rattle.parts.specs.Says.{Says}
 use Rattle.parts.specs.List.{here}
 use Rattle.parts.specs.Primary.{isLiteral}
 use Rattle.parts.specs.declared.state.Mark.{Mark}
+use Rattle.parts.specs.declared.state.Answer.{Answer}
 use Rattle.parts.specs.declared.primary.Start.{Start}
 use Rattle.parts.specs.declared.primary.Start.the-variants.{Keyword, Literal, This, Asserts, Name, Mapped, Tuple, Parens, Template, Nothing}
 
@@ -78,6 +81,12 @@ literalAt g s =
     test (stands g Minus s) (λ _. primary.negative g s) λ _.
     primary.literal g s
 
+-- A literal at m is what the rules make of it, from any text that is spelled so.
+abbrev pub SaysLiteral : (W : List ℕ) (given : AnyGiven) (m : Mark) (N M : List ℕ) (a : Answer) (N' M' : List ℕ) → Type 0
+SaysLiteral W given m N M a N' M' =
+    (text O : List ℕ) → Spelt text W → isLiteral (givenOf text W given) (view m O) ≡ true
+    → Says 0 (was m N M O) (literalAt (givenOf text W given) (view m O)) a N' M' O
+
 -- What a primary type begins as is what x, a rule's reading there, comes to.
 abbrev pub StartAs : Result Placed → Start → Given → Reader → State → Type 0
 StartAs x Keyword g T s = x ≡ primary.keyword g s
@@ -94,6 +103,10 @@ StartAs x (Nothing why) g T s = x ≡ refused why s
 -- The same of the whole rule.
 abbrev pub StartIs : Start → Given → Reader → State → Type 0
 StartIs r g T s = StartAs (primary.primary g T s) r g T s
+
+-- The same of a rule that begins at a mark.
+abbrev pub StartsAs : (rule : Given → Reader → State → Result Placed) (W : List ℕ) (m : Mark) (r : Start) → Type 0
+StartsAs rule W m r = (text O : List ℕ) (given : AnyGiven) (T : Reader) → StartAs (rule (givenOf text W given) T (view m O)) r (givenOf text W given) T (view m O)
 
 -- What a primary type begins as, by how many tokens stand there for sure.
 abbrev pub StartHas : Start → List ℕ → Mark → Type 0

@@ -2,19 +2,24 @@
 use mathlib.Core.Path.{_≡_}
 use mathlib.Core.Bool.{Bool, true}
 use mathlib.Core.List.{List, [], _∷_}
-use Prim.Native.Nat.{ℕ, _+_, _*_}
-use Rattle.words.specs.Kind.{RParen, Str, NumberLiteral, BigIntLiteral, NoSubstitutionTemplate}
+use Prim.Native.Nat.{ℕ, _+_, _*_, _^_, _≤_, _<_}
+use lib.ListN.{length}
+use Rattle.words.specs.Limits.{mostTokens}
+use Rattle.words.specs.Kind.{RParen, Minus, Str, NumberLiteral, BigIntLiteral, NoSubstitutionTemplate}
 use Rattle.words.specs.Test.{_or_, test, among}
 use Rattle.keys.specs.Bits.{unit}
+use Rattle.keys.specs.Limits.{recordWords}
 use Rattle.keys.specs.Placed as node
 use Rattle.keys.specs.Placed.{Placed, tree, present}
 use Rattle.rules.specs.State as rule
 use Rattle.rules.specs.State.{State, Result, read, kind, stands, next, end, spelling, expect, make}
 use Rattle.rules.specs.List.{position}
+use Rattle.rules.specs.Function.{subject}
 use Rattle.rules.specs.Primary as primary
-use Rattle.parts.specs.State.{view, givenOf, Spelt}
-use Rattle.parts.specs.Laid.{nameRun, was, Shape}
-use Rattle.parts.specs.Says.{Says}
+use Rattle.parts.specs.State.{view, givenOf, Sound, Spelt, Fine}
+use Rattle.parts.specs.Laid.{nameRun, Was, was, Stands, Spoken, Shape}
+use Rattle.parts.specs.Says.{Says, optNames}
+use Rattle.parts.specs.List.{here}
 use Rattle.parts.specs.declared.state.Given.{Given}
 use Rattle.parts.specs.declared.state.Mark.{Mark}
 use Rattle.parts.specs.declared.state.Begin.{Begin}
@@ -31,6 +36,16 @@ closeParens g b t s =
     test (g .parens) (λ _. make g [] (node.parens b (end g q) t) q) λ _.
     read t q
 
+-- Over a tree that stands since B, what the rules make of it once its `)` is passed.
+abbrev pub MakesParens : (W : List ℕ) (given : Given) (b : Begin) (high : ℕ) (m : Mark) (N : List ℕ) (a : Answer) (N' : List ℕ) → Type 0
+MakesParens W given b high m N a N' =
+    (text : List ℕ) (B : Was) (t : Placed) (M O : List ℕ) → Stands 0 B t high m N M O → b .name ≡ B .named
+    → Says 0 B (closeParens (givenOf text W given) (b .first) t (view m O)) a N' M O
+
+-- The subject of a predicate that begins at m, from that state of it on: its name, if it is one, was read from m to q.
+abbrev pub SpeaksSubject : (from : State → State) (W : List ℕ) (m : Mark) (M : List ℕ) (q : Mark) (M' : List ℕ) → Type 0
+SpeaksSubject from W m M q M' = (text O : List ℕ) (given : Given) → Spelt text W → Spoken (optNames (subject (givenOf text W given) (from (view m O)))) m q M M'
+
 -- The choices of a predicate up to its type.
 abbrev pub predicateChoices : (asserts isThis : Bool) → ℕ
 predicateChoices asserts isThis = 16 + 64 * (unit asserts + 2 * unit isThis)
@@ -38,6 +53,20 @@ predicateChoices asserts isThis = 16 + 64 * (unit asserts + 2 * unit isThis)
 -- The choices of a literal that is spelled, or of a template with no type.
 abbrev pub literalChoices : ℕ → ℕ
 literalChoices k = test (among (Str ∷ NumberLiteral ∷ BigIntLiteral ∷ []) k) (λ _. 3 + 64 * position k primary.literals) (λ _. 15)
+
+-- A node of the token at m may be put.
+abbrev pub MayPutToken : (W N : List ℕ) (given : Given) (m : Mark) → Type 0
+MayPutToken W N given m = Sound W × (given .room * recordWords ≤ length N) × Fine (length W) given m × (m .at < length W)
+
+-- The same of a literal, which stands behind a sign if there is one.
+abbrev pub MayPutLiteral : (W N : List ℕ) (given : Given) (m : Mark) → Type 0
+MayPutLiteral W N given m =
+    Sound W × (given .room * recordWords ≤ length N) × Fine (length W) given m × (m .at < length W) × (here W Minus m ≡ true → m .at + 1 < length W)
+
+-- The same of a node that begins before the token.
+abbrev pub MayPutSpelled : (W N : List ℕ) (given : Given) (b : Begin) (m : Mark) → Type 0
+MayPutSpelled W N given b m =
+    Sound W × (given .room * recordWords ≤ length N) × Fine (length W) given m × (m .at < length W) × (b .first < 2 ^ 32) × (b .name ≤ mostTokens)
 
 -- A node of one name, the token at m, is what the rules make of it.
 abbrev pub SaysSpelled : (W : List ℕ) (given : Given) (b : Begin) (choices : ℕ) (m : Mark) (N M : List ℕ) (a : Answer) (N' M' : List ℕ) → Type 0

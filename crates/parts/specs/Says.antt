@@ -73,6 +73,10 @@ pub record SaysNames {A : Type 0} (R : A → List Spelling) (P : A → Type 0) (
   pub done : why ≡ 0 → GotNames R P x m q M M' O
   pub refused : (why ≡ 0 → ⊥) → x ≡ refuse why (q .at) (q .half)
 
+-- A rule that begins at a mark and reads names alone: what it reads, from any text that is spelled so.
+abbrev pub StartsNames : {A : Type 0} (R : A → List Spelling) (P : A → Type 0) (rule : rule.Given → State → Result A) (W : List ℕ) (m : Mark) (M : List ℕ) (why : ℕ) (q : Mark) (M' : List ℕ) → Type 0
+StartsNames R P rule W m M why q M' = (text O : List ℕ) (given : Given) → Spelt text W → SaysNames R P (rule (givenOf text W given) (view m O)) why m q M M' O
+
 -- Nothing is asked of what was read.
 abbrev pub Any : {A : Type 0} → A → Type 0
 Any a = Unit {0}

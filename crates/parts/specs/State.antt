@@ -9,6 +9,7 @@ use Rattle.words.specs.Test.{test}
 use Rattle.words.specs.Word.{size, end}
 use Rattle.words.specs.Cursor.{wordAt, kindAt}
 use Rattle.words.specs.Check.{spelled}
+use Rattle.keys.specs.Limits.{recordWords}
 use Rattle.rules.specs.Notes.{Note, note, noteWidth}
 use Rattle.rules.specs.State as rule
 use Rattle.rules.specs.State.{State}
@@ -88,7 +89,7 @@ pub record Spelt (text W : List ℕ) : Type 0 where
 
 -- The room for nodes is that of the words lent, and there are words for every diagnostic that there may be.
 pub record Room (nodes notes : ℕ) (g : Given) : Type 0 where
-  pub forNodes : g .room * 4 ≤ nodes
+  pub forNodes : g .room * recordWords ≤ nodes
   pub forNotes : notingWords ≤ notes
 
 -- A cursor within the list.

@@ -4,12 +4,14 @@ use mathlib.Core.Bool.{Bool, true, not}
 use mathlib.Core.List.{List, [], _∷_}
 use Prim.Native.Nat.{ℕ, _+_, _-_, _*_, _/_, _%_, _^_, _≤_, _<_}
 use lib.Dec.{eqb}
-use lib.ListN.{getD}
+use lib.ListN.{length, getD}
+use Rattle.words.specs.Limits.{mostTokens, tallest}
 use Rattle.words.specs.Kind.{Question, Colon, Dot3}
 use Rattle.words.specs.Class as class
 use Rattle.words.specs.Test.{_and_, _or_, test}
 use Rattle.words.specs.Cursor.{wholeKind, kindAt, firstByte}
 use Rattle.keys.specs.Bits.{unit}
+use Rattle.keys.specs.Limits.{recordWords}
 use Rattle.keys.specs.Placed as node
 use Rattle.keys.specs.Placed.{Placed, tree, Spelling}
 use Rattle.keys.specs.Store.{_⊕_}
@@ -17,13 +19,14 @@ use Rattle.rules.specs.Notes.{note, requiredAfterOptional, restAfterLabel, aske
 use Rattle.rules.specs.State as rule
 use Rattle.rules.specs.State.{State, Result, Reader, read, then, next, stands, first, end, spelling, past, make, reportIf}
 use Rattle.rules.specs.Tuple as tuple
-use Rattle.parts.specs.State.{view, givenOf, nextMark, pastMark, namedMark}
-use Rattle.parts.specs.Laid.{heights, runIn, namesRun, IsNode, Was, Laid, Stands}
+use Rattle.parts.specs.State.{notingWords, view, givenOf, nextMark, pastMark, namedMark, Sound, Spelt, Fine, Under}
+use Rattle.parts.specs.Laid.{heights, runIn, namesRun, IsNode, Was, Laid, Stands, Spoken}
 use Rattle.parts.specs.Says.{Says}
 use Rattle.parts.specs.List.{here}
 use Rattle.parts.specs.declared.state.Given.{Given}
 use Rattle.parts.specs.declared.state.Mark.{Mark}
 use Rattle.parts.specs.declared.state.Begin.{Begin}
+use Rattle.parts.specs.declared.state.Kids.{Kids}
 use Rattle.parts.specs.declared.state.Answer.{Answer}
 use Rattle.parts.specs.declared.tuple.Label.{Label}
 use Rattle.parts.specs.declared.tuple.Seen.{Seen}
@@ -80,6 +83,14 @@ elementStart g s =
 abbrev pub labelNames : rule.Given → State → List Spelling
 labelNames g s = test (tuple.labelled g (past g Dot3 s)) (λ _. spelling g (past g Dot3 s) ∷ []) (λ _. [])
 
+-- An element from a mark on, as the rules say it of any text that is spelled so: where its type begins, whether it has a label, and the label's name.
+abbrev pub StartsElement : (W : List ℕ) (m : Mark) (M : List ℕ) (l : Label) (M' : List ℕ) → Type 0
+StartsElement W m M l M' =
+    (text O : List ℕ) (given : Given) → Spelt text W
+    → (view (l .m) O ≡ elementStart (givenOf text W given) (view m O))
+    × (l .labelled ≡ tuple.labelled (givenOf text W given) (past (givenOf text W given) Dot3 (view m O)))
+    × Spoken (labelNames (givenOf text W given) (view m O)) m (l .m) M M'
+
 -- What it comes to once its type t was read.
 abbrev pub elementAfter : rule.Given → Reader → State → Placed → State → Result Placed
 elementAfter g T s t q =
@@ -109,6 +120,33 @@ restAfter g l e q =
 -- The choices of a member.
 abbrev pub memberChoices : Bool → ℕ
 memberChoices asked = 22 + 64 * unit asked
+
+-- ---- What is asked before a node is put
+
+-- A member may be put about its type, which was read last.
+abbrev pub MayPutMember : (W N : List ℕ) (given : Given) (l : Label) (high : ℕ) (m : Mark) → Type 0
+MayPutMember W N given l high m =
+    Sound W × (given .room * recordWords ≤ length N) × Fine (length W) given m × (1 ≤ m .used) × (high ≤ tallest) × LabelSmall l × (l .b .name ≤ mostTokens)
+
+-- The same of a member, and of a rest about it, where a diagnostic may be recorded.
+abbrev pub MayPutRest : (W N O : List ℕ) (given : Given) (l : Label) (high : ℕ) (m : Mark) → Type 0
+MayPutRest W N O given l high m =
+    Sound W × (given .room * recordWords ≤ length N) × (notingWords ≤ length O) × Fine (length W) given m × (1 ≤ m .used) × (high ≤ tallest)
+    × LabelSmall l × (l .b .name ≤ mostTokens)
+
+-- The same of any element whose type was read.
+abbrev pub MayPutElement : (W N O : List ℕ) (given : Given) (l : Label) (a : Answer) → Type 0
+MayPutElement W N O given l a =
+    Sound W × (given .room * recordWords ≤ length N) × (notingWords ≤ length O) × Fine (length W) given (a .m) × (1 ≤ a .m .used) × (a .high ≤ tallest)
+    × (a .why ≡ 0) × LabelSmall l × (l .b .name ≤ mostTokens)
+
+-- A tuple may be put over its elements, at the mark that closes it.
+abbrev pub MayPutTuple : (W N : List ℕ) (given : Given) (b : Begin) (k : Kids) (m : Mark) → Type 0
+MayPutTuple W N given b k m =
+    Sound W × (given .room * recordWords ≤ length N) × Fine (length W) given m × (m .at < length W) × Under (m .used) k
+    × (b .first < 2 ^ 32) × (b .name ≤ mostTokens)
+
+-- ---- What members make
 
 -- A `?` node that was read last became an optional one; r says whether it was one.
 abbrev pub Converts : (used : ℕ) (N : List ℕ) (r : Bool) (N' : List ℕ) → Type 0

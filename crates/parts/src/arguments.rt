@@ -1,18 +1,16 @@
 // Type arguments, and the references that have them, without the types in them.
 ghost use mathlib.Core.Path.{_≡_};
-ghost use mathlib.Core.Bool.{Bool, true};
+ghost use mathlib.Core.Bool.{true};
 ghost use mathlib.Core.List.{List};
-ghost use Prim.Native.Nat.{ℕ, _+_, _*_, _≤_, _<_, _^_};
+ghost use Prim.Native.Nat.{ℕ, _+_, _≤_, _<_};
 ghost use lib.ListN.{length};
-ghost use Rattle.words.specs.Limits.{mostTokens};
 ghost use Rattle.words.specs.Class.{classWords};
-ghost use Rattle.keys.specs.Bits.{unit};
-ghost use Rattle.keys.specs.Placed.{Spelling};
 ghost use Rattle.rules.specs.Arguments as rule;
-ghost use Rattle.parts.specs.State.{AnyGiven, view, givenOf, Sound, Spelt, Inside, Fine, Along, Under};
-ghost use Rattle.parts.specs.Says.{SaysNames, Any, one};
+ghost use Rattle.parts.specs.State.{AnyGiven, view, givenOf, Sound, Inside, Along};
+ghost use Rattle.parts.specs.Says.{Any, one, StartsNames};
 ghost use Rattle.parts.specs.Node.{Put};
-ghost use Rattle.parts.specs.Arguments.{Naming, namesOf, importSource, importHead, dottedHead, queryHead, namingHead, NamingIs, Dotted, NamedSmall, MakesNamed, OpenedAt};
+ghost use Rattle.parts.specs.Arguments.{namesOf, importSource, queryHead, namingHead, NamingIs, NamedSmall, MakesNamed, OpenedAt, MayPutNamed, StartsDotted, StartsImport};
+ghost use Rattle.parts.specs.Names.{MayName};
 use crate::names::dots;
 use crate::names::dotted_name;
 use crate::names::spell;
@@ -95,8 +93,8 @@ impl Named {
 
 // By the word that begins it.
 pub fn named_head(words: &[u64], classes: &[u16; 256], names: &mut [u64], m: Mark) -> Named
-    requires { ⌜ (now classes ≡ classWords) × Sound (now words) × Inside (length (now words)) m × (m .named ≤ m .at) ⌝ }
-    ensures { λ r. ⌜ ((text O : List ℕ) (given : AnyGiven) → Spelt text (now (words .entry)) → SaysNames namesOf (NamingIs r) (namingHead (givenOf text (now (words .entry)) given) (view m O)) (r .why) m (r .m) (now (names .entry)) (now (names .exit)) O) ⌝ }
+    requires { ⌜ MayName (now classes) (now words) m ⌝ }
+    ensures { λ r. ⌜ StartsNames namesOf (NamingIs r) namingHead (now (words .entry)) m (now (names .entry)) (r .why) (r .m) (now (names .exit)) ⌝ }
     ensures { λ r. ⌜ Along (length (now (words .entry))) m (r .m) × NamedSmall (length (now (words .entry))) r × (m .at < r .m .at + r .why) ⌝ }
 {
     let kind = kind_at(words, m);
@@ -111,8 +109,8 @@ pub fn named_head(words: &[u64], classes: &[u16; 256], names: &mut [u64], m: Mar
 
 // Behind typeof: a name or an import.
 fn query(words: &[u64], classes: &[u16; 256], names: &mut [u64], m: Mark) -> Named
-    requires { ⌜ (now classes ≡ classWords) × Sound (now words) × Inside (length (now words)) m × (m .named ≤ m .at) ⌝ }
-    ensures { λ r. ⌜ ((text O : List ℕ) (given : AnyGiven) → Spelt text (now (words .entry)) → SaysNames namesOf (NamingIs r) (queryHead (givenOf text (now (words .entry)) given) (view m O)) (r .why) m (r .m) (now (names .entry)) (now (names .exit)) O) ⌝ }
+    requires { ⌜ MayName (now classes) (now words) m ⌝ }
+    ensures { λ r. ⌜ StartsNames namesOf (NamingIs r) queryHead (now (words .entry)) m (now (names .entry)) (r .why) (r .m) (now (names .exit)) ⌝ }
     ensures { λ r. ⌜ Along (length (now (words .entry))) m (r .m) × NamedSmall (length (now (words .entry))) r × (m .at < r .m .at + r .why) ⌝ }
 {
     if kind_at(words, m) == Kind::IMPORT {
@@ -130,7 +128,7 @@ fn reference(
     m: Mark,
 ) -> Named
     requires { ⌜ (now classes ≡ classWords) × Sound (now words) × Inside (length (now words)) m × (m .named ≤ m .at) × (choices ≤ 128) ⌝ }
-    ensures { λ r. ⌜ ((text O : List ℕ) (given : AnyGiven) (make : List Spelling → Naming) → Dotted choices make → Spelt text (now (words .entry)) → SaysNames namesOf (NamingIs r) (dottedHead (givenOf text (now (words .entry)) given) make (view m O)) (r .why) m (r .m) (now (names .entry)) (now (names .exit)) O) ⌝ }
+    ensures { λ r. ⌜ StartsDotted (now (words .entry)) choices m (now (names .entry)) r (now (names .exit)) ⌝ }
     ensures { λ r. ⌜ Along (length (now (words .entry))) m (r .m) × NamedSmall (length (now (words .entry))) r × (m .at < r .m .at + r .why) ⌝ }
 {
     let a = dotted_name(words, classes, names, m);
@@ -150,7 +148,7 @@ fn reference(
 // An import after its word, whose source has to be a string; options would begin with a comma.
 fn import_source(words: &[u64], names: &mut [u64], m: Mark) -> Answer
     requires { ⌜ Sound (now words) × Inside (length (now words)) m × (m .named ≤ m .at) ⌝ }
-    ensures { λ r. ⌜ ((text O : List ℕ) (given : AnyGiven) → Spelt text (now (words .entry)) → SaysNames one Any (importSource (givenOf text (now (words .entry)) given) (view m O)) (r .why) m (r .m) (now (names .entry)) (now (names .exit)) O) ⌝ }
+    ensures { λ r. ⌜ StartsNames one Any importSource (now (words .entry)) m (now (names .entry)) (r .why) (r .m) (now (names .exit)) ⌝ }
     ensures { λ r. ⌜ Along (length (now (words .entry))) m (r .m) × (m .at < r .m .at + r .why) ⌝ }
 {
     if kind_at(words, m) != Kind::L_PAREN {
@@ -173,7 +171,7 @@ fn import_source(words: &[u64], names: &mut [u64], m: Mark) -> Answer
 // An import after its word: its source and its names.
 fn import(words: &[u64], classes: &[u16; 256], names: &mut [u64], choices: usize, m: Mark) -> Named
     requires { ⌜ (now classes ≡ classWords) × Sound (now words) × Inside (length (now words)) m × (m .named ≤ m .at) × (choices ≤ 128) ⌝ }
-    ensures { λ r. ⌜ ((text O : List ℕ) (given : AnyGiven) (isTypeof : Bool) → choices ≡ 18 + 64 * unit isTypeof → Spelt text (now (words .entry)) → SaysNames namesOf (NamingIs r) (importHead (givenOf text (now (words .entry)) given) isTypeof (view m O)) (r .why) m (r .m) (now (names .entry)) (now (names .exit)) O) ⌝ }
+    ensures { λ r. ⌜ StartsImport (now (words .entry)) choices m (now (names .entry)) r (now (names .exit)) ⌝ }
     ensures { λ r. ⌜ Along (length (now (words .entry))) m (r .m) × NamedSmall (length (now (words .entry))) r × (m .at < r .m .at + r .why) ⌝ }
 {
     let s = import_source(words, names, m);
@@ -204,7 +202,7 @@ pub fn named_node(
     n: Named,
     l: Listed,
 ) -> Answer
-    requires { ⌜ Sound (now words) × (given .room * 4 ≤ length (now nodes)) × Fine (length (now words)) given (l .m) × Under (l .m .used) (l .kids) × (b .first < 2 ^ 32) × (b .name ≤ mostTokens) × NamedSmall (length (now words)) n ⌝ }
+    requires { ⌜ MayPutNamed (now words) (now nodes) given b n l ⌝ }
     ensures { λ r. ⌜ MakesNamed (now (words .entry)) given b n l (now (nodes .entry)) r (now (nodes .exit)) ⌝ }
     ensures { λ r. ⌜ Put given (l .m) r ⌝ }
 {

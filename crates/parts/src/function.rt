@@ -2,25 +2,26 @@
 ghost use mathlib.Core.Path.{_≡_};
 ghost use mathlib.Core.List.{List};
 ghost use mathlib.Core.Bool.{true};
-ghost use Prim.Native.Nat.{ℕ, _+_, _-_, _*_, _≤_, _<_, _^_};
+ghost use Prim.Native.Nat.{ℕ, _+_, _*_, _≤_, _<_, _^_};
 ghost use lib.Dec.{ltb};
 ghost use lib.ListN.{length};
 ghost use Rattle.words.specs.Class.{classWords};
 ghost use Rattle.words.specs.Test.{_and_, _or_};
-ghost use Rattle.words.specs.Limits.{mostTokens, longest, tallest};
+ghost use Rattle.words.specs.Limits.{longest, tallest};
 ghost use Rattle.words.specs.Kind as kind;
 ghost use Rattle.words.specs.Ahead.{functionStart};
 ghost use Rattle.words.specs.Cursor.{firstByte, endByte};
+ghost use Rattle.keys.specs.Limits.{recordWords};
 ghost use Rattle.keys.specs.Bits.{unit};
 ghost use Rattle.rules.specs.Refusal.{unsupported};
 ghost use Rattle.rules.specs.TypeRule as type;
 ghost use Rattle.rules.specs.TypeParameters as types;
 ghost use Rattle.rules.specs.Function as rule;
-ghost use Rattle.parts.specs.State.{notingWords, AnyGiven, view, givenOf, nextMark, Sound, Spelt, Inside, Fine, Moved, Along, Under, Reached, placeOf};
-ghost use Rattle.parts.specs.Says.{SaysNames, Any, one};
+ghost use Rattle.parts.specs.State.{AnyGiven, view, givenOf, nextMark, Sound, Inside, Moved, Along, Under, Reached, placeOf};
+ghost use Rattle.parts.specs.Says.{Any, one, StartsNames};
 ghost use Rattle.parts.specs.List.{here, Separates};
-ghost use Rattle.parts.specs.Node.{Links};
-ghost use Rattle.parts.specs.Function.{whyIf, HeadIs, typeParameterHead, parameterHead, Opens, freedMark, beforeThis, behindThis, freedUsed, listScale, thisScale, functionChoices, constructorChoices, MakesFunction};
+ghost use Rattle.parts.specs.Function.{whyIf, HeadIs, typeParameterHead, Opens, freedMark, beforeThis, behindThis, freedUsed, listScale, thisScale, functionChoices, constructorChoices, MakesFunction, LinksParams, MayPutConstructor, MayPutFunction, StartsParameter};
+ghost use Rattle.parts.specs.Names.{MayName};
 use crate::names::name;
 use crate::node::Count;
 use crate::node::Tag;
@@ -158,8 +159,8 @@ impl Params {
 
     // With one child more, which was read from q on.
     pub fn with(self, nodes: &mut [u64], q: Mark, a: Answer) -> Params
-        requires { ⌜ (q .used < a .m .used) × (a .m .used * 4 ≤ length (now nodes)) × Under (q .used) (self .kids) × (a .high ≤ tallest) ⌝ }
-        ensures { λ r. ⌜ (r .why ≡ 0) × (r .count ≡ self .count) × (r .this ≡ self .this) × (r .m ≡ a .m) × Links (self .kids) (q .used) (a .m .used) (a .high) (now (nodes .entry)) (r .kids) (now (nodes .exit)) ⌝ }
+        requires { ⌜ (q .used < a .m .used) × (a .m .used * recordWords ≤ length (now nodes)) × Under (q .used) (self .kids) × (a .high ≤ tallest) ⌝ }
+        ensures { λ r. ⌜ LinksParams self q a (now (nodes .entry)) r (now (nodes .exit)) ⌝ }
         ensures { λ r. ⌜ Under (a .m .used) (r .kids) ⌝ }
     {
         let m = a.m;
@@ -198,8 +199,8 @@ pub fn varies(words: &[u64], classes: &[u16; 256], m: Mark) -> usize
 
 // A type parameter up to its constraint.
 pub fn type_param_head(words: &[u64], classes: &[u16; 256], names: &mut [u64], m: Mark) -> Answer
-    requires { ⌜ (now classes ≡ classWords) × Sound (now words) × Inside (length (now words)) m × (m .named ≤ m .at) ⌝ }
-    ensures { λ r. ⌜ ((text O : List ℕ) (given : AnyGiven) → Spelt text (now (words .entry)) → SaysNames one Any (typeParameterHead (givenOf text (now (words .entry)) given) (view m O)) (r .why) m (r .m) (now (names .entry)) (now (names .exit)) O) ⌝ }
+    requires { ⌜ MayName (now classes) (now words) m ⌝ }
+    ensures { λ r. ⌜ StartsNames one Any typeParameterHead (now (words .entry)) m (now (names .entry)) (r .why) (r .m) (now (names .exit)) ⌝ }
     ensures { λ r. ⌜ Along (length (now (words .entry))) m (r .m) × (m .at < r .m .at + r .why) ⌝ }
 {
     let why = varies(words, classes, m);
@@ -220,8 +221,8 @@ fn bit(holds: bool) -> usize
 
 // A parameter up to its type: optional `...`, its name, optional `?`.
 pub fn param_head(words: &[u64], classes: &[u16; 256], names: &mut [u64], m: Mark) -> Head
-    requires { ⌜ (now classes ≡ classWords) × Sound (now words) × Inside (length (now words)) m × (m .named ≤ m .at) ⌝ }
-    ensures { λ r. ⌜ ((text O : List ℕ) (given : AnyGiven) → Spelt text (now (words .entry)) → SaysNames (λ x. one (x .0)) (λ x. r .choices ≡ unit (here (now (words .entry)) kind.Dot3 m) + 2 * unit (x .1)) (parameterHead (givenOf text (now (words .entry)) given) (view m O)) (r .why) m (r .m) (now (names .entry)) (now (names .exit)) O) ⌝ }
+    requires { ⌜ MayName (now classes) (now words) m ⌝ }
+    ensures { λ r. ⌜ StartsParameter (now (words .entry)) m (now (names .entry)) r (now (names .exit)) ⌝ }
     ensures { λ r. ⌜ Along (length (now (words .entry))) m (r .m) × (r .choices ≤ 3) × (m .at < r .m .at + r .why) ⌝ }
 {
     let rest = kind_at(words, m) == Kind::DOT3;
@@ -435,7 +436,7 @@ pub fn function_node(
     count: usize,
     p: Params,
 ) -> Answer
-    requires { ⌜ Sound (now words) × (given .room * 4 ≤ length (now nodes)) × (notingWords ≤ length (now notes)) × Fine (length (now words)) given (p .m) × Under (p .m .used) (p .kids) × (p .this .bits ≤ 3) × (h .b .first < 2 ^ 32) × (h .b .name ≤ mostTokens) ⌝ }
+    requires { ⌜ MayPutFunction (now words) (now nodes) (now notes) given h p ⌝ }
     ensures { λ r. ⌜ MakesFunction (now (words .entry)) given h there count p (now (nodes .entry)) (now (notes .entry)) r (now (nodes .exit)) (now (notes .exit)) ⌝ }
     ensures { λ r. ⌜ Reached (length (now (words .entry))) given (placeOf (p .m)) (p .m .used + 1) (r .high) (r .why) (r .m) ⌝ }
 {
@@ -461,7 +462,7 @@ fn constructor_node(
     count: usize,
     p: Params,
 ) -> Answer
-    requires { ⌜ Sound (now words) × (given .room * 4 ≤ length (now nodes)) × (notingWords ≤ length (now notes)) × Fine (length (now words)) given (p .m) × Under (p .m .used) (p .kids) × (h .b .first < 2 ^ 32) × (h .b .name ≤ mostTokens) ⌝ }
+    requires { ⌜ MayPutConstructor (now words) (now nodes) (now notes) given h p ⌝ }
     ensures { λ r. ⌜ (h .«is_new» ≡ true → MakesFunction (now (words .entry)) given h there count p (now (nodes .entry)) (now (notes .entry)) r (now (nodes .exit)) (now (notes .exit))) ⌝ }
     ensures { λ r. ⌜ Reached (length (now (words .entry))) given (placeOf (p .m)) (p .m .used + 1) (r .high) (r .why) (r .m) ⌝ }
 {

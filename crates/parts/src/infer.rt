@@ -1,17 +1,13 @@
 // Infer: its trial, without the constraint's type.
 ghost use mathlib.Core.Path.{_≡_};
-ghost use mathlib.Core.List.{List};
-ghost use Prim.Native.Nat.{ℕ, _+_, _*_, _≤_, _<_, _^_};
+ghost use Prim.Native.Nat.{_+_, _≤_, _<_};
 ghost use lib.ListN.{length};
 ghost use Rattle.words.specs.Class.{classWords};
-ghost use Rattle.words.specs.Limits.{mostTokens, tallest};
 ghost use Rattle.words.specs.Kind as kind;
 ghost use Rattle.words.specs.Test.{_and_};
-ghost use Rattle.parts.specs.State.{AnyGiven, view, givenOf, Sound, Spelt, Along, Fine, Reached, placeOf, nextMark};
-ghost use Rattle.parts.specs.Says.{SaysNames, Any, one};
-ghost use Rattle.parts.specs.Names.{oneName};
+ghost use Rattle.parts.specs.State.{Sound, Along, Reached, placeOf, nextMark};
 ghost use Rattle.parts.specs.List.{here};
-ghost use Rattle.parts.specs.Infer.{Infers};
+ghost use Rattle.parts.specs.Infer.{Infers, MayPutInfer, StartsInfer};
 use crate::names::name;
 use crate::node::Tag;
 use crate::node::put;
@@ -29,8 +25,7 @@ use words::kind::Kind;
 // Past infer and the name that is bound.
 pub fn infer_head(words: &[u64], classes: &[u16; 256], names: &mut [u64], m: Mark) -> Answer
     requires { ⌜ (now classes ≡ classWords) × Sound (now words) × (m .at < length (now words)) × (m .named ≤ m .at) ⌝ }
-    ensures { λ r. ⌜ ((text O : List ℕ) (given : AnyGiven) → Spelt text (now (words .entry))
-        → SaysNames one Any (oneName 0 (givenOf text (now (words .entry)) given) (view (nextMark m) O)) (r .why) m (r .m) (now (names .entry)) (now (names .exit)) O) ⌝ }
+    ensures { λ r. ⌜ StartsInfer (now (words .entry)) m (now (names .entry)) r (now (names .exit)) ⌝ }
     ensures { λ r. ⌜ Along (length (now (words .entry))) (nextMark m) (r .m) ⌝ }
 {
     name(words, classes, names, Class::BINDING_WORD, next(m))
@@ -57,7 +52,7 @@ pub fn infer_node(
     m: Mark,
     q: Mark,
 ) -> Answer
-    requires { ⌜ Sound (now words) × (given .room * 4 ≤ length (now nodes)) × Fine (length (now words)) given m × Fine (length (now words)) given q × (placeOf m ≤ placeOf q) × (m .used < q .used) × (high ≤ tallest) × (b .first < 2 ^ 32) × (b .name ≤ mostTokens) ⌝ }
+    requires { ⌜ MayPutInfer (now words) (now nodes) given b high m q ⌝ }
     ensures { λ r. ⌜ Infers (now (words .entry)) given b «is_dropped» high m q (now (nodes .entry)) r (now (nodes .exit)) ⌝ }
     ensures { λ r. ⌜ Reached (length (now (words .entry))) given (placeOf m) (m .used + 1) (r .high) (r .why) (r .m) ⌝ }
 {

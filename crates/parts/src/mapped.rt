@@ -1,15 +1,15 @@
 // Mapped types, without the types in them.
 ghost use mathlib.Core.Path.{_≡_};
 ghost use mathlib.Core.List.{List};
-ghost use Prim.Native.Nat.{ℕ, _+_, _*_, _≤_, _<_, _^_};
+ghost use Prim.Native.Nat.{ℕ, _+_, _≤_, _<_};
 ghost use lib.ListN.{length};
-ghost use Rattle.words.specs.Limits.{mostTokens};
 ghost use Rattle.words.specs.Class.{classWords};
 ghost use Rattle.rules.specs.State.{expect, read};
 ghost use Rattle.rules.specs.Mapped as rule;
-ghost use Rattle.parts.specs.State.{AnyGiven, view, givenOf, nextMark, Sound, Spelt, Inside, Fine, Moved, Along, Under, Reached, placeOf};
-ghost use Rattle.parts.specs.Says.{SaysNames, SaysNumber, one};
-ghost use Rattle.parts.specs.Mapped.{mappedHead, mappedMiddle, mappedChoices, MakesClosed, closeCurly};
+ghost use Rattle.parts.specs.State.{AnyGiven, view, givenOf, nextMark, Sound, Inside, Moved, Along, Reached, placeOf};
+ghost use Rattle.parts.specs.Says.{SaysNumber};
+ghost use Rattle.parts.specs.Mapped.{mappedMiddle, mappedChoices, MakesClosed, closeCurly, StartsMapped};
+ghost use Rattle.parts.specs.Node.{MayPut};
 use crate::names::name;
 use crate::node::Tag;
 use crate::node::put;
@@ -72,7 +72,7 @@ fn signed(words: &[u64], kind: usize, choices: usize, m: Mark) -> Head
 // From the `{` to the constraint: readonly, and the key.
 pub fn mapped_head(words: &[u64], classes: &[u16; 256], names: &mut [u64], m: Mark) -> Head
     requires { ⌜ (now classes ≡ classWords) × Sound (now words) × (m .at < length (now words)) × (m .named ≤ m .at) ⌝ }
-    ensures { λ r. ⌜ ((text O : List ℕ) (given : AnyGiven) → Spelt text (now (words .entry)) → SaysNames (λ x. one (x .1)) (λ x. r .choices ≡ x .0) (mappedHead (givenOf text (now (words .entry)) given) (view (nextMark m) O)) (r .why) m (r .m) (now (names .entry)) (now (names .exit)) O) ⌝ }
+    ensures { λ r. ⌜ StartsMapped (now (words .entry)) m (now (names .entry)) r (now (names .exit)) ⌝ }
     ensures { λ r. ⌜ Along (length (now (words .entry))) (nextMark m) (r .m) × (r .choices ≤ 3) ⌝ }
 {
     let r = modifier(words, Kind::READONLY, next(m));
@@ -120,7 +120,7 @@ pub fn mapped_node(
     k: Kids,
     m: Mark,
 ) -> Answer
-    requires { ⌜ Sound (now words) × (given .room * 4 ≤ length (now nodes)) × Fine (length (now words)) given m × Under (m .used) k × (b .first < 2 ^ 32) × (b .name ≤ mostTokens) ⌝ }
+    requires { ⌜ MayPut (now words) (now nodes) given b k m ⌝ }
     ensures { λ r. ⌜ MakesClosed closeCurly (now (words .entry)) given b choices k m (now (nodes .entry)) r (now (nodes .exit)) ⌝ }
     ensures { λ r. ⌜ Reached (length (now (words .entry))) given (placeOf m) (m .used + 1) (r .high) (r .why) (r .m) ⌝ }
 {

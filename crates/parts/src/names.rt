@@ -1,15 +1,12 @@
 // Names, and names with dots between.
 ghost use mathlib.Core.Path.{_≡_};
-ghost use mathlib.Core.List.{List};
-ghost use Prim.Native.Nat.{ℕ, _+_, _≤_, _<_};
+ghost use Prim.Native.Nat.{_+_, _≤_, _<_};
 ghost use lib.ListN.{length};
 ghost use Rattle.words.specs.Class.{classWords};
 ghost use Rattle.rules.specs.Names as rule;
-ghost use Rattle.rules.specs.State.{turns};
-ghost use Rattle.keys.specs.Placed.{Spelling};
-ghost use Rattle.parts.specs.State.{AnyGiven, view, givenOf, Sound, Spelt, Inside, Along, namedMark};
-ghost use Rattle.parts.specs.Says.{SaysNames, Any, one};
-ghost use Rattle.parts.specs.Names.{Speaks, oneName, SaysDots};
+ghost use Rattle.parts.specs.State.{Sound, Inside, Along, namedMark};
+ghost use Rattle.parts.specs.Says.{Any, one, StartsNames};
+ghost use Rattle.parts.specs.Names.{Speaks, oneName, StartsDots, MayName};
 use crate::refusal::Refusal;
 use crate::state::Answer;
 use crate::state::Mark;
@@ -41,8 +38,7 @@ pub fn spell(words: &[u64], names: &mut [u64], m: Mark) -> Mark
 // One name, of a class.
 pub fn name(words: &[u64], classes: &[u16; 256], names: &mut [u64], class: usize, m: Mark) -> Answer
     requires { ⌜ (now classes ≡ classWords) × Sound (now words) × Inside (length (now words)) m × (m .named ≤ m .at) × (class ≤ 1) ⌝ }
-    ensures { λ r. ⌜ ((text O : List ℕ) (given : AnyGiven) → Spelt text (now (words .entry))
-        → SaysNames one Any (oneName class (givenOf text (now (words .entry)) given) (view m O)) (r .why) m (r .m) (now (names .entry)) (now (names .exit)) O) ⌝ }
+    ensures { λ r. ⌜ StartsNames one Any (oneName class) (now (words .entry)) m (now (names .entry)) (r .why) (r .m) (now (names .exit)) ⌝ }
     ensures { λ r. ⌜ Along (length (now (words .entry))) m (r .m) × (m .at < r .m .at + r .why) ⌝ }
 {
     if !in_class(classes, kind_at(words, m), class) {
@@ -53,9 +49,8 @@ pub fn name(words: &[u64], classes: &[u16; 256], names: &mut [u64], class: usize
 
 // As many dots as follow, each with a name.
 pub fn dots(words: &[u64], classes: &[u16; 256], names: &mut [u64], m: Mark) -> Answer
-    requires { ⌜ (now classes ≡ classWords) × Sound (now words) × Inside (length (now words)) m × (m .named ≤ m .at) ⌝ }
-    ensures { λ r. ⌜ ((text O : List ℕ) (given : AnyGiven) (l : List Spelling) → Spelt text (now (words .entry))
-        → SaysDots l (rule.dotsFrom (givenOf text (now (words .entry)) given) (turns (givenOf text (now (words .entry)) given)) l (view m O)) (r .why) m (r .m) (now (names .entry)) (now (names .exit)) O) ⌝ }
+    requires { ⌜ MayName (now classes) (now words) m ⌝ }
+    ensures { λ r. ⌜ StartsDots (now (words .entry)) m (now (names .entry)) r (now (names .exit)) ⌝ }
     ensures { λ r. ⌜ Along (length (now (words .entry))) m (r .m) ⌝ }
 {
     let mut p = m;
@@ -71,9 +66,8 @@ pub fn dots(words: &[u64], classes: &[u16; 256], names: &mut [u64], m: Mark) -> 
 
 // Names with dots between.
 pub fn dotted_name(words: &[u64], classes: &[u16; 256], names: &mut [u64], m: Mark) -> Answer
-    requires { ⌜ (now classes ≡ classWords) × Sound (now words) × Inside (length (now words)) m × (m .named ≤ m .at) ⌝ }
-    ensures { λ r. ⌜ ((text O : List ℕ) (given : AnyGiven) → Spelt text (now (words .entry))
-        → SaysNames (λ k. k) Any (rule.dotted (givenOf text (now (words .entry)) given) (view m O)) (r .why) m (r .m) (now (names .entry)) (now (names .exit)) O) ⌝ }
+    requires { ⌜ MayName (now classes) (now words) m ⌝ }
+    ensures { λ r. ⌜ StartsNames (λ k. k) Any rule.dotted (now (words .entry)) m (now (names .entry)) (r .why) (r .m) (now (names .exit)) ⌝ }
     ensures { λ r. ⌜ Along (length (now (words .entry))) m (r .m) × (m .at < r .m .at + r .why) ⌝ }
 {
     let a = name(words, classes, names, Class::NAME, m);

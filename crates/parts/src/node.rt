@@ -1,11 +1,12 @@
 // Finished nodes and the children that hang under them.
 ghost use mathlib.Core.Path.{_≡_};
-ghost use Prim.Native.Nat.{max, _+_, _-_, _*_, _≤_, _<_, _^_};
+ghost use Prim.Native.Nat.{max, _+_, _*_, _≤_, _<_};
 ghost use lib.ListN.{length};
 ghost use Rattle.keys.specs.Bits.{unit};
-ghost use Rattle.words.specs.Limits.{mostTokens, tallest, longest};
-ghost use Rattle.parts.specs.State.{Sound, Fine, Under};
-ghost use Rattle.parts.specs.Node.{Put, Makes, MakesList, Links, optList};
+ghost use Rattle.words.specs.Limits.{tallest, longest};
+ghost use Rattle.keys.specs.Limits.{recordWords};
+ghost use Rattle.parts.specs.State.{Under};
+ghost use Rattle.parts.specs.Node.{Put, Makes, MakesList, Links, optList, MakesAbout, MayPut, MayPutAbout, MayPutList};
 use crate::refusal::Refusal;
 use crate::state::Answer;
 use crate::state::Begin;
@@ -90,7 +91,7 @@ pub fn put(
     k: Kids,
     m: Mark,
 ) -> Answer
-    requires { ⌜ Sound (now words) × (given .room * 4 ≤ length (now nodes)) × Fine (length (now words)) given m × Under (m .used) k × (b .first < 2 ^ 32) × (b .name ≤ mostTokens) ⌝ }
+    requires { ⌜ MayPut (now words) (now nodes) given b k m ⌝ }
     ensures { λ r. ⌜ Makes (now (words .entry)) given b choices k m (now (nodes .entry)) r (now (nodes .exit)) ⌝ }
     ensures { λ r. ⌜ Put given m r ⌝ }
 {
@@ -133,7 +134,7 @@ pub fn put_list(
     k: Kids,
     m: Mark,
 ) -> Answer
-    requires { ⌜ Sound (now words) × (given .room * 4 ≤ length (now nodes)) × Fine (length (now words)) given m × Under (m .used) k × (b .first < 2 ^ 32) × (b .name ≤ mostTokens) × (tag < 64) ⌝ }
+    requires { ⌜ MayPutList (now words) (now nodes) given b tag k m ⌝ }
     ensures { λ r. ⌜ MakesList (now (words .entry)) given b tag k m (now (nodes .entry)) r (now (nodes .exit)) ⌝ }
     ensures { λ r. ⌜ Put given m r ⌝ }
 {
@@ -153,8 +154,8 @@ pub fn put_about(
     high: usize,
     m: Mark,
 ) -> Answer
-    requires { ⌜ Sound (now words) × (given .room * 4 ≤ length (now nodes)) × Fine (length (now words)) given m × (1 ≤ m .used) × (high ≤ tallest) × (b .first < 2 ^ 32) × (b .name ≤ mostTokens) ⌝ }
-    ensures { λ r. ⌜ Makes (now (words .entry)) given b choices (record { first = m .used - 1; count = 1; high = high }) m (now (nodes .entry)) r (now (nodes .exit)) ⌝ }
+    requires { ⌜ MayPutAbout (now words) (now nodes) given b high m ⌝ }
+    ensures { λ r. ⌜ MakesAbout (now (words .entry)) given b choices high m (now (nodes .entry)) r (now (nodes .exit)) ⌝ }
     ensures { λ r. ⌜ Put given m r ⌝ }
 {
     put(words, nodes, given, b, choices, Kids::one(m.used, high), m)
@@ -183,7 +184,7 @@ fn larger(a: usize, b: usize) -> usize
 
 // One child more: its nodes are those from `before` to `used`, the last of them its root.
 pub fn link(nodes: &mut [u64], k: Kids, before: usize, used: usize, high: usize) -> Kids
-    requires { ⌜ (before < used) × (used * 4 ≤ length (now nodes)) × Under before k × (high ≤ tallest) ⌝ }
+    requires { ⌜ (before < used) × (used * recordWords ≤ length (now nodes)) × Under before k × (high ≤ tallest) ⌝ }
     ensures { λ r. ⌜ Links k before used high (now (nodes .entry)) r (now (nodes .exit)) ⌝ }
     ensures { λ r. ⌜ Under used r × (r .count ≡ k .count + 1) ⌝ }
 {

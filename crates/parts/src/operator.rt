@@ -1,19 +1,12 @@
 // Operators: the chain of prefixes, without what stands behind it.
 ghost use mathlib.Core.Path.{_≡_};
-ghost use mathlib.Core.List.{List};
-ghost use mathlib.Core.Bool.{Bool};
-ghost use Prim.Native.Nat.{ℕ, _+_, _-_, _*_, _≤_, _<_, _^_};
+ghost use Prim.Native.Nat.{_+_, _≤_, _<_};
 ghost use lib.ListN.{length};
-ghost use Rattle.words.specs.Limits.{mostTokens, tallest};
 ghost use Rattle.words.specs.Test.{among};
-ghost use Rattle.rules.specs.State.{Reader, read};
 ghost use Rattle.rules.specs.List.{position};
 ghost use Rattle.rules.specs.Operator as rule;
-ghost use Rattle.keys.specs.Placed.{Placed};
-ghost use Rattle.parts.specs.State.{AnyGiven, view, givenOf, Sound, Inside, Fine, Moved};
-ghost use Rattle.parts.specs.Laid.{Was, Stands};
-ghost use Rattle.parts.specs.Says.{Says};
-ghost use Rattle.parts.specs.Operator.{operatorsAbout, PutAll};
+ghost use Rattle.parts.specs.State.{Sound, Inside, Moved};
+ghost use Rattle.parts.specs.Operator.{PutAll, MakesOperators, MayPutOperators, PassesOperators};
 use crate::node::Tag;
 use crate::node::put_about;
 use crate::state::Answer;
@@ -59,7 +52,7 @@ fn operator_number(kind: usize) -> usize
 // Past a chain of prefixes.
 pub fn past_operators(words: &[u64], m: Mark) -> Mark
     requires { ⌜ Sound (now words) × Inside (length (now words)) m ⌝ }
-    ensures { λ r. ⌜ ((text O : List ℕ) (given : AnyGiven) (T : Reader) (on : Bool) → rule.operator (givenOf text (now (words .entry)) given) T on (view m O) ≡ operatorsAbout (givenOf text (now (words .entry)) given) (m .at) (r .at - m .at) (rule.operand (givenOf text (now (words .entry)) given) T on (view r O))) ⌝ }
+    ensures { λ r. ⌜ PassesOperators (now (words .entry)) m r ⌝ }
     ensures { λ r. ⌜ Moved (length (now (words .entry))) m r × (m .at < r .at + 1) ⌝ }
 {
     let mut p = m;
@@ -80,8 +73,8 @@ pub fn put_operators(
     to: usize,
     a: Answer,
 ) -> Answer
-    requires { ⌜ Sound (now words) × (given .room * 4 ≤ length (now nodes)) × Fine (length (now words)) given (a .m) × (from ≤ to) × (to ≤ length (now words)) × (1 ≤ a .m .used) × (a .high ≤ tallest) × (name ≤ mostTokens) ⌝ }
-    ensures { λ r. ⌜ ((text : List ℕ) (B : Was) (t : Placed) (M O : List ℕ) → Stands 0 B t (a .high) (a .m) (now (nodes .entry)) M O → name ≡ B .named → Says 0 B (operatorsAbout (givenOf text (now (words .entry)) given) from (to - from) (read t (view (a .m) O))) r (now (nodes .exit)) M O) ⌝ }
+    requires { ⌜ MayPutOperators (now words) (now nodes) given name from to a ⌝ }
+    ensures { λ r. ⌜ MakesOperators (now (words .entry)) given name from to a (now (nodes .entry)) r (now (nodes .exit)) ⌝ }
     ensures { λ r. ⌜ PutAll given (a .m) r ⌝ }
 {
     let mut i = to;

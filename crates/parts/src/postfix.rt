@@ -1,18 +1,14 @@
 // Postfix marks.
 ghost use mathlib.Core.Path.{_≡_};
-ghost use mathlib.Core.List.{List, []};
-ghost use Prim.Native.Nat.{ℕ, _+_, _*_, _≤_, _<_, _^_};
+ghost use mathlib.Core.List.{List};
+ghost use Prim.Native.Nat.{ℕ, _+_, _<_, _^_};
 ghost use lib.ListN.{length};
 ghost use Rattle.words.specs.Class.{classWords};
-ghost use Rattle.words.specs.Limits.{mostTokens, tallest};
-ghost use Rattle.keys.specs.Placed as node;
-ghost use Rattle.keys.specs.Placed.{Placed};
-ghost use Rattle.rules.specs.State.{make, end};
 ghost use Rattle.rules.specs.Postfix as rule;
-ghost use Rattle.parts.specs.State.{AnyGiven, view, givenOf, Sound, Fine, Under, Reached, placeOf};
-ghost use Rattle.parts.specs.Laid.{Was, Stands};
-ghost use Rattle.parts.specs.Says.{Says};
+ghost use Rattle.parts.specs.State.{AnyGiven, view, givenOf, Reached, placeOf};
 ghost use Rattle.parts.specs.Mapped.{MakesClosed, closeSquare};
+ghost use Rattle.parts.specs.Postfix.{MakesArray};
+ghost use Rattle.parts.specs.Node.{MayPut, MayPutAbout};
 use crate::node::Tag;
 use crate::node::put;
 use crate::refusal::Refusal;
@@ -54,8 +50,8 @@ pub fn array(
     high: usize,
     m: Mark,
 ) -> Answer
-    requires { ⌜ Sound (now words) × (given .room * 4 ≤ length (now nodes)) × Fine (length (now words)) given m × (1 ≤ m .used) × (high ≤ tallest) × (b .first < 2 ^ 32) × (b .name ≤ mostTokens) ⌝ }
-    ensures { λ r. ⌜ ((text : List ℕ) (B : Was) (t : Placed) (M O : List ℕ) → Stands 0 B t high m (now (nodes .entry)) M O → b .name ≡ B .named → Says 0 B (closeSquare (givenOf text (now (words .entry)) given) (view m O) λ q. make (givenOf text (now (words .entry)) given) [] (node.array (b .first) (end (givenOf text (now (words .entry)) given) q) t) q) r (now (nodes .exit)) M O) ⌝ }
+    requires { ⌜ MayPutAbout (now words) (now nodes) given b high m ⌝ }
+    ensures { λ r. ⌜ MakesArray (now (words .entry)) given b high m (now (nodes .entry)) r (now (nodes .exit)) ⌝ }
     ensures { λ r. ⌜ Reached (length (now (words .entry))) given (placeOf m) (m .used + 1) (r .high) (r .why) (r .m) ⌝ }
 {
     bracketed(
@@ -79,7 +75,7 @@ pub fn bracketed(
     k: Kids,
     m: Mark,
 ) -> Answer
-    requires { ⌜ Sound (now words) × (given .room * 4 ≤ length (now nodes)) × Fine (length (now words)) given m × Under (m .used) k × (b .first < 2 ^ 32) × (b .name ≤ mostTokens) ⌝ }
+    requires { ⌜ MayPut (now words) (now nodes) given b k m ⌝ }
     ensures { λ r. ⌜ MakesClosed closeSquare (now (words .entry)) given b choices k m (now (nodes .entry)) r (now (nodes .exit)) ⌝ }
     ensures { λ r. ⌜ Reached (length (now (words .entry))) given (placeOf m) (m .used + 1) (r .high) (r .why) (r .m) ⌝ }
 {

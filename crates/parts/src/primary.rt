@@ -1,26 +1,23 @@
 // Primary: what begins here, and what holds no type.
 ghost use mathlib.Core.Path.{_≡_};
 ghost use mathlib.Core.List.{List};
-ghost use mathlib.Core.Bool.{true};
 ghost use Prim.Native.Nat.{ℕ, _+_, _-_, _*_, _≤_, _<_, _^_};
 ghost use lib.ListN.{length};
 ghost use Rattle.words.specs.Class.{classWords};
-ghost use Rattle.words.specs.Limits.{mostTokens, tallest};
 ghost use Rattle.words.specs.Kind as kind;
 ghost use Rattle.words.specs.Cursor.{kindAt};
 ghost use Rattle.words.specs.Test.{among};
 ghost use Rattle.keys.specs.Bits.{unit};
-ghost use Rattle.keys.specs.Placed.{Placed};
 ghost use Rattle.rules.specs.State.{Reader};
 ghost use Rattle.rules.specs.List.{position};
-ghost use Rattle.rules.specs.Function as function;
 ghost use Rattle.rules.specs.Primary as rule;
-ghost use Rattle.parts.specs.State.{AnyGiven, view, givenOf, Sound, Spelt, Inside, Fine, Reached, placeOf};
-ghost use Rattle.parts.specs.Laid.{Was, was, Stands, Spoken};
-ghost use Rattle.parts.specs.Says.{Says, optNames};
+ghost use Rattle.parts.specs.State.{AnyGiven, view, givenOf, Sound, Inside, Reached, placeOf};
+ghost use Rattle.parts.specs.Laid.{was};
+ghost use Rattle.parts.specs.Says.{Says};
 ghost use Rattle.parts.specs.List.{here};
-ghost use Rattle.parts.specs.Primary.{isLiteral, closeParens, predicateChoices, literalChoices, SaysSpelled, SaysNegative};
-ghost use Rattle.parts.specs.Onward.{subjectAt, literalAt, subjectMark, StartAs, StartIs, StartHas, ReferenceIs, ReferenceHas};
+ghost use Rattle.parts.specs.Primary.{predicateChoices, literalChoices, SaysSpelled, SaysNegative, MakesParens, MayPutLiteral, MayPutSpelled, MayPutToken, SpeaksSubject};
+ghost use Rattle.parts.specs.Onward.{subjectAt, subjectMark, StartIs, StartHas, ReferenceIs, ReferenceHas, SaysLiteral, StartsAs};
+ghost use Rattle.parts.specs.Node.{MayPutAbout};
 use crate::function::predicates;
 use crate::names::spell;
 use crate::node::Tag;
@@ -149,7 +146,7 @@ pub fn primary_start(words: &[u64], classes: &[u16; 256], m: Mark) -> Start
 // A `this`, by what follows it.
 fn this_start(words: &[u64], classes: &[u16; 256], m: Mark) -> Start
     requires { ⌜ (now classes ≡ classWords) × (m .at < length (now words)) × (m .at < 2 ^ 63) × (kindAt (now words) (m .at) (m .half) ≡ kind.This) ⌝ }
-    ensures { λ r. ⌜ ((text O : List ℕ) (given : AnyGiven) (T : Reader) → StartAs (rule.this (givenOf text (now (words .entry)) given) T (view m O)) r (givenOf text (now (words .entry)) given) T (view m O)) ⌝ }
+    ensures { λ r. ⌜ StartsAs rule.this (now (words .entry)) m r ⌝ }
     ensures { λ r. ⌜ StartHas r (now (words .entry)) m ⌝ }
 {
     if predicates(words, classes, m) {
@@ -161,7 +158,7 @@ fn this_start(words: &[u64], classes: &[u16; 256], m: Mark) -> Start
 // What asserts, typeof or import begins; if none does, what is enclosed.
 fn worded(words: &[u64], classes: &[u16; 256], m: Mark) -> Start
     requires { ⌜ (now classes ≡ classWords) × (m .at < 2 ^ 63) ⌝ }
-    ensures { λ r. ⌜ ((text O : List ℕ) (given : AnyGiven) (T : Reader) → StartAs (rule.worded (givenOf text (now (words .entry)) given) T (view m O)) r (givenOf text (now (words .entry)) given) T (view m O)) ⌝ }
+    ensures { λ r. ⌜ StartsAs rule.worded (now (words .entry)) m r ⌝ }
     ensures { λ r. ⌜ StartHas r (now (words .entry)) m ⌝ }
 {
     if is_assertion(words, classes, m) {
@@ -180,7 +177,7 @@ fn worded(words: &[u64], classes: &[u16; 256], m: Mark) -> Start
 // What a mark or a template opens; if none does, a reference.
 fn enclosed(words: &[u64], classes: &[u16; 256], kind: usize, m: Mark) -> Start
     requires { ⌜ (now classes ≡ classWords) × (m .at < 2 ^ 63) × (kind ≡ kindAt (now words) (m .at) (m .half)) × (kind ≤ 255 * (length (now words) - m .at)) ⌝ }
-    ensures { λ r. ⌜ ((text O : List ℕ) (given : AnyGiven) (T : Reader) → StartAs (rule.enclosed (givenOf text (now (words .entry)) given) T (view m O)) r (givenOf text (now (words .entry)) given) T (view m O)) ⌝ }
+    ensures { λ r. ⌜ StartsAs rule.enclosed (now (words .entry)) m r ⌝ }
     ensures { λ r. ⌜ StartHas r (now (words .entry)) m ⌝ }
 {
     match kind {
@@ -196,7 +193,7 @@ fn enclosed(words: &[u64], classes: &[u16; 256], kind: usize, m: Mark) -> Start
 // Behind a `{` only mapped types are read.
 fn curly(words: &[u64], classes: &[u16; 256], m: Mark) -> Start
     requires { ⌜ (now classes ≡ classWords) × (m .at < length (now words)) × (kindAt (now words) (m .at) (m .half) ≡ kind.LCurly) ⌝ }
-    ensures { λ r. ⌜ ((text O : List ℕ) (given : AnyGiven) (T : Reader) → StartAs (rule.enclosed (givenOf text (now (words .entry)) given) T (view m O)) r (givenOf text (now (words .entry)) given) T (view m O)) ⌝ }
+    ensures { λ r. ⌜ StartsAs rule.enclosed (now (words .entry)) m r ⌝ }
     ensures { λ r. ⌜ StartHas r (now (words .entry)) m ⌝ }
 {
     if mapped_start(words, classes, m.at) {
@@ -249,7 +246,7 @@ fn keyword_number(kind: usize) -> usize
 
 // A keyword.
 pub fn keyword(words: &[u64], nodes: &mut [u64], given: Given, m: Mark) -> Answer
-    requires { ⌜ Sound (now words) × (given .room * 4 ≤ length (now nodes)) × Fine (length (now words)) given m × (m .at < length (now words)) ⌝ }
+    requires { ⌜ MayPutToken (now words) (now nodes) given m ⌝ }
     ensures { λ r. ⌜ ((text M O : List ℕ) → Says 0 (was m (now (nodes .entry)) M O) (rule.keyword (givenOf text (now (words .entry)) given) (view m O)) r (now (nodes .exit)) M O) ⌝ }
     ensures { λ r. ⌜ Reached (length (now (words .entry))) given (m .at * 2 + 2) (m .used + 1) (r .high) (r .why) (r .m) ⌝ }
 {
@@ -267,8 +264,8 @@ pub fn keyword(words: &[u64], nodes: &mut [u64], given: Given, m: Mark) -> Answe
 
 // A literal, a negative one, or a whole template.
 pub fn literal(words: &[u64], nodes: &mut [u64], names: &mut [u64], given: Given, m: Mark) -> Answer
-    requires { ⌜ Sound (now words) × (given .room * 4 ≤ length (now nodes)) × Fine (length (now words)) given m × (m .at < length (now words)) × (here (now words) kind.Minus m ≡ true → m .at + 1 < length (now words)) ⌝ }
-    ensures { λ r. ⌜ ((text O : List ℕ) → Spelt text (now (words .entry)) → isLiteral (givenOf text (now (words .entry)) given) (view m O) ≡ true → Says 0 (was m (now (nodes .entry)) (now (names .entry)) O) (literalAt (givenOf text (now (words .entry)) given) (view m O)) r (now (nodes .exit)) (now (names .exit)) O) ⌝ }
+    requires { ⌜ MayPutLiteral (now words) (now nodes) given m ⌝ }
+    ensures { λ r. ⌜ SaysLiteral (now (words .entry)) given m (now (nodes .entry)) (now (names .entry)) r (now (nodes .exit)) (now (names .exit)) ⌝ }
     ensures { λ r. ⌜ Reached (length (now (words .entry))) given (m .at * 2 + 2) (m .used + 1) (r .high) (r .why) (r .m) ⌝ }
 {
     let b = Begin::at(words, m);
@@ -346,7 +343,7 @@ fn spelled(
     choices: usize,
     m: Mark,
 ) -> Answer
-    requires { ⌜ Sound (now words) × (given .room * 4 ≤ length (now nodes)) × Fine (length (now words)) given m × (m .at < length (now words)) × (b .first < 2 ^ 32) × (b .name ≤ mostTokens) ⌝ }
+    requires { ⌜ MayPutSpelled (now words) (now nodes) given b m ⌝ }
     ensures { λ r. ⌜ SaysSpelled (now (words .entry)) given b choices m (now (nodes .entry)) (now (names .entry)) r (now (nodes .exit)) (now (names .exit)) ⌝ }
     ensures { λ r. ⌜ Reached (length (now (words .entry))) given (m .at * 2 + 2) (m .used + 1) (r .high) (r .why) (r .m) ⌝ }
 {
@@ -363,7 +360,7 @@ fn literal_negative(
     b: Begin,
     m: Mark,
 ) -> Answer
-    requires { ⌜ Sound (now words) × (given .room * 4 ≤ length (now nodes)) × Fine (length (now words)) given m × (m .at < length (now words)) × (b .first < 2 ^ 32) × (b .name ≤ mostTokens) ⌝ }
+    requires { ⌜ MayPutSpelled (now words) (now nodes) given b m ⌝ }
     ensures { λ r. ⌜ SaysNegative (now (words .entry)) given b m (now (nodes .entry)) (now (names .entry)) r (now (nodes .exit)) (now (names .exit)) ⌝ }
     ensures { λ r. ⌜ Reached (length (now (words .entry))) given (m .at * 2 + 2) (m .used + 1) (r .high) (r .why) (r .m) ⌝ }
 {
@@ -400,8 +397,8 @@ pub fn parens_node(
     high: usize,
     m: Mark,
 ) -> Answer
-    requires { ⌜ Sound (now words) × (given .room * 4 ≤ length (now nodes)) × Fine (length (now words)) given m × (1 ≤ m .used) × (high ≤ tallest) × (b .first < 2 ^ 32) × (b .name ≤ mostTokens) ⌝ }
-    ensures { λ r. ⌜ ((text : List ℕ) (B : Was) (t : Placed) (M O : List ℕ) → Stands 0 B t high m (now (nodes .entry)) M O → b .name ≡ B .named → Says 0 B (closeParens (givenOf text (now (words .entry)) given) (b .first) t (view m O)) r (now (nodes .exit)) M O) ⌝ }
+    requires { ⌜ MayPutAbout (now words) (now nodes) given b high m ⌝ }
+    ensures { λ r. ⌜ MakesParens (now (words .entry)) given b high m (now (nodes .entry)) r (now (nodes .exit)) ⌝ }
     ensures { λ r. ⌜ Reached (length (now (words .entry))) given (placeOf m) (m .used) (r .high) (r .why) (r .m) ⌝ }
 {
     if kind_at(words, m) != Kind::R_PAREN {
@@ -419,7 +416,7 @@ pub fn parens_node(
 // A predicate up to its `is`: asserts, if it is one, and the subject, which is a name or this.
 pub fn subject(words: &[u64], names: &mut [u64], asserts: bool, m: Mark) -> Head
     requires { ⌜ Sound (now words) × (m .at + unit asserts < length (now words)) × (m .named ≤ m .at) ⌝ }
-    ensures { λ r. ⌜ ((text O : List ℕ) (given : AnyGiven) → Spelt text (now (words .entry)) → Spoken (optNames (function.subject (givenOf text (now (words .entry)) given) (subjectAt asserts (view m O)))) m (r .m) (now (names .entry)) (now (names .exit))) ⌝ }
+    ensures { λ r. ⌜ SpeaksSubject (subjectAt asserts) (now (words .entry)) m (now (names .entry)) (r .m) (now (names .exit)) ⌝ }
     ensures { λ r. ⌜ (r .choices ≡ predicateChoices asserts (here (now (words .entry)) kind.This (subjectMark asserts m))) ⌝ }
     ensures { λ r. ⌜ (r .m .at ≡ m .at + unit asserts + 1) × (r .m .half ≡ 0) × (r .m .used ≡ m .used) × (r .m .noted ≡ m .noted) × (m .named ≤ r .m .named) × (r .m .named ≤ m .named + 1) ⌝ }
 {
@@ -432,7 +429,7 @@ pub fn subject(words: &[u64], names: &mut [u64], asserts: bool, m: Mark) -> Head
 // The subject at m.
 fn subject_at(words: &[u64], names: &mut [u64], choices: usize, m: Mark) -> Head
     requires { ⌜ Sound (now words) × (m .at < length (now words)) × (m .named ≤ m .at) × (choices ≤ 2 ^ 32) ⌝ }
-    ensures { λ r. ⌜ ((text O : List ℕ) (given : AnyGiven) → Spelt text (now (words .entry)) → Spoken (optNames (function.subject (givenOf text (now (words .entry)) given) (view m O))) m (r .m) (now (names .entry)) (now (names .exit))) ⌝ }
+    ensures { λ r. ⌜ SpeaksSubject (λ s. s) (now (words .entry)) m (now (names .entry)) (r .m) (now (names .exit)) ⌝ }
     ensures { λ r. ⌜ (r .choices ≡ choices + 128 * unit (here (now (words .entry)) kind.This m)) ⌝ }
     ensures { λ r. ⌜ (r .m .at ≡ m .at + 1) × (r .m .half ≡ 0) × (r .m .used ≡ m .used) × (r .m .noted ≡ m .noted) × (m .named ≤ r .m .named) × (r .m .named ≤ m .named + 1) ⌝ }
 {

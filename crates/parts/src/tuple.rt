@@ -1,19 +1,14 @@
 // Tuple elements, without the types in them.
 ghost use mathlib.Core.Path.{_≡_};
 ghost use mathlib.Core.Bool.{true};
-ghost use mathlib.Core.List.{List};
-ghost use Prim.Native.Nat.{ℕ, _+_, _-_, _*_, _%_, _≤_, _<_, _^_};
+ghost use Prim.Native.Nat.{_*_, _%_, _≤_, _<_, _^_};
 ghost use lib.ListN.{length};
 ghost use Rattle.words.specs.Class.{classWords};
-ghost use Rattle.words.specs.Limits.{mostTokens, tallest};
-ghost use Rattle.rules.specs.Tuple as rule;
-ghost use Rattle.rules.specs.State.{past};
-ghost use Rattle.words.specs.Kind as kind;
-ghost use Rattle.parts.specs.State.{notingWords, AnyGiven, view, givenOf, nextMark, Sound, Spelt, Inside, Fine, Along, Under, Reached, placeOf};
-ghost use Rattle.parts.specs.Laid.{Spoken};
-ghost use Rattle.parts.specs.Node.{Put, Makes, MakesList};
-ghost use Rattle.parts.specs.Names.{Speaks};
-ghost use Rattle.parts.specs.Tuple.{LabelIs, LabelSmall, labelledAt, labelAt, elementStart, labelNames, memberChoices, Converts, MakesMember, MakesRest, MakesElement, optionalWord, lastWord, Checks, SeenAt};
+ghost use Rattle.keys.specs.Limits.{recordWords};
+ghost use Rattle.parts.specs.State.{notingWords, nextMark, Sound, Inside, Along, Reached, placeOf};
+ghost use Rattle.parts.specs.Node.{Put, MakesList, MakesAbout};
+ghost use Rattle.parts.specs.Names.{Speaks, MayName};
+ghost use Rattle.parts.specs.Tuple.{LabelIs, LabelSmall, labelledAt, labelAt, memberChoices, Converts, MakesMember, MakesRest, MakesElement, optionalWord, lastWord, Checks, SeenAt, MayPutElement, MayPutMember, MayPutRest, MayPutTuple, StartsElement};
 use crate::names::spell;
 use crate::node::Tag;
 use crate::node::put_about;
@@ -68,9 +63,9 @@ fn is_next_token_colon_or_question_colon(words: &[u64], classes: &[u16; 256], m:
 
 // An element up to its type.
 pub fn element_head(words: &[u64], classes: &[u16; 256], names: &mut [u64], m: Mark) -> Label
-    requires { ⌜ (now classes ≡ classWords) × Sound (now words) × Inside (length (now words)) m × (m .named ≤ m .at) ⌝ }
+    requires { ⌜ MayName (now classes) (now words) m ⌝ }
     ensures { λ r. ⌜ LabelIs (now (words .entry)) m r ⌝ }
-    ensures { λ r. ⌜ ((text O : List ℕ) (given : AnyGiven) → Spelt text (now (words .entry)) → (view (r .m) O ≡ elementStart (givenOf text (now (words .entry)) given) (view m O)) × (r .labelled ≡ rule.labelled (givenOf text (now (words .entry)) given) (past (givenOf text (now (words .entry)) given) kind.Dot3 (view m O))) × Spoken (labelNames (givenOf text (now (words .entry)) given) (view m O)) m (r .m) (now (names .entry)) (now (names .exit))) ⌝ }
+    ensures { λ r. ⌜ StartsElement (now (words .entry)) m (now (names .entry)) r (now (names .exit)) ⌝ }
     ensures { λ r. ⌜ Along (length (now (words .entry))) m (r .m) × LabelSmall r ⌝ }
 {
     let rest = kind_at(words, m) == Kind::DOT3;
@@ -113,7 +108,7 @@ fn labelled(words: &[u64], names: &mut [u64], b: Begin, rest: bool, m: Mark) -> 
 
 // The tag of the node read last.
 fn last_tag(nodes: &[u64], used: usize) -> usize
-    requires { ⌜ (1 ≤ used) × (used * 4 ≤ length (now nodes)) ⌝ }
+    requires { ⌜ (1 ≤ used) × (used * recordWords ≤ length (now nodes)) ⌝ }
     ensures { λ r. ⌜ r ≡ lastWord (now (nodes .entry)) used % 64 ⌝ }
 {
     let i = used * 4 - 4;
@@ -122,7 +117,7 @@ fn last_tag(nodes: &[u64], used: usize) -> usize
 
 // A `?` node that was read last becomes optional, same node. Says whether it was one.
 fn convert_type_to_tuple_element(nodes: &mut [u64], used: usize) -> bool
-    requires { ⌜ (1 ≤ used) × (used * 4 ≤ length (now nodes)) ⌝ }
+    requires { ⌜ (1 ≤ used) × (used * recordWords ≤ length (now nodes)) ⌝ }
     ensures { λ r. ⌜ Converts used (now (nodes .entry)) r (now (nodes .exit)) ⌝ }
 {
     let i = used * 4 - 4;
@@ -144,7 +139,7 @@ pub fn element_node(
     l: Label,
     a: Answer,
 ) -> Answer
-    requires { ⌜ Sound (now words) × (given .room * 4 ≤ length (now nodes)) × (notingWords ≤ length (now notes)) × Fine (length (now words)) given (a .m) × (1 ≤ a .m .used) × (a .high ≤ tallest) × (a .why ≡ 0) × LabelSmall l × (l .b .name ≤ mostTokens) ⌝ }
+    requires { ⌜ MayPutElement (now words) (now nodes) (now notes) given l a ⌝ }
     ensures { λ r. ⌜ MakesElement (now (words .entry)) given l a (now (nodes .entry)) (now (notes .entry)) r (now (nodes .exit)) (now (notes .exit)) ⌝ }
     ensures { λ r. ⌜ Reached (length (now (words .entry))) given (placeOf (a .m)) (a .m .used) (r .high) (r .why) (r .m) ⌝ }
 {
@@ -168,7 +163,7 @@ fn member(
     l: Label,
     a: Answer,
 ) -> Answer
-    requires { ⌜ Sound (now words) × (given .room * 4 ≤ length (now nodes)) × (notingWords ≤ length (now notes)) × Fine (length (now words)) given (a .m) × (1 ≤ a .m .used) × (a .high ≤ tallest) × LabelSmall l × (l .b .name ≤ mostTokens) ⌝ }
+    requires { ⌜ MayPutRest (now words) (now nodes) (now notes) given l (a .high) (a .m) ⌝ }
     ensures { λ r. ⌜ MakesMember (now (words .entry)) given l a (now (nodes .entry)) (now (notes .entry)) r (now (nodes .exit)) (now (notes .exit)) ⌝ }
     ensures { λ r. ⌜ Reached (length (now (words .entry))) given (placeOf (a .m)) (a .m .used) (r .high) (r .why) (r .m) ⌝ }
 {
@@ -201,8 +196,8 @@ fn member_node(
     high: usize,
     m: Mark,
 ) -> Answer
-    requires { ⌜ Sound (now words) × (given .room * 4 ≤ length (now nodes)) × Fine (length (now words)) given m × (1 ≤ m .used) × (high ≤ tallest) × LabelSmall l × (l .b .name ≤ mostTokens) ⌝ }
-    ensures { λ r. ⌜ Makes (now (words .entry)) given (record { first = l .first; name = l .b .name }) (memberChoices (l .asked)) (record { first = m .used - 1; count = 1; high = high }) m (now (nodes .entry)) r (now (nodes .exit)) ⌝ }
+    requires { ⌜ MayPutMember (now words) (now nodes) given l high m ⌝ }
+    ensures { λ r. ⌜ MakesAbout (now (words .entry)) given (record { first = l .first; name = l .b .name }) (memberChoices (l .asked)) high m (now (nodes .entry)) r (now (nodes .exit)) ⌝ }
     ensures { λ r. ⌜ Put given m r ⌝ }
 {
     let own = l.b;
@@ -226,7 +221,7 @@ fn rest_of(
     high: usize,
     m: Mark,
 ) -> Answer
-    requires { ⌜ Sound (now words) × (given .room * 4 ≤ length (now nodes)) × (notingWords ≤ length (now notes)) × Fine (length (now words)) given m × (1 ≤ m .used) × (high ≤ tallest) × LabelSmall l × (l .b .name ≤ mostTokens) ⌝ }
+    requires { ⌜ MayPutRest (now words) (now nodes) (now notes) given l high m ⌝ }
     ensures { λ r. ⌜ MakesRest (now (words .entry)) given l high m (now (nodes .entry)) (now (notes .entry)) r (now (nodes .exit)) (now (notes .exit)) ⌝ }
     ensures { λ r. ⌜ Reached (length (now (words .entry))) given (placeOf m) (m .used) (r .high) (r .why) (r .m) ⌝ }
 {
@@ -260,7 +255,7 @@ pub struct Seen {
 
 // Whether the element read last is optional, with or without a label.
 fn is_optional(nodes: &[u64], used: usize) -> bool
-    requires { ⌜ (1 ≤ used) × (used * 4 ≤ length (now nodes)) ⌝ }
+    requires { ⌜ (1 ≤ used) × (used * recordWords ≤ length (now nodes)) ⌝ }
     ensures { λ r. ⌜ r ≡ optionalWord (lastWord (now (nodes .entry)) used) ⌝ }
 {
     let tag = last_tag(nodes, used);
@@ -276,7 +271,7 @@ fn is_optional(nodes: &[u64], used: usize) -> bool
 
 // The element read last, after others: diagnostic 4 for one that is neither optional nor a rest, if an optional one was seen.
 pub fn checked(nodes: &[u64], notes: &mut [u64], given: Given, seen: bool, m: Mark) -> Seen
-    requires { ⌜ (notingWords ≤ length (now notes)) × (m .noted ≤ given .records) × (1 ≤ m .used) × (m .used * 4 ≤ length (now nodes)) ⌝ }
+    requires { ⌜ (notingWords ≤ length (now notes)) × (m .noted ≤ given .records) × (1 ≤ m .used) × (m .used * recordWords ≤ length (now nodes)) ⌝ }
     ensures { λ r. ⌜ Checks given seen m (now (nodes .entry)) (now (notes .entry)) r (now (notes .exit)) ⌝ }
     ensures { λ r. ⌜ SeenAt given m r ⌝ }
 {
@@ -324,7 +319,7 @@ pub fn tuple_node(
     k: Kids,
     m: Mark,
 ) -> Answer
-    requires { ⌜ Sound (now words) × (given .room * 4 ≤ length (now nodes)) × Fine (length (now words)) given m × (m .at < length (now words)) × Under (m .used) k × (b .first < 2 ^ 32) × (b .name ≤ mostTokens) ⌝ }
+    requires { ⌜ MayPutTuple (now words) (now nodes) given b k m ⌝ }
     ensures { λ r. ⌜ MakesList (now (words .entry)) given b 19 k (nextMark m) (now (nodes .entry)) r (now (nodes .exit)) ⌝ }
     ensures { λ r. ⌜ Put given (nextMark m) r ⌝ }
 {

@@ -3,6 +3,7 @@ ghost use mathlib.Core.Path.{_≡_};
 ghost use Prim.Native.Nat.{_*_, _≤_, _<_};
 ghost use lib.ListN.{length};
 ghost use Rattle.words.specs.Limits.{mostTokens, tallest};
+ghost use Rattle.keys.specs.Limits.{recordWords};
 ghost use Rattle.parts.specs.State.{Sound, Fine, Under};
 ghost use Rattle.parts.specs.Union.{isAlone, Joins, JoinedAt};
 use crate::node::link;
@@ -36,7 +37,7 @@ pub fn joined(
     m: Mark,
     a: Answer,
 ) -> Answer
-    requires { ⌜ Sound (now words) × (given .room * 4 ≤ length (now nodes)) × Fine (length (now words)) given (a .m) × Under before k × (before < a .m .used) ⌝ }
+    requires { ⌜ Sound (now words) × (given .room * recordWords ≤ length (now nodes)) × Fine (length (now words)) given (a .m) × Under before k × (before < a .m .used) ⌝ }
     requires { ⌜ (a .high ≤ tallest) × (m .half ≤ 1) × (m .named ≤ mostTokens) × (tag < 64) ⌝ }
     ensures { λ r. ⌜ Joins (now (words .entry)) given mark tag k before m (now (nodes .entry)) a r (now (nodes .exit)) ⌝ }
     ensures { λ r. ⌜ JoinedAt given a r ⌝ }
