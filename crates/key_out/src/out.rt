@@ -6,9 +6,9 @@ ghost use lib.ListN.{length};
 ghost use Rattle.keys.specs.Limits.{widest, halfWord};
 ghost use Rattle.keys.specs.Holds.{Spells};
 ghost use Rattle.fields.specs.Put.{far};
-ghost use Rattle.node_table.specs.Forms.{entryAt, grammarOf, IsRow, Narrow, tableMost};
-ghost use Rattle.node_table.specs.Moves.{Spelled, Ready, OwnStep, After, Begun, Noded};
-ghost use Rattle.key_out.specs.Out.{keyBits, Keyed};
+ghost use Rattle.node_table.specs.Forms.{entryAt, IsRow, Narrow, tableMost};
+ghost use Rattle.node_table.specs.Moves.{Spelled, Ready, OwnStep, After, Begun};
+ghost use Rattle.key_out.specs.Out.{keyBits, Keyed, MayGoOn, PutsNode};
 use fields::put;
 use keys::store;
 use node_table::forms;
@@ -104,7 +104,7 @@ fn after_child(
     s: Walk,
     o: Mark,
 ) -> Walk
-    requires { ⌜ (length (now key) * 8 ≤ far) × (o .to ≤ far) × (o .name ≤ length (now names)) × (w ≤ widest) × (s .child < halfWord) × (s .form < tableMost) × (0 < s .n) × (s .n < tableMost) × (s .steps < tableMost) ⌝ }
+    requires { ⌜ MayGoOn (now names) (now key) w s o ⌝ }
     ensures { λ q. ⌜ After keyBits (now (nodes .entry)) (Spells (now (names .entry)) (now (text .entry))) (length (now (names .entry))) w 0 s o (now (key .entry)) q (now (key .exit)) ⌝ }
 {
     let next = store::next_of(nodes, s.child);
@@ -149,7 +149,7 @@ fn put_node(
     o: Mark,
 ) -> Mark
     requires { ⌜ (length (now key) * 8 ≤ far) × (o .to ≤ far) × (o .name ≤ length (now names)) × (class < tableMost) × (at < halfWord) × Narrow (now forms) ⌝ }
-    ensures { λ r. ⌜ Noded keyBits (grammarOf (now (forms .entry))) (now (nodes .entry)) (Spells (now (names .entry)) (now (text .entry))) left 0 (length (now (names .entry))) class at (o .name) (o .to) (now (key .entry)) (r .name) (r .to) (now (key .exit)) ⌝ }
+    ensures { λ r. ⌜ PutsNode forms nodes names text key left class at o r ⌝ }
 {
     if left == 0 {
         return o;

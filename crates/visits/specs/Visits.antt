@@ -3,14 +3,23 @@ use mathlib.Core.Path.{_≡_}
 use mathlib.Core.List.{List}
 use Prim.Native.Nat.{ℕ, _+_, _*_, _/_, _≤_, _<_, min}
 use lib.ListN.{length, getD}
+use denote.Ref.{RefT}
+use denote.Triple.Both.{Both}
 use lib.Seq.{sets}
-use Rattle.keys.specs.Limits.{visitWide}
+use Rattle.keys.specs.Limits.{visitWide, halfWord}
 use Rattle.keys.specs.Form.{height, nodes}
 use Rattle.keys.specs.Placed.{Placed, bare}
 use Rattle.keys.specs.Store.{nodeVisit, choiceVisit, nameVisit, visit, visitsOf}
 use Rattle.keys.specs.Holds.{Stands}
 use Rattle.fields.specs.Put.{far, onward, fitted}
-use Rattle.node_table.specs.Moves.{Output}
+use Rattle.node_table.specs.Forms.{grammarOf, tableMost}
+use Rattle.node_table.specs.Moves.{Output, Spelled, Noded}
+use Rattle.node_table.specs.declared.moves.Mark.{Mark}
+use Rattle.node_table.specs.declared.moves.Walk.{Walk}
+
+-- A slice at a function's two moments.
+abbrev pub Slice : Type 0
+Slice = Both (RefT (List ℕ)) (RefT (List ℕ))
 
 -- The visits of every tree that stands in the store with its root there and is not too tall: how many words they have, and as many of them as fit, then zeros.
 pub record Visited (N M : List ℕ) (root tall n r : ℕ) (k : List ℕ) : Type 0 where
@@ -46,3 +55,22 @@ visitWords =
 -- There is a name m; nothing is asked of its spelling.
 abbrev pub Named : List ℕ → ℕ → List ℕ → Type 0
 Named M m s = m < length M
+
+-- ---- What the functions ask and answer, over what they are lent
+
+-- The name at o is visited, whatever the width of its length.
+abbrev pub VisitsName : (names visits : Slice) (depth : ℕ) (o r : Mark) → Type 0
+VisitsName names visits depth o r =
+    (w : ℕ) → Spelled visitWords (Named (names .entry .now)) (length (names .entry .now)) w depth (o .name) (o .to) (visits .entry .now) (r .name) (r .to) (visits .exit .now)
+
+-- A walk may go on behind a child: there is one, and the numbers are small.
+abbrev pub MayGoOn : (M visits : List ℕ) (s : Walk) (o : Mark) → Type 0
+MayGoOn M visits s o =
+    (length visits * 8 ≤ far) × (o .to ≤ far) × (o .name ≤ length M) × (s .child < halfWord) × (s .form < tableMost) × (0 < s .n) × (s .n < tableMost)
+    × (s .steps < tableMost)
+
+-- The node `at` of a class, under `depth` nodes, is visited from o to r.
+abbrev pub VisitsNode : (forms nodes names visits : Slice) (left depth class at : ℕ) (o r : Mark) → Type 0
+VisitsNode forms nodes names visits left depth class at o r =
+    Noded visitWords (grammarOf (forms .entry .now)) (nodes .entry .now) (Named (names .entry .now)) left depth (length (names .entry .now)) class at
+    (o .name) (o .to) (visits .entry .now) (r .name) (r .to) (visits .exit .now)

@@ -6,9 +6,9 @@ ghost use lib.ListN.{length, set};
 ghost use Rattle.keys.specs.Limits.{widest, halfWord};
 ghost use Rattle.keys.specs.Store.{visit};
 ghost use Rattle.fields.specs.Put.{far};
-ghost use Rattle.node_table.specs.Forms.{entryAt, grammarOf, IsRow, Narrow, tableMost};
-ghost use Rattle.node_table.specs.Moves.{Spelled, Ready, OwnStep, After, Begun, Noded};
-ghost use Rattle.visits.specs.Visits.{VisitAt, Listed, visitWords, Named, Visited};
+ghost use Rattle.node_table.specs.Forms.{entryAt, IsRow, Narrow, tableMost};
+ghost use Rattle.node_table.specs.Moves.{Ready, OwnStep, After, Begun};
+ghost use Rattle.visits.specs.Visits.{VisitAt, Listed, visitWords, Named, Visited, VisitsName, MayGoOn, VisitsNode};
 use fields::put;
 use keys::store;
 use node_table::forms;
@@ -53,7 +53,7 @@ fn put_visit(visits: &mut [u64], to: usize, kind: u64, number: u64, depth: usize
 // The next name.
 fn visit_name(names: &[u64], visits: &mut [u64], depth: usize, o: Mark) -> Mark
     requires { ⌜ (length (now visits) * 8 ≤ far) × (o .to ≤ far) × (o .name ≤ length (now names)) ⌝ }
-    ensures { λ r. ⌜ ((w : ℕ) → Spelled visitWords (Named (now (names .entry))) (length (now (names .entry))) w depth (o .name) (o .to) (now (visits .entry)) (r .name) (r .to) (now (visits .exit))) ⌝ }
+    ensures { λ r. ⌜ VisitsName names visits depth o r ⌝ }
 {
     let name = o.name;
     if names.len() <= name {
@@ -151,7 +151,7 @@ fn after_child(
     s: Walk,
     o: Mark,
 ) -> Walk
-    requires { ⌜ (length (now visits) * 8 ≤ far) × (o .to ≤ far) × (o .name ≤ length (now names)) × (s .child < halfWord) × (s .form < tableMost) × (0 < s .n) × (s .n < tableMost) × (s .steps < tableMost) ⌝ }
+    requires { ⌜ MayGoOn (now names) (now visits) s o ⌝ }
     ensures { λ q. ⌜ After visitWords (now (nodes .entry)) (Named (now (names .entry))) (length (now (names .entry))) w depth s o (now (visits .entry)) q (now (visits .exit)) ⌝ }
 {
     let next = store::next_of(nodes, s.child);
@@ -205,7 +205,7 @@ fn visit_node(
     o: Mark,
 ) -> Mark
     requires { ⌜ (length (now visits) * 8 ≤ far) × (o .to ≤ far) × (o .name ≤ length (now names)) × (class < tableMost) × (depth + left < 2 ^ 64) × (at < halfWord) × Narrow (now forms) ⌝ }
-    ensures { λ r. ⌜ Noded visitWords (grammarOf (now (forms .entry))) (now (nodes .entry)) (Named (now (names .entry))) left depth (length (now (names .entry))) class at (o .name) (o .to) (now (visits .entry)) (r .name) (r .to) (now (visits .exit)) ⌝ }
+    ensures { λ r. ⌜ VisitsNode forms nodes names visits left depth class at o r ⌝ }
 {
     if left == 0 {
         return o;
