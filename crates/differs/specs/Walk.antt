@@ -1,15 +1,17 @@
 -- The walk of two keys together: what stands in the list, and what its functions answer (02, W9).
 use mathlib.Core.List.{List, [], _∷_, _++_}
 use mathlib.Core.Path.{_≡_}
-use Prim.Native.Nat.{ℕ, _+_, _*_, _≤_}
+use Prim.Native.Nat.{ℕ, _+_, _*_, _^_, _≤_, _<_}
 use lib.ListN.{length, take}
 use Rattle.words.specs.Test.{same}
-use Rattle.keys.specs.Bits.{Bits}
-use Rattle.keys.specs.Form.{Form, word, both, Grammar}
-use Rattle.node_table.specs.Forms.{spellingsThen, spellingIf, nodesThen}
+use Rattle.keys.specs.Bits.{Bits, bitsOfBytes}
+use Rattle.keys.specs.Limits.{longestKey, widest}
+use Rattle.keys.specs.Form.{Form, one, word, both, Grammar}
+use Rattle.node_table.specs.Forms.{formOf, grammarOf, spellingsThen, spellingIf, nodesThen, Narrow}
+use Rattle.node_table.specs.declared.forms.Jump.{Jump}
 use Rattle.differs.specs.Content.{Content, ends, chooses, spells, enters, own, Pair, inside, differences}
 use Rattle.differs.specs.Differ.{wordsOf}
-use Rattle.differs.specs.Sound.{Scan, reads, fails, after, readForm, readNode}
+use Rattle.differs.specs.Sound.{Scan, reads, fails, after, readForm, readNode, readSpelling}
 use Rattle.differs.specs.declared.walk.Both.{Both}
 
 -- ---- The list
@@ -111,3 +113,58 @@ pub record Parted (bs cs : Bits) (X Y : ℕ → ℕ → Scan) (f f' : Form) (at 
   pub found : q .found ≡ first .found + 1
   pub puts : Puts l (first .found) (first .left) (first .right) m
   pub inside : Inside (length bs) (length cs) q
+
+-- ---- What the functions ask, of keys that are not too long and a place inside them
+
+-- Two spellings are asked to be there, with lengths of w and v bits.
+abbrev pub AsksSpelling : (left right : List ℕ) (w v : ℕ) (p : Both) → Type 0
+AsksSpelling left right w v p =
+    (length left ≤ longestKey) × (length right ≤ longestKey) × (w ≤ widest) × (v ≤ widest) × Inside (length left * 8) (length right * 8) p
+    × IsRead (readSpelling (bitsOfBytes left) w (p .left))
+    × IsRead (readSpelling (bitsOfBytes right) v (p .right))
+
+-- The same of n spellings on each side.
+abbrev pub AsksSpellings : (left right : List ℕ) (w v n : ℕ) (p : Both) → Type 0
+AsksSpellings left right w v n p =
+    (length left ≤ longestKey) × (length right ≤ longestKey) × (w ≤ widest) × (v ≤ widest) × Inside (length left * 8) (length right * 8) p
+    × IsRead (readForm (bitsOfBytes left) noNode (spellingsThen n w one) (p .left))
+    × IsRead (readForm (bitsOfBytes right) noNode (spellingsThen n v one) (p .right))
+
+-- The same of the spellings after two children.
+abbrev pub AsksAfter : (left right : List ℕ) (w v : ℕ) (p : Both) → Type 0
+AsksAfter left right w v p =
+    (length left ≤ longestKey) × (length right ≤ longestKey) × (w ≤ widest) × (v ≡ w) × Inside (length left * 8) (length right * 8) p
+    × IsRead (readForm (bitsOfBytes left) noNode (spellingIf w one) (p .left))
+    × IsRead (readForm (bitsOfBytes right) noNode (spellingIf v one) (p .right))
+
+-- What is left of two nodes is there on each side, and no more pairs were found before them than bits passed.
+abbrev pub AsksApart : (forms others left right : List ℕ) (high steps : ℕ) (at : Both) (j k : Jump) (first : Both) → Type 0
+AsksApart forms others left right high steps at j k first =
+    (length left ≤ longestKey) × (length right ≤ longestKey) × Narrow forms × (others ≡ forms)
+    × (at .left ≤ length left * 8) × (at .right ≤ length right * 8) × (j .form < 2 ^ 32) × (j .n < 2 ^ 32) × (k .form < 2 ^ 32) × (k .n < 2 ^ 32) × (first .found < at .left)
+    × IsRead (readForm (bitsOfBytes left) (readNode (bitsOfBytes left) (grammarOf forms) high) (formOf forms steps (j .n) (j .form)) (at .left))
+    × IsRead (readForm (bitsOfBytes right) (readNode (bitsOfBytes right) (grammarOf forms) high) (formOf forms steps (k .n) (k .form)) (at .right))
+
+-- Two nodes are there, and both tables are the same.
+abbrev pub AsksNode : (forms others left right : List ℕ) (class high : ℕ) (p : Both) → Type 0
+AsksNode forms others left right class high p =
+    (length left ≤ longestKey) × (length right ≤ longestKey) × Narrow forms × (others ≡ forms)
+    × (class < 2 ^ 32) × Inside (length left * 8) (length right * 8) p
+    × IsRead (readNode (bitsOfBytes left) (grammarOf forms) high class (p .left))
+    × IsRead (readNode (bitsOfBytes right) (grammarOf forms) high class (p .right))
+
+-- What is left of two nodes is there from the same form on.
+abbrev pub AsksRest : (forms others left right : List ℕ) (high steps : ℕ) (from : Jump) (at first : Both) → Type 0
+AsksRest forms others left right high steps from at first =
+    (length left ≤ longestKey) × (length right ≤ longestKey) × Narrow forms × (others ≡ forms)
+    × (from .form < 2 ^ 32) × (from .n < 2 ^ 32) × Inside (length left * 8) (length right * 8) at × (at .found ≡ first .found)
+    × IsRead (readForm (bitsOfBytes left) (readNode (bitsOfBytes left) (grammarOf forms) high) (formOf forms steps (from .n) (from .form)) (at .left))
+    × IsRead (readForm (bitsOfBytes right) (readNode (bitsOfBytes right) (grammarOf forms) high) (formOf forms steps (from .n) (from .form)) (at .right))
+
+-- n nodes are there on each side, of a class, with a spelling after each if its length has any bits.
+abbrev pub AsksNodes : (forms others left right : List ℕ) (high class w v n : ℕ) (p : Both) → Type 0
+AsksNodes forms others left right high class w v n p =
+    (length left ≤ longestKey) × (length right ≤ longestKey) × Narrow forms × (others ≡ forms)
+    × (class < 2 ^ 32) × (w ≤ widest) × (v ≡ w) × Inside (length left * 8) (length right * 8) p
+    × IsRead (readForm (bitsOfBytes left) (readNode (bitsOfBytes left) (grammarOf forms) high) (nodesThen n class w one) (p .left))
+    × IsRead (readForm (bitsOfBytes right) (readNode (bitsOfBytes right) (grammarOf forms) high) (nodesThen n class v one) (p .right))

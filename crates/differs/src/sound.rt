@@ -1,12 +1,11 @@
 // Is this a key? A check that goes through it once and stores nothing.
 ghost use mathlib.Core.Path.{_≡_};
-ghost use mathlib.Core.Bool.{Bool};
-ghost use Prim.Native.Nat.{ℕ, _+_, _-_, _*_, _^_, _<_, _≤_};
+ghost use Prim.Native.Nat.{ℕ, _-_, _*_, _^_, _<_, _≤_};
 ghost use lib.ListN.{length};
 ghost use Rattle.keys.specs.Limits.{longestKey, widest, countWidth};
 ghost use Rattle.keys.specs.Bits.{bitsOfBytes};
 ghost use Rattle.keys.specs.Form.{isNever};
-ghost use Rattle.node_table.specs.Forms.{formBy, formOf, leads, grammarOf, entryOf, spellingsThen, spellingIf, nodesThen, tableWords, Narrow};
+ghost use Rattle.node_table.specs.Forms.{formOf, leads, grammarOf, entryOf, tableWords, Narrow};
 ghost use Rattle.key_in.specs.Back.{Ends, Sized};
 ghost use Rattle.differs.specs.Differ.{checked};
 ghost use Rattle.differs.specs.Sound as check;

@@ -9,8 +9,8 @@ ghost use Rattle.keys.specs.Form.{one};
 ghost use Rattle.keys.specs.Key.{bytesIn};
 ghost use Rattle.fields.specs.Take.{answered};
 ghost use Rattle.fields.specs.declared.take.TakenField.the-variants.{Number};
-ghost use Rattle.node_table.specs.Forms.{formOf, grammarOf, spellingsThen, spellingIf, nodesThen, Narrow};
-ghost use Rattle.differs.specs.Sound.{readSpelling, readForm, readNode};
+ghost use Rattle.node_table.specs.Forms.{formOf, grammarOf};
+ghost use Rattle.differs.specs.Sound.{readNode};
 ghost use Rattle.differs.specs.Walk as walk;
 use crate::sound;
 use crate::sound::Spot;
@@ -74,7 +74,7 @@ fn same_spelling(left: &[u8], right: &[u8], a: usize, b: usize, n: usize, m: usi
 
 // Two spellings, with lengths of w and v bits: a pair where they differ.
 fn walk_spelling(left: &[u8], right: &[u8], list: &mut [u64], w: usize, v: usize, p: Both) -> Both
-    requires { ⌜ (length (now left) ≤ longestKey) × (length (now right) ≤ longestKey) × (w ≤ widest) × (v ≤ widest) × walk.Inside (length (now left) * 8) (length (now right) * 8) p × walk.IsRead (readSpelling (bitsOfBytes (now left)) w (p .left)) × walk.IsRead (readSpelling (bitsOfBytes (now right)) v (p .right)) ⌝ }
+    requires { ⌜ walk.AsksSpelling (now left) (now right) w v p ⌝ }
     ensures { λ q. ⌜ walk.SpelledOn (bitsOfBytes (now (left .entry))) (bitsOfBytes (now (right .entry))) w v p q (now (list .entry)) (now (list .exit)) ⌝ }
 {
     let n = number_in(left, p.left, w);
@@ -108,7 +108,7 @@ fn walk_spellings(
     n: usize,
     p: Both,
 ) -> Both
-    requires { ⌜ (length (now left) ≤ longestKey) × (length (now right) ≤ longestKey) × (w ≤ widest) × (v ≤ widest) × walk.Inside (length (now left) * 8) (length (now right) * 8) p × walk.IsRead (readForm (bitsOfBytes (now left)) walk.noNode (spellingsThen n w one) (p .left)) × walk.IsRead (readForm (bitsOfBytes (now right)) walk.noNode (spellingsThen n v one) (p .right)) ⌝ }
+    requires { ⌜ walk.AsksSpellings (now left) (now right) w v n p ⌝ }
     ensures { λ q. ⌜ walk.SpelledAll (bitsOfBytes (now (left .entry))) (bitsOfBytes (now (right .entry))) w v n p q (now (list .entry)) (now (list .exit)) ⌝ }
 {
     let mut q = p;
@@ -122,7 +122,7 @@ fn walk_spellings(
 
 // The spellings after two children, if their lengths have any bits.
 fn walk_after(left: &[u8], right: &[u8], list: &mut [u64], w: usize, v: usize, p: Both) -> Both
-    requires { ⌜ (length (now left) ≤ longestKey) × (length (now right) ≤ longestKey) × (w ≤ widest) × (v ≡ w) × walk.Inside (length (now left) * 8) (length (now right) * 8) p × walk.IsRead (readForm (bitsOfBytes (now left)) walk.noNode (spellingIf w one) (p .left)) × walk.IsRead (readForm (bitsOfBytes (now right)) walk.noNode (spellingIf v one) (p .right)) ⌝ }
+    requires { ⌜ walk.AsksAfter (now left) (now right) w v p ⌝ }
     ensures { λ q. ⌜ walk.SpelledAfter (bitsOfBytes (now (left .entry))) (bitsOfBytes (now (right .entry))) w v p q (now (list .entry)) (now (list .exit)) ⌝ }
 {
     if w == 0 {
@@ -145,7 +145,7 @@ fn apart(
     k: Jump,
     first: Both,
 ) -> Both
-    requires { ⌜ (length (now left) ≤ longestKey) × (length (now right) ≤ longestKey) × Narrow (now forms) × (now others ≡ now forms) × (at .left ≤ length (now left) * 8) × (at .right ≤ length (now right) * 8) × (j .form < 2 ^ 32) × (j .n < 2 ^ 32) × (k .form < 2 ^ 32) × (k .n < 2 ^ 32) × (first .found < at .left) × walk.IsRead (readForm (bitsOfBytes (now left)) (readNode (bitsOfBytes (now left)) (grammarOf (now forms)) high) (formOf (now forms) steps (j .n) (j .form)) (at .left)) × walk.IsRead (readForm (bitsOfBytes (now right)) (readNode (bitsOfBytes (now right)) (grammarOf (now forms)) high) (formOf (now forms) steps (k .n) (k .form)) (at .right)) ⌝ }
+    requires { ⌜ walk.AsksApart (now forms) (now others) (now left) (now right) high steps at j k first ⌝ }
     ensures { λ q. ⌜ walk.Parted (bitsOfBytes (now (left .entry))) (bitsOfBytes (now (right .entry))) (readNode (bitsOfBytes (now (left .entry))) (grammarOf (now (forms .entry))) high) (readNode (bitsOfBytes (now (right .entry))) (grammarOf (now (forms .entry))) high) (formOf (now (forms .entry)) steps (j .n) (j .form)) (formOf (now (forms .entry)) steps (k .n) (k .form)) at first q (now (list .entry)) (now (list .exit)) ⌝ }
 {
     let c = sound::check_rest(
@@ -191,7 +191,7 @@ pub fn walk_node(
     high: usize,
     p: Both,
 ) -> Both
-    requires { ⌜ (length (now left) ≤ longestKey) × (length (now right) ≤ longestKey) × Narrow (now forms) × (now others ≡ now forms) × (class < 2 ^ 32) × walk.Inside (length (now left) * 8) (length (now right) * 8) p × walk.IsRead (readNode (bitsOfBytes (now left)) (grammarOf (now forms)) high class (p .left)) × walk.IsRead (readNode (bitsOfBytes (now right)) (grammarOf (now forms)) high class (p .right)) ⌝ }
+    requires { ⌜ walk.AsksNode (now forms) (now others) (now left) (now right) class high p ⌝ }
     ensures { λ q. ⌜ walk.Walked (bitsOfBytes (now (left .entry))) (bitsOfBytes (now (right .entry))) (grammarOf (now (forms .entry))) high class p q (now (list .entry)) (now (list .exit)) ⌝ }
 {
     let steps = forms::word_at(forms, 1);
@@ -237,7 +237,7 @@ fn walk_rest(
     at: Both,
     first: Both,
 ) -> Both
-    requires { ⌜ (length (now left) ≤ longestKey) × (length (now right) ≤ longestKey) × Narrow (now forms) × (now others ≡ now forms) × (from .form < 2 ^ 32) × (from .n < 2 ^ 32) × walk.Inside (length (now left) * 8) (length (now right) * 8) at × (at .found ≡ first .found) × walk.IsRead (readForm (bitsOfBytes (now left)) (readNode (bitsOfBytes (now left)) (grammarOf (now forms)) high) (formOf (now forms) steps (from .n) (from .form)) (at .left)) × walk.IsRead (readForm (bitsOfBytes (now right)) (readNode (bitsOfBytes (now right)) (grammarOf (now forms)) high) (formOf (now forms) steps (from .n) (from .form)) (at .right)) ⌝ }
+    requires { ⌜ walk.AsksRest (now forms) (now others) (now left) (now right) high steps from at first ⌝ }
     ensures { λ q. ⌜ walk.Rested (bitsOfBytes (now (left .entry))) (bitsOfBytes (now (right .entry))) (readNode (bitsOfBytes (now (left .entry))) (grammarOf (now (forms .entry))) high) (readNode (bitsOfBytes (now (right .entry))) (grammarOf (now (forms .entry))) high) (formOf (now (forms .entry)) steps (from .n) (from .form)) (formOf (now (forms .entry)) steps (from .n) (from .form)) at first q (now (list .entry)) (now (list .exit)) ⌝ }
 {
     let mut p = at;
@@ -325,7 +325,7 @@ fn walk_nodes(
     n: usize,
     p: Both,
 ) -> Both
-    requires { ⌜ (length (now left) ≤ longestKey) × (length (now right) ≤ longestKey) × Narrow (now forms) × (now others ≡ now forms) × (class < 2 ^ 32) × (w ≤ widest) × (v ≡ w) × walk.Inside (length (now left) * 8) (length (now right) * 8) p × walk.IsRead (readForm (bitsOfBytes (now left)) (readNode (bitsOfBytes (now left)) (grammarOf (now forms)) high) (nodesThen n class w one) (p .left)) × walk.IsRead (readForm (bitsOfBytes (now right)) (readNode (bitsOfBytes (now right)) (grammarOf (now forms)) high) (nodesThen n class v one) (p .right)) ⌝ }
+    requires { ⌜ walk.AsksNodes (now forms) (now others) (now left) (now right) high class w v n p ⌝ }
     ensures { λ q. ⌜ walk.WalkedAll (bitsOfBytes (now (left .entry))) (bitsOfBytes (now (right .entry))) (grammarOf (now (forms .entry))) high class w v n p q (now (list .entry)) (now (list .exit)) ⌝ }
 {
     let mut o = p;

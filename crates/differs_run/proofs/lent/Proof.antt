@@ -8,35 +8,27 @@ use Rattle.differs_run.proofs.lent.Reads as reads
 use Rattle.differs_run.proofs.lent.Lts as lts
 use Rattle.differs_run.proofs.answer.answer.Reads as answer-reads
 
--- src/main.rt:30:9
 slice-aggregate-answer : tie.Need-slice-aggregate-answer
 slice-aggregate-answer c = simp length-take (omega arith)
 
--- src/main.rt:31:9
 slice-aggregate-answer-2 : tie.Need-slice-aggregate-answer-2
 slice-aggregate-answer-2 c = simp length-take (omega arith)
 
--- src/main.rt:32:9
 slice-relend-prefix-answer : tie.Need-slice-relend-prefix-answer
 slice-relend-prefix-answer c = search needs
 
--- src/main.rt:32:9
 slice-aggregate-answer-3 : tie.Need-slice-aggregate-answer-3
 slice-aggregate-answer-3 c = simp length-take (omega arith)
 
--- src/main.rt:26:5
 answer-requires : tie.Need-answer-requires
 answer-requires c κs = search needs
 
--- src/main.rt:14:1
 same-length : tie.Need-same-length
 same-length c = search needs
 
--- src/main.rt:14:1
 same-length-2 : tie.Need-same-length-2
 same-length-2 c = search needs
 
--- src/main.rt:14:1
 returns : tie.Need-returns
 returns c = search needs
 

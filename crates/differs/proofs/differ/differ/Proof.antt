@@ -19,31 +19,24 @@ use Rattle.differs.proofs.walk.walk_node.Reads as walk-node-reads
 use Rattle.keys.proofs.store.clear_words.Reads as clear-words-reads
 use Rattle.node_table.proofs.forms.words.Reads as words-reads
 
--- src/differ.rt:45:17
 words-requires : tie.Need-words-requires
 words-requires c κs = search needs
 
--- src/differ.rt:46:18
 words-requires-2 : tie.Need-words-requires-2
 words-requires-2 c κs = search needs
 
--- src/differ.rt:47:32
 slice-aggregate-check-whole : tie.Need-slice-aggregate-check-whole
 slice-aggregate-check-whole c = search needs
 
--- src/differ.rt:47:9
 check-whole-requires : tie.Need-check-whole-requires
 check-whole-requires c κs = search needs
 
--- src/differ.rt:49:9
 declined-requires : tie.Need-declined-requires
 declined-requires c κs = search needs
 
--- src/differ.rt:49:9
 same-length : tie.Need-same-length
 same-length c = search needs
 
--- src/differ.rt:49:9
 returns : tie.Need-returns
 returns c =
     let args = c .before .before .before .before .before .before .before .before .before .before .before .before .before .args in
@@ -53,23 +46,18 @@ returns c =
     let declined = c .before .before .declined in
     bad-left (args .left .now) (args .right .now) (args .list .now) (words .result) _ (check-whole .ensures) (if1 .taken) _ (declined .ensures .1) _ (declined .ensures .0)
 
--- src/differ.rt:51:32
 slice-aggregate-check-whole-2 : tie.Need-slice-aggregate-check-whole-2
 slice-aggregate-check-whole-2 c = search needs
 
--- src/differ.rt:51:9
 check-whole-requires-2 : tie.Need-check-whole-requires-2
 check-whole-requires-2 c κs = search needs
 
--- src/differ.rt:53:9
 declined-requires-2 : tie.Need-declined-requires-2
 declined-requires-2 c κs = search needs
 
--- src/differ.rt:53:9
 same-length-2 : tie.Need-same-length-2
 same-length-2 c = search needs
 
--- src/differ.rt:53:9
 returns-2 : tie.Need-returns-2
 returns-2 c =
     let args = c .before .before .before .before .before .before .before .before .before .before .before .before .before .before .before .before .before .args in
@@ -82,15 +70,12 @@ returns-2 c =
     let declined2 = c .before .before .declined2 in
     bad-right (args .left .now) (args .right .now) (args .list .now) (words .result) _ (check-whole .ensures) (if1 .left) (words2 .result) _ (check-whole2 .ensures) (if2 .taken) _ (declined2 .ensures .1) _ (declined2 .ensures .0)
 
--- src/differ.rt:61:9
 slice-aggregate-walk-node : tie.Need-slice-aggregate-walk-node
 slice-aggregate-walk-node c = search needs
 
--- src/differ.rt:62:9
 slice-aggregate-walk-node-2 : tie.Need-slice-aggregate-walk-node-2
 slice-aggregate-walk-node-2 c = search needs
 
--- src/differ.rt:60:9
 walk-node-requires : tie.Need-walk-node-requires
 walk-node-requires c κs =
     let args = c .before .before .before .before .before .before .before .before .before .before .before .before .before .before .before .before .args in
@@ -102,15 +87,12 @@ walk-node-requires c κs =
     let if2 = c .before .before .before .if2 in
     (check-whole .ensures .short (if1 .left), check-whole2 .ensures .short (if2 .left), subst Narrow (sym (words .ensures)) words-narrow, (words2 .ensures ∙ sym (words .ensures)), omega arith, record { left = check-whole .ensures .long (if1 .left); right = check-whole2 .ensures .long (if2 .left); few = omega arith }, read-left (args .left .now) (args .right .now) (args .list .now) (words .result) _ (check-whole .ensures) (if1 .left), read-right (args .left .now) (args .right .now) (args .list .now) (words .result) _ (check-whole .ensures) (if1 .left) _ (subst (λ (x : List ℕ). Wholly x (args .right .now) (check-whole2 .result)) (words2 .ensures ∙ sym (words .ensures)) (check-whole2 .ensures)) (if2 .left))
 
--- src/differ.rt:71:9
 declined-requires-3 : tie.Need-declined-requires-3
 declined-requires-3 c κs = search needs
 
--- src/differ.rt:71:9
 same-length-3 : tie.Need-same-length-3
 same-length-3 c = search needs
 
--- src/differ.rt:71:9
 returns-3 : tie.Need-returns-3
 returns-3 c =
     let args = c .before .before .before .before .before .before .before .before .before .before .before .before .before .before .before .before .before .before .before .before .before .before .before .before .before .args in
@@ -125,7 +107,6 @@ returns-3 c =
     let declined3 = c .before .before .declined3 in
     too-many (args .left .now) (args .right .now) (args .list .now) (words .result) _ (check-whole .ensures) (if1 .left) _ (subst (λ (x : List ℕ). Wholly x (args .right .now) (check-whole2 .result)) (words2 .ensures ∙ sym (words .ensures)) (check-whole2 .ensures)) (if2 .left) _ _ (walk-node .ensures) (if3 .taken) _ (declined3 .ensures .1) _ (declined3 .ensures .0)
 
--- src/differ.rt:73:30
 mul-clear-words : tie.Need-mul-clear-words
 mul-clear-words c =
     let args = c .before .before .before .before .before .before .before .before .before .before .before .before .before .before .before .before .before .before .before .before .before .before .before .args in
@@ -134,15 +115,12 @@ mul-clear-words c =
     let walk-node = c .before .before .before .before .before .before .walk-node in
     omega (arith, walk-node .ensures .inside .few, walk-node .ensures .inside .left, length-bytes (args .left .now), check-whole .ensures .short (if1 .left))
 
--- src/differ.rt:73:5
 clear-words-requires : tie.Need-clear-words-requires
 clear-words-requires c κs = search needs
 
--- src/differ.rt:42:1
 same-length-4 : tie.Need-same-length-4
 same-length-4 c = search needs
 
--- src/differ.rt:42:1
 returns-4 : tie.Need-returns-4
 returns-4 c =
     let args = c .before .before .before .before .before .before .before .before .before .before .before .before .before .before .before .before .before .before .before .before .before .before .before .before .before .before .args in

@@ -11,11 +11,9 @@ use Rattle.differs.proofs.sound.check_after.Lts as lts
 use Rattle.differs.proofs.sound.check_spelling.Reads as check-spelling-reads
 use Rattle.differs.proofs.sound.stopped.Reads as stopped-reads
 
--- src/sound.rt:213:9
 stopped-requires : tie.Need-stopped-requires
 stopped-requires c κs = search needs
 
--- src/sound.rt:213:9
 returns : tie.Need-returns
 returns c =
     let pre = c .before .before .before .pre in
@@ -24,11 +22,9 @@ returns c =
     let stopped = c .stopped in
     after-none (bitsOfBytes (args .key .now)) (args .w) (args .bit) (omega (arith, pre .1, length-bytes (args .key .now))) (if1 .taken) _ (stopped .ensures)
 
--- src/sound.rt:215:5
 check-spelling-requires : tie.Need-check-spelling-requires
 check-spelling-requires c κs = search needs
 
--- src/sound.rt:208:1
 returns-2 : tie.Need-returns-2
 returns-2 c =
     let args = c .before .before .before .args in

@@ -20,23 +20,18 @@ use Rattle.differs.proofs.sound.slim.Reads as slim-reads
 use Rattle.fields.proofs.take.take_field.Reads as take-field-reads
 use Rattle.node_table.proofs.forms.jump_at.Reads as jump-at-reads
 
--- src/sound.rt:137:9
 take-field-requires : tie.Need-take-field-requires
 take-field-requires c κs = search needs
 
--- src/sound.rt:138:28
 enum-known-taken : tie.Need-enum-known-taken
 enum-known-taken c = search needs
 
--- src/sound.rt:139:9
 enum-told : tie.Need-enum-told
 enum-told c = search needs
 
--- src/sound.rt:139:9
 no-form-requires : tie.Need-no-form-requires
 no-form-requires c κs = search needs
 
--- src/sound.rt:139:9
 returns : tie.Need-returns
 returns c =
     let pre = c .before .before .before .before .before .before .pre in
@@ -46,23 +41,18 @@ returns c =
     let no-form = c .no-form in
     chosen-short (bitsOfBytes (args .key .now)) (args .forms .now) (args .steps) (args .r .w) (leads (args .forms .now) (formOf (args .forms .now) (args .steps)) (entryOf (args .r)) (args .r .op - 5)) (args .bit) (omega (arith, length-bytes (args .key .now), pre .1)) _ (no-form .ensures) (sym (enum-told .given .1) ∙ take-field .ensures)
 
--- src/sound.rt:141:9
 slim-requires : tie.Need-slim-requires
 slim-requires c κs = search needs
 
--- src/sound.rt:142:9
 jump-at-requires : tie.Need-jump-at-requires
 jump-at-requires c κs = search needs
 
--- src/sound.rt:143:8
 is-never-requires : tie.Need-is-never-requires
 is-never-requires c κs = search needs
 
--- src/sound.rt:144:9
 no-form-requires-2 : tie.Need-no-form-requires-2
 no-form-requires-2 c κs = search needs
 
--- src/sound.rt:144:9
 returns-2 : tie.Need-returns-2
 returns-2 c =
     let pre = c .before .before .before .before .before .before .before .before .before .before .before .pre in
@@ -76,11 +66,9 @@ returns-2 c =
     let no-form2 = c .no-form2 in
     chosen-never (bitsOfBytes (args .key .now)) (args .forms .now) (args .steps) (args .r .w) (leads (args .forms .now) (formOf (args .forms .now) (args .steps)) (entryOf (args .r)) (args .r .op - 5)) (args .bit) (omega (arith, length-bytes (args .key .now), pre .1)) (slim .result) (number-told (bitsOfBytes (args .key .now)) (args .bit) (args .r .w) (slim .result) (ap Number (slim .ensures .0) ∙ sym (taken .given .1) ∙ take-field .ensures)) _ (no-form2 .ensures) (ap isNever (jump-at .ensures .is (args .steps)) ∙ sym (is-never .ensures) ∙ if1 .taken)
 
--- src/sound.rt:148:14
 add-t11 : tie.Need-add-t11
 add-t11 c = search needs
 
--- src/sound.rt:133:1
 returns-3 : tie.Need-returns-3
 returns-3 c =
     let pre = c .before .before .before .before .before .before .before .before .before .before .before .pre in

@@ -15,14 +15,12 @@ use Rattle.differs.proofs.sound.check_spelling.Reads as check-spelling-
 use Rattle.differs.proofs.sound.check_spellings.Reads as check-spellings-reads
 use Rattle.differs.proofs.sound.no_form.Reads as no-form-reads
 
--- src/sound.rt:184:9
 check-choice-requires : tie.Need-check-choice-requires
 check-choice-requires c κs =
     let pre = c .before .before .before .pre in
     let if1 = c .if1 in
     (pre .0, pre .1 .in-key, pre .2 .w, pre .2 .a, pre .2 .b, if1 .taken)
 
--- src/sound.rt:184:9
 returns : tie.Need-returns
 returns c =
     let pre = c .before .before .before .before .pre in
@@ -31,13 +29,11 @@ returns c =
     let check-choice = c .check-choice in
     plain-choice (bitsOfBytes (args .key .now)) (args .forms .now) (args .steps) (args .r) (args .s) (placed-as (sym (length-bytes (args .key .now))) (pre .1)) (pre .2) (if1 .taken) _ (check-choice .ensures)
 
--- src/sound.rt:187:13
 check-spellings-requires : tie.Need-check-spellings-requires
 check-spellings-requires c κs =
     let pre = c .before .before .before .before .pre in
     (pre .0, pre .1 .in-key, pre .2 .w)
 
--- src/sound.rt:188:9
 returns-2 : tie.Need-returns-2
 returns-2 c =
     let pre = c .before .before .before .before .before .pre in
@@ -46,13 +42,11 @@ returns-2 c =
     let check-spellings = c .check-spellings in
     plain-words (bitsOfBytes (args .key .now)) (args .forms .now) (args .steps) (args .r) (args .s) (placed-as (sym (length-bytes (args .key .now))) (pre .1)) (pre .2) (if2 .taken) _ (check-spellings .ensures)
 
--- src/sound.rt:196:13
 check-spelling-requires : tie.Need-check-spelling-requires
 check-spelling-requires c κs =
     let pre = c .before .before .before .before .before .pre in
     (pre .0, pre .1 .in-key, pre .2 .w)
 
--- src/sound.rt:197:9
 returns-3 : tie.Need-returns-3
 returns-3 c =
     let pre = c .before .before .before .before .before .before .pre in
@@ -61,11 +55,9 @@ returns-3 c =
     let check-spelling = c .check-spelling in
     plain-word (bitsOfBytes (args .key .now)) (args .forms .now) (args .steps) (args .r) (args .s) (placed-as (sym (length-bytes (args .key .now))) (pre .1)) (pre .2) (if3 .taken) _ (check-spelling .ensures)
 
--- src/sound.rt:204:5
 no-form-requires : tie.Need-no-form-requires
 no-form-requires c κs = search needs
 
--- src/sound.rt:177:1
 returns-4 : tie.Need-returns-4
 returns-4 c =
     let pre = c .before .before .before .before .before .before .pre in

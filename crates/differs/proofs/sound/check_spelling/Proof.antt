@@ -12,23 +12,18 @@ use Rattle.differs.proofs.sound.slim.Reads as slim-reads
 use Rattle.differs.proofs.sound.stopped.Reads as stopped-reads
 use Rattle.fields.proofs.take.take_field.Reads as take-field-reads
 
--- src/sound.rt:65:9
 take-field-requires : tie.Need-take-field-requires
 take-field-requires c κs = search needs
 
--- src/sound.rt:66:28
 enum-known-taken : tie.Need-enum-known-taken
 enum-known-taken c = search needs
 
--- src/sound.rt:67:9
 enum-told : tie.Need-enum-told
 enum-told c = search needs
 
--- src/sound.rt:67:9
 stopped-requires : tie.Need-stopped-requires
 stopped-requires c κs = search needs
 
--- src/sound.rt:67:9
 returns : tie.Need-returns
 returns c =
     let pre = c .before .before .before .before .before .pre in
@@ -38,15 +33,12 @@ returns c =
     let stopped = c .stopped in
     spell-short (args .key .now) (args .w) (args .bit) (pre .1) (sym (enum-told .given .1) ∙ take-field .ensures) _ (stopped .ensures)
 
--- src/sound.rt:69:9
 slim-requires : tie.Need-slim-requires
 slim-requires c κs = search needs
 
--- src/sound.rt:71:9
 stopped-requires-2 : tie.Need-stopped-requires-2
 stopped-requires-2 c κs = search needs
 
--- src/sound.rt:71:9
 returns-2 : tie.Need-returns-2
 returns-2 c =
     let pre = c .before .before .before .before .before .before .before .before .pre in
@@ -58,7 +50,6 @@ returns-2 c =
     let stopped2 = c .stopped2 in
     spell-zero (args .key .now) (args .w) (args .bit) (pre .1) (slim .result) (ap Number (slim .ensures .0) ∙ sym (taken .given .1) ∙ take-field .ensures) (if1 .taken) _ (stopped2 .ensures)
 
--- src/sound.rt:73:16
 add-from : tie.Need-add-from
 add-from c =
     let pre = c .before .before .before .before .before .before .before .pre in
@@ -68,11 +59,9 @@ add-from c =
     let slim = c .before .slim in
     omega (arith, spell-within (args .key .now) (args .w) (args .bit) (pre .1) (slim .result) (ap Number (slim .ensures .0) ∙ sym (taken .given .1) ∙ take-field .ensures))
 
--- src/sound.rt:74:9
 mul-if2 : tie.Need-mul-if2
 mul-if2 c = search needs
 
--- src/sound.rt:74:9
 sub-if2 : tie.Need-sub-if2
 sub-if2 c =
     let pre = c .before .before .before .before .before .before .before .pre in
@@ -82,11 +71,9 @@ sub-if2 c =
     let slim = c .before .slim in
     omega (arith, spell-within (args .key .now) (args .w) (args .bit) (pre .1) (slim .result) (ap Number (slim .ensures .0) ∙ sym (taken .given .1) ∙ take-field .ensures))
 
--- src/sound.rt:75:9
 stopped-requires-3 : tie.Need-stopped-requires-3
 stopped-requires-3 c κs = search needs
 
--- src/sound.rt:75:9
 returns-3 : tie.Need-returns-3
 returns-3 c =
     let pre = c .before .before .before .before .before .before .before .before .before .pre in
@@ -99,19 +86,15 @@ returns-3 c =
     let stopped3 = c .stopped3 in
     spell-cut (args .key .now) (args .w) (args .bit) (pre .1) (slim .result) (ap Number (slim .ensures .0) ∙ sym (taken .given .1) ∙ take-field .ensures) (if1 .left) (if2 .taken) _ (stopped3 .ensures)
 
--- src/sound.rt:77:23
 mul-stopped : tie.Need-mul-stopped
 mul-stopped c = search needs
 
--- src/sound.rt:77:16
 add-stopped : tie.Need-add-stopped
 add-stopped c = search needs
 
--- src/sound.rt:77:5
 stopped-requires-4 : tie.Need-stopped-requires-4
 stopped-requires-4 c κs = search needs
 
--- src/sound.rt:61:1
 returns-4 : tie.Need-returns-4
 returns-4 c =
     let pre = c .before .before .before .before .before .before .before .before .before .pre in

@@ -18,14 +18,12 @@ Inv-loop key w n bit at₀ i₀ at i = Spelling (bitsOfBytes key) w n bit i at
 abbrev μ-loop : tie.MeasureT-loop
 μ-loop key w n bit at₀ i₀ at i = n - i
 
--- src/sound.rt:87:5
 loop-holds : tie.Need-loop-holds Inv-loop μ-loop
 loop-holds c =
     let pre = c .before .pre in
     let args = c .before .args in
     spelling-none (bitsOfBytes (args .key .now)) (args .w) (args .n) (args .bit) (omega (arith, pre .1, length-bytes (args .key .now)))
 
--- src/sound.rt:88:13
 check-spelling-requires : tie.Need-check-spelling-requires Inv-loop μ-loop
 check-spelling-requires c κs =
     let pre = c .before .before .before .pre in
@@ -33,7 +31,6 @@ check-spelling-requires c κs =
     let loop = c .before .loop in
     (pre .0, omega (arith, loop .inv .in-key, length-bytes (args .key .now)), pre .2)
 
--- src/sound.rt:90:13
 returns : tie.Need-returns Inv-loop μ-loop
 returns c =
     let loop = c .before .before .before .before .loop in
@@ -42,17 +39,14 @@ returns c =
     let if1 = c .if1 in
     spelling-stop (loop .inv) (loop-test .taken) (check-spelling .ensures) (if1 .taken)
 
--- src/sound.rt:93:9
 add-i : tie.Need-add-i Inv-loop μ-loop
 add-i c =
     omega arith
 
--- src/sound.rt:87:5
 loop-less : tie.Need-loop-less Inv-loop μ-loop
 loop-less c =
     omega arith
 
--- src/sound.rt:87:5
 loop-again : tie.Need-loop-again Inv-loop μ-loop
 loop-again c =
     let loop = c .before .before .before .before .loop in
@@ -61,12 +55,10 @@ loop-again c =
     let if1 = c .if1 in
     spelling-more (loop .inv) (loop-test .taken) (check-spelling .ensures) (if1 .left)
 
--- src/sound.rt:95:5
 stopped-requires : tie.Need-stopped-requires Inv-loop μ-loop
 stopped-requires c κs =
     search needs
 
--- src/sound.rt:81:1
 returns-2 : tie.Need-returns-2 Inv-loop μ-loop
 returns-2 c =
     let loop = c .before .before .loop in

@@ -15,11 +15,9 @@ use Rattle.differs.proofs.sound.pad_end.Reads as pad-end-reads
 use Rattle.differs.proofs.sound.stopped.Reads as stopped-reads
 use Rattle.fields.proofs.take.take_field.Reads as take-field-reads
 
--- src/sound.rt:323:9
 stopped-requires : tie.Need-stopped-requires
 stopped-requires c κs = search needs
 
--- src/sound.rt:323:9
 returns : tie.Need-returns
 returns c =
     let args = c .before .before .before .before .args in
@@ -27,23 +25,18 @@ returns c =
     let stopped = c .stopped in
     whole-long (args .forms .now) (args .key .now) (if1 .taken) _ (stopped .ensures)
 
--- src/sound.rt:325:9
 take-field-requires : tie.Need-take-field-requires
 take-field-requires c κs = search needs
 
--- src/sound.rt:326:28
 enum-known-taken : tie.Need-enum-known-taken
 enum-known-taken c = search needs
 
--- src/sound.rt:327:9
 enum-told : tie.Need-enum-told
 enum-told c = search needs
 
--- src/sound.rt:327:9
 stopped-requires-2 : tie.Need-stopped-requires-2
 stopped-requires-2 c κs = search needs
 
--- src/sound.rt:327:9
 returns-2 : tie.Need-returns-2
 returns-2 c =
     let args = c .before .before .before .before .before .before .before .args in
@@ -53,11 +46,9 @@ returns-2 c =
     let stopped2 = c .stopped2 in
     whole-short (args .forms .now) (args .key .now) (omega (arith, if1 .left)) (sym (enum-told .given .1) ∙ take-field .ensures) _ (stopped2 .ensures)
 
--- src/sound.rt:330:9
 stopped-requires-3 : tie.Need-stopped-requires-3
 stopped-requires-3 c κs = search needs
 
--- src/sound.rt:330:9
 returns-3 : tie.Need-returns-3
 returns-3 c =
     let args = c .before .before .before .before .before .before .before .before .before .args in
@@ -68,7 +59,6 @@ returns-3 c =
     let stopped3 = c .stopped3 in
     whole-other (args .forms .now) (args .key .now) (omega (arith, if1 .left)) _ (sym (taken .given .1) ∙ take-field .ensures) (if2 .taken) _ (stopped3 .ensures)
 
--- src/sound.rt:332:9
 check-node-requires : tie.Need-check-node-requires
 check-node-requires c κs =
     let pre = c .before .before .before .before .before .before .before .before .pre in
@@ -78,7 +68,6 @@ check-node-requires c κs =
     let taken = c .before .before .taken in
     ((omega (arith, if1 .left)), whole-four (args .forms .now) (args .key .now) (omega (arith, if1 .left)) _ (sym (taken .given .1) ∙ take-field .ensures), omega arith, subst Narrow (sym pre) words-narrow)
 
--- src/sound.rt:340:9
 returns-4 : tie.Need-returns-4
 returns-4 c =
     let pre = c .before .before .before .before .before .before .before .before .before .before .before .pre in
@@ -91,7 +80,6 @@ returns-4 c =
     let if3 = c .if3 in
     whole-stop (args .forms .now) (args .key .now) (omega (arith, if1 .left)) _ (sym (taken .given .1) ∙ take-field .ensures) (if2 .left) pre _ (check-node .ensures) (if3 .taken)
 
--- src/sound.rt:342:9
 pad-end-requires : tie.Need-pad-end-requires
 pad-end-requires c κs =
     let args = c .before .before .before .before .before .before .before .before .before .before .before .args in
@@ -99,15 +87,12 @@ pad-end-requires c κs =
     let check-node = c .before .before .check-node in
     ((omega (arith, if1 .left)), omega (arith, check-node .ensures .in-key, length-bytes (args .key .now)))
 
--- src/sound.rt:343:14
 mul-if4 : tie.Need-mul-if4
 mul-if4 c = search needs
 
--- src/sound.rt:344:9
 stopped-requires-4 : tie.Need-stopped-requires-4
 stopped-requires-4 c κs = search needs
 
--- src/sound.rt:344:9
 returns-5 : tie.Need-returns-5
 returns-5 c =
     let pre = c .before .before .before .before .before .before .before .before .before .before .before .before .before .before .pre in
@@ -123,7 +108,6 @@ returns-5 c =
     let stopped4 = c .stopped4 in
     whole-left (args .forms .now) (args .key .now) (omega (arith, if1 .left)) _ (sym (taken .given .1) ∙ take-field .ensures) (if2 .left) pre _ (check-node .ensures) (if3 .left) _ (pad-end .ensures) (if4 .taken) _ (stopped4 .ensures)
 
--- src/sound.rt:318:1
 returns-6 : tie.Need-returns-6
 returns-6 c =
     let pre = c .before .before .before .before .before .before .before .before .before .before .before .before .before .pre in

@@ -9,30 +9,24 @@ use Rattle.differs.proofs.sound.check_whole.Reads as check-whole-reads
 use Rattle.differs.proofs.sound.stopped.Reads as stopped-reads
 use Rattle.node_table.proofs.forms.words.Reads as words-reads
 
--- src/sound.rt:347:17
 words-requires : tie.Need-words-requires
 words-requires c κs = search needs
 
--- src/sound.rt:348:25
 slice-aggregate-check-whole : tie.Need-slice-aggregate-check-whole
 slice-aggregate-check-whole c = search needs
 
--- src/sound.rt:348:9
 check-whole-requires : tie.Need-check-whole-requires
 check-whole-requires c κs = search needs
 
--- src/sound.rt:350:9
 returns : tie.Need-returns
 returns c =
     let check-whole = c .before .before .check-whole in
     let if1 = c .if1 in
     judged-bad (check-whole .ensures .judges) (if1 .taken)
 
--- src/sound.rt:352:5
 stopped-requires : tie.Need-stopped-requires
 stopped-requires c κs = search needs
 
--- src/sound.rt:344:1
 returns-2 : tie.Need-returns-2
 returns-2 c =
     let check-whole = c .before .before .before .check-whole in

@@ -12,35 +12,29 @@ use Rattle.differs.proofs.walk.apart.Lts as lts
 use Rattle.differs.proofs.sound.check_rest.Reads as check-rest-reads
 use Rattle.differs.proofs.walk.put_pair.Reads as put-pair-reads
 
--- src/walk.rt:151:9
 check-rest-requires : tie.Need-check-rest-requires
 check-rest-requires c κs =
     let pre = c .before .before .before .before .before .pre in
     (pre .0, record { ok = refl; in-key = pre .4; in-table = pre .6; few = pre .7 }, pre .2)
 
--- src/walk.rt:163:9
 check-rest-requires-2 : tie.Need-check-rest-requires-2
 check-rest-requires-2 c κs =
     let pre = c .before .before .before .before .before .before .pre in
     (pre .1, record { ok = refl; in-key = pre .5; in-table = pre .8; few = pre .9 }, subst Narrow (sym (pre .3)) (pre .2))
 
--- src/walk.rt:175:5
 put-pair-requires : tie.Need-put-pair-requires
 put-pair-requires c κs =
     let pre = c .before .before .before .before .before .before .before .before .pre in
     omega (arith, pre .0, pre .4, pre .10)
 
--- src/walk.rt:179:16
 add-t18 : tie.Need-add-t18
 add-t18 c =
     let pre = c .before .before .before .before .before .before .before .before .before .before .before .before .pre in
     omega (arith, pre .0, pre .4, pre .10)
 
--- src/walk.rt:135:1
 same-length : tie.Need-same-length
 same-length c = search needs
 
--- src/walk.rt:135:1
 returns : tie.Need-returns
 returns c =
     let pre = c .before .before .before .before .before .before .before .before .before .before .before .before .pre in

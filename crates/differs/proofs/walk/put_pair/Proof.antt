@@ -7,46 +7,36 @@ use Rattle.differs.proofs.walk.put_pair.Tie as tie
 use Rattle.differs.proofs.walk.put_pair.Reads as reads
 use Rattle.differs.proofs.walk.put_pair.Lts as lts
 
--- src/walk.rt:41:14
 mul-to : tie.Need-mul-to
 mul-to c = search needs
 
--- src/walk.rt:42:8
 add-if1 : tie.Need-add-if1
 add-if1 c = search needs
 
--- src/walk.rt:43:9
 mul-list : tie.Need-mul-list
 mul-list c = search needs
 
--- src/walk.rt:43:9
 slice-write-list : tie.Need-slice-write-list
 slice-write-list c = search needs
 
--- src/walk.rt:44:14
 add-list : tie.Need-add-list
 add-list c = search needs
 
--- src/walk.rt:44:9
 mul-list-2 : tie.Need-mul-list-2
 mul-list-2 c = search needs
 
--- src/walk.rt:44:9
 slice-write-list-2 : tie.Need-slice-write-list-2
 slice-write-list-2 c = search needs
 
--- src/walk.rt:45:9
 same-length : tie.Need-same-length
 same-length c = search needs
 
--- src/walk.rt:45:9
 returns : tie.Need-returns
 returns c =
     let args = c .before .args in
     let if1 = c .if1 in
     put-stored (args .list .now) (args .found) (args .left) (args .right) (if1 .taken)
 
--- src/walk.rt:37:1
 returns-2 : tie.Need-returns-2
 returns-2 c =
     let args = c .before .args in

@@ -17,55 +17,47 @@ Inv-loop left right a b count i₀ i = Comparing (bitsOfBytes left) (bitsOfBytes
 abbrev μ-loop : tie.MeasureT-loop
 μ-loop left right a b count i₀ i = count - i
 
--- src/walk.rt:55:5
 loop-holds : tie.Need-loop-holds Inv-loop μ-loop
 loop-holds c =
     let args = c .before .before .args in
     comparing-none (bitsOfBytes (args .left .now)) (bitsOfBytes (args .right .now)) (args .a) (args .b) (args .count)
 
--- src/walk.rt:56:38
 mul-number-at : tie.Need-mul-number-at Inv-loop μ-loop
 mul-number-at c =
     let pre = c .before .before .before .before .pre in
     let loop-test = c .loop-test in
     omega (arith, pre .0, pre .2, loop-test .taken)
 
--- src/walk.rt:56:34
 add-number-at : tie.Need-add-number-at Inv-loop μ-loop
 add-number-at c =
     let pre = c .before .before .before .before .pre in
     let loop-test = c .loop-test in
     omega (arith, pre .0, pre .2, loop-test .taken)
 
--- src/walk.rt:56:12
 number-at-requires : tie.Need-number-at-requires Inv-loop μ-loop
 number-at-requires c κs =
     let pre = c .before .before .before .before .pre in
     let loop-test = c .loop-test in
     (pre .0, omega (arith, pre .2, loop-test .taken), omega arith)
 
--- src/walk.rt:56:78
 mul-number-at-2 : tie.Need-mul-number-at-2 Inv-loop μ-loop
 mul-number-at-2 c =
     let pre = c .before .before .before .before .before .pre in
     let loop-test = c .before .loop-test in
     omega (arith, pre .0, pre .2, loop-test .taken)
 
--- src/walk.rt:56:74
 add-number-at-2 : tie.Need-add-number-at-2 Inv-loop μ-loop
 add-number-at-2 c =
     let pre = c .before .before .before .before .before .pre in
     let loop-test = c .before .loop-test in
     omega (arith, pre .1, pre .3, loop-test .taken)
 
--- src/walk.rt:56:51
 number-at-requires-2 : tie.Need-number-at-requires-2 Inv-loop μ-loop
 number-at-requires-2 c κs =
     let pre = c .before .before .before .before .before .pre in
     let loop-test = c .before .loop-test in
     (pre .1, omega (arith, pre .3, loop-test .taken), omega arith)
 
--- src/walk.rt:57:13
 returns : tie.Need-returns Inv-loop μ-loop
 returns c =
     let pre = c .before .before .before .before .before .before .before .pre in
@@ -77,17 +69,14 @@ returns c =
     let if1 = c .if1 in
     comparing-not (loop .inv) (loop-test .taken) (omega (arith, pre .2, length-bytes (args .left .now))) (omega (arith, pre .3, length-bytes (args .right .now))) (number-told (bitsOfBytes (args .left .now)) _ 8 _ (number-at .ensures)) (number-told (bitsOfBytes (args .right .now)) _ 8 _ (number-at2 .ensures)) (if1 .taken)
 
--- src/walk.rt:59:9
 add-i : tie.Need-add-i Inv-loop μ-loop
 add-i c =
     omega arith
 
--- src/walk.rt:55:5
 loop-less : tie.Need-loop-less Inv-loop μ-loop
 loop-less c =
     omega arith
 
--- src/walk.rt:55:5
 loop-again : tie.Need-loop-again Inv-loop μ-loop
 loop-again c =
     let pre = c .before .before .before .before .before .before .before .pre in
@@ -99,7 +88,6 @@ loop-again c =
     let if1 = c .if1 in
     comparing-more (loop .inv) (loop-test .taken) (omega (arith, pre .2, length-bytes (args .left .now))) (omega (arith, pre .3, length-bytes (args .right .now))) (number-told (bitsOfBytes (args .left .now)) _ 8 _ (number-at .ensures)) (number-told (bitsOfBytes (args .right .now)) _ 8 _ (number-at2 .ensures)) (if1 .left)
 
--- src/walk.rt:50:1
 returns-2 : tie.Need-returns-2 Inv-loop μ-loop
 returns-2 c =
     let loop = c .before .loop in

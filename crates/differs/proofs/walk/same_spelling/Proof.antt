@@ -15,7 +15,6 @@ use Rattle.differs.proofs.walk.same_spelling.Reads as reads
 use Rattle.differs.proofs.walk.same_spelling.Lts as lts
 use Rattle.differs.proofs.walk.same_bytes.Reads as same-bytes-reads
 
--- src/walk.rt:70:9
 returns : tie.Need-returns
 returns c =
     let pre = c .before .before .before .pre in
@@ -23,14 +22,12 @@ returns c =
     let if1 = c .if1 in
     sizes-differ (bitsOfBytes (args .left .now)) (bitsOfBytes (args .right .now)) (args .a) (args .b) (args .n) (args .m) (omega (arith, pre .2, length-bytes (args .left .now))) (omega (arith, pre .3, length-bytes (args .right .now))) (if1 .taken)
 
--- src/walk.rt:72:5
 same-bytes-requires : tie.Need-same-bytes-requires
 same-bytes-requires c κs =
     let pre = c .before .before .before .pre in
     let if1 = c .if1 in
     (pre .0, pre .1, pre .2, omega (arith, pre .3, if1 .left))
 
--- src/walk.rt:65:1
 returns-2 : tie.Need-returns-2
 returns-2 c =
     let args = c .before .before .before .before .args in

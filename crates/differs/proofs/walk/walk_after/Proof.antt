@@ -9,7 +9,6 @@ use Rattle.differs.proofs.walk.walk_after.Reads as reads
 use Rattle.differs.proofs.walk.walk_after.Lts as lts
 use Rattle.differs.proofs.walk.walk_spelling.Reads as walk-spelling-reads
 
--- src/walk.rt:129:9
 returns : tie.Need-returns
 returns c =
     let pre = c .before .before .before .before .pre in
@@ -17,7 +16,6 @@ returns c =
     let if1 = c .if1 in
     after-none (bitsOfBytes (args .left .now)) (bitsOfBytes (args .right .now)) (args .w) (args .v) (args .p) (args .list .now) (inside-bits (args .left .now) (args .right .now) (pre .4)) (if1 .taken) (pre .3)
 
--- src/walk.rt:131:5
 walk-spelling-requires : tie.Need-walk-spelling-requires
 walk-spelling-requires c κs =
     let pre = c .before .before .before .before .before .pre in
@@ -25,11 +23,9 @@ walk-spelling-requires c κs =
     let if1 = c .before .if1 in
     (pre .0, pre .1, pre .2, omega (arith, pre .2, pre .3), pre .4, if-left (bitsOfBytes (args .left .now)) (bitsOfBytes (args .right .now)) (args .w) (args .v) (if1 .left) (pre .3) (args .p .left) (pre .5), if-right (bitsOfBytes (args .left .now)) (bitsOfBytes (args .right .now)) (args .w) (args .v) (if1 .left) (pre .3) (args .p .right) (pre .6))
 
--- src/walk.rt:124:1
 same-length : tie.Need-same-length
 same-length c = search needs
 
--- src/walk.rt:124:1
 returns-2 : tie.Need-returns-2
 returns-2 c =
     let pre = c .before .before .before .before .before .before .before .before .pre in

@@ -10,41 +10,35 @@ use Rattle.differs.proofs.walk.number_in.Reads as number-in-reads
 use Rattle.differs.proofs.walk.put_pair.Reads as put-pair-reads
 use Rattle.differs.proofs.walk.same_spelling.Reads as same-spelling-reads
 
--- src/walk.rt:80:9
 number-in-requires : tie.Need-number-in-requires
 number-in-requires c κs =
     let pre = c .before .before .before .pre in
     let args = c .before .before .before .args in
     (pre .0, word-within (args .left .now) (args .w) (args .p .left) (pre .4 .left) (pre .5), pre .2)
 
--- src/walk.rt:81:9
 number-in-requires-2 : tie.Need-number-in-requires-2
 number-in-requires-2 c κs =
     let pre = c .before .before .before .before .pre in
     let args = c .before .before .before .before .args in
     (pre .1, word-within (args .right .now) (args .v) (args .p .right) (pre .4 .right) (pre .6), pre .3)
 
--- src/walk.rt:82:13
 add-a : tie.Need-add-a
 add-a c =
     let pre = c .before .before .before .before .before .before .pre in
     let args = c .before .before .before .before .before .before .args in
     omega (arith, pre .0, word-within (args .left .now) (args .w) (args .p .left) (pre .4 .left) (pre .5))
 
--- src/walk.rt:83:13
 add-b : tie.Need-add-b
 add-b c =
     let pre = c .before .before .before .before .before .before .before .pre in
     let args = c .before .before .before .before .before .before .before .args in
     omega (arith, pre .1, word-within (args .right .now) (args .v) (args .p .right) (pre .4 .right) (pre .6))
 
--- src/walk.rt:84:17
 mul-e : tie.Need-mul-e
 mul-e c =
     let number-in = c .before .before .before .number-in in
     omega (arith, number-in .ensures .1)
 
--- src/walk.rt:84:13
 add-e : tie.Need-add-e
 add-e c =
     let pre = c .before .before .before .before .before .before .before .pre in
@@ -52,13 +46,11 @@ add-e c =
     let number-in = c .before .before .before .number-in in
     omega (arith, pre .0, word-ends (args .left .now) (args .w) (args .p .left) (pre .4 .left) (pre .5) (number-in .result) (number-in .ensures .0))
 
--- src/walk.rt:85:17
 mul-d : tie.Need-mul-d
 mul-d c =
     let number-in2 = c .before .before .number-in2 in
     omega (arith, number-in2 .ensures .1)
 
--- src/walk.rt:85:13
 add-d : tie.Need-add-d
 add-d c =
     let pre = c .before .before .before .before .before .before .before .pre in
@@ -66,7 +58,6 @@ add-d c =
     let number-in2 = c .before .before .number-in2 in
     omega (arith, pre .1, word-ends (args .right .now) (args .v) (args .p .right) (pre .4 .right) (pre .6) (number-in2 .result) (number-in2 .ensures .0))
 
--- src/walk.rt:86:8
 same-spelling-requires : tie.Need-same-spelling-requires
 same-spelling-requires c κs =
     let pre = c .before .before .before .before .before .before .before .pre in
@@ -75,7 +66,6 @@ same-spelling-requires c κs =
     let number-in2 = c .before .before .number-in2 in
     (pre .0, pre .1, word-ends (args .left .now) (args .w) (args .p .left) (pre .4 .left) (pre .5) (number-in .result) (number-in .ensures .0), word-ends (args .right .now) (args .v) (args .p .right) (pre .4 .right) (pre .6) (number-in2 .result) (number-in2 .ensures .0))
 
--- src/walk.rt:87:9
 returns : tie.Need-returns
 returns c =
     let pre = c .before .before .before .before .before .before .before .before .before .pre in
@@ -86,23 +76,19 @@ returns c =
     let if1 = c .if1 in
     words-same (args .left .now) (args .right .now) (args .w) (args .v) (args .p) (pre .4) (pre .5) (pre .6) (args .list .now) (number-in .result) (number-in .ensures .0) (number-in2 .result) (number-in2 .ensures .0) (same-spelling .result) (same-spelling .ensures) (if1 .taken)
 
--- src/walk.rt:93:5
 put-pair-requires : tie.Need-put-pair-requires
 put-pair-requires c κs =
     let pre = c .before .before .before .before .before .before .before .before .before .before .pre in
     omega (arith, pre .0, pre .4 .left, pre .4 .few)
 
--- src/walk.rt:97:16
 add-t13 : tie.Need-add-t13
 add-t13 c =
     let pre = c .before .before .before .before .before .before .before .before .before .before .before .before .before .before .pre in
     omega (arith, pre .0, pre .4 .left, pre .4 .few)
 
--- src/walk.rt:76:1
 same-length : tie.Need-same-length
 same-length c = search needs
 
--- src/walk.rt:76:1
 returns-2 : tie.Need-returns-2
 returns-2 c =
     let pre = c .before .before .before .before .before .before .before .before .before .before .before .before .before .before .pre in

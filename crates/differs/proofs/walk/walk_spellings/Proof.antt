@@ -17,14 +17,12 @@ Inv-loop left right list₀ w v n q₀ i₀ list q i = Spelling (bitsOfBytes lef
 abbrev μ-loop : tie.MeasureT-loop
 μ-loop left right list₀ w v n q₀ i₀ list q i = n - i
 
--- src/walk.rt:116:5
 loop-holds : tie.Need-loop-holds Inv-loop μ-loop
 loop-holds c =
     let pre = c .before .before .before .pre in
     let args = c .before .before .before .args in
     spelling-none (bitsOfBytes (args .left .now)) (bitsOfBytes (args .right .now)) (args .w) (args .v) (args .n) (args .p) (args .list .now) (inside-bits (args .left .now) (args .right .now) (pre .4))
 
--- src/walk.rt:117:9
 walk-spelling-requires : tie.Need-walk-spelling-requires Inv-loop μ-loop
 walk-spelling-requires c κs =
     let pre = c .before .before .before .before .before .before .pre in
@@ -33,17 +31,14 @@ walk-spelling-requires c κs =
     let loop-test = c .before .loop-test in
     (pre .0, pre .1, pre .2, pre .3, inside-bytes (args .left .now) (args .right .now) (loop .inv .on noNode noNode one one .inside), next-left (loop .inv) (loop-test .taken) (pre .5), next-right (loop .inv) (loop-test .taken) (pre .6))
 
--- src/walk.rt:118:9
 add-i : tie.Need-add-i Inv-loop μ-loop
 add-i c =
     omega arith
 
--- src/walk.rt:116:5
 loop-less : tie.Need-loop-less Inv-loop μ-loop
 loop-less c =
     omega arith
 
--- src/walk.rt:116:5
 loop-again : tie.Need-loop-again Inv-loop μ-loop
 loop-again c =
     let loop = c .before .before .before .before .before .loop in
@@ -51,13 +46,11 @@ loop-again c =
     let walk-spelling = c .before .before .walk-spelling in
     spelling-more (loop .inv) (loop-test .taken) (walk-spelling .ensures)
 
--- src/walk.rt:102:1
 same-length : tie.Need-same-length Inv-loop μ-loop
 same-length c =
     let loop = c .before .loop in
     loop .inv .on noNode noNode one one .grows .long
 
--- src/walk.rt:102:1
 returns : tie.Need-returns Inv-loop μ-loop
 returns c =
     let loop = c .before .loop in
