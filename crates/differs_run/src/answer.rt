@@ -10,9 +10,9 @@ use lines::sum::dirty_words;
 use lines::sum::of_words;
 
 // A refusal's number, side and bit.
-fn refused(out: &mut [u8], at: usize, number: u32, side: u32, bit: usize) -> usize
-    requires { ⌜ at < length (now out) ⌝ }
-    ensures { λ r. ⌜ r < length (now (out .exit)) ⌝ }
+fn refused(out: &mut [u8; 65536], at: usize, number: u32, side: u32, bit: usize) -> usize
+    requires { ⌜ at < 65536 ⌝ }
+    ensures { λ r. ⌜ r < 65536 ⌝ }
 {
     let p = bytes(out, at, b"refused");
     let q = next(out, p, number as u64);
@@ -21,9 +21,9 @@ fn refused(out: &mut [u8], at: usize, number: u32, side: u32, bit: usize) -> usi
 }
 
 // Whether the left key is one.
-fn checked(out: &mut [u8], at: usize, left: &[u8]) -> usize
-    requires { ⌜ at < length (now out) ⌝ }
-    ensures { λ r. ⌜ r < length (now (out .exit)) ⌝ }
+fn checked(out: &mut [u8; 65536], at: usize, left: &[u8]) -> usize
+    requires { ⌜ at < 65536 ⌝ }
+    ensures { λ r. ⌜ r < 65536 ⌝ }
 {
     let c = sound(left);
     if c.why == 0 {
@@ -33,9 +33,9 @@ fn checked(out: &mut [u8], at: usize, left: &[u8]) -> usize
 }
 
 // What differs, and all of the list as one number. The list is dirty before.
-fn compared(out: &mut [u8], at: usize, left: &[u8], right: &[u8], list: &mut [u64]) -> usize
-    requires { ⌜ at < length (now out) ⌝ }
-    ensures { λ r. ⌜ r < length (now (out .exit)) ⌝ }
+fn compared(out: &mut [u8; 65536], at: usize, left: &[u8], right: &[u8], list: &mut [u64]) -> usize
+    requires { ⌜ at < 65536 ⌝ }
+    ensures { λ r. ⌜ r < 65536 ⌝ }
 {
     dirty_words(list);
     match differ(left, right, list) {
@@ -53,15 +53,15 @@ fn compared(out: &mut [u8], at: usize, left: &[u8], right: &[u8], list: &mut [u6
 
 // A record's line, without its end: op 1 checks the left key, any other compares both.
 pub fn answer(
-    out: &mut [u8],
+    out: &mut [u8; 65536],
     at: usize,
     op: u8,
     left: &[u8],
     right: &[u8],
     list: &mut [u64],
 ) -> usize
-    requires { ⌜ at < length (now out) ⌝ }
-    ensures { λ r. ⌜ r < length (now (out .exit)) ⌝ }
+    requires { ⌜ at < 65536 ⌝ }
+    ensures { λ r. ⌜ r < 65536 ⌝ }
 {
     if op == 1 {
         return checked(out, at, left);

@@ -12,7 +12,7 @@ use lines::line;
 
 // A record's line, by the buffers that it lends.
 fn lent(
-    out: &mut [u8],
+    out: &mut [u8; 65536],
     at: usize,
     op: u8,
     rooms: Rooms,
@@ -20,8 +20,8 @@ fn lent(
     right: &[u8],
     list: &mut [u64],
 ) -> usize
-    requires { ⌜ (at < length (now out)) × (rooms .list ≤ length (now list)) × (rooms .left ≤ length (now left)) × (rooms .right ≤ length (now right)) ⌝ }
-    ensures { λ r. ⌜ r < length (now (out .exit)) ⌝ }
+    requires { ⌜ (at < 65536) × (rooms .list ≤ length (now list)) × (rooms .left ≤ length (now left)) × (rooms .right ≤ length (now right)) ⌝ }
+    ensures { λ r. ⌜ r < 65536 ⌝ }
 {
     answer::answer(
         out,
@@ -37,14 +37,14 @@ fn lent(
 fn shown(
     fd: i32,
     head: &[u8; 13],
-    out: &mut [u8],
+    out: &mut [u8; 65536],
     at: usize,
     left: &mut [u8],
     right: &mut [u8],
     list: &mut [u64],
 ) -> usize
-    requires { ⌜ at < length (now out) ⌝ }
-    ensures { λ r. ⌜ r ≤ length (now (out .exit)) ⌝ }
+    requires { ⌜ at < 65536 ⌝ }
+    ensures { λ r. ⌜ r ≤ 65536 ⌝ }
 {
     let rooms = record::lent_by(head);
     if list.len() < rooms.list {
@@ -69,14 +69,14 @@ fn shown(
 // The next record. After the last, and after one that is cut, the place given back is the buffer's length.
 fn turn(
     fd: i32,
-    out: &mut [u8],
+    out: &mut [u8; 65536],
     at: usize,
     left: &mut [u8],
     right: &mut [u8],
     list: &mut [u64],
 ) -> usize
-    requires { ⌜ at < length (now out) ⌝ }
-    ensures { λ r. ⌜ r ≤ length (now (out .exit)) ⌝ }
+    requires { ⌜ at < 65536 ⌝ }
+    ensures { λ r. ⌜ r ≤ 65536 ⌝ }
 {
     let mut head = [0u8; 13];
     let got = io::read_full(fd, &mut head);
@@ -90,14 +90,12 @@ fn turn(
 }
 
 // The records of a file, at most a thousand million.
-fn records(fd: i32, out: &mut [u8], left: &mut [u8], right: &mut [u8], list: &mut [u64])
-    requires { ⌜ 0 < length (now out) ⌝ }
-{
+fn records(fd: i32, out: &mut [u8; 65536], left: &mut [u8], right: &mut [u8], list: &mut [u64]) {
     let mut at: usize = 0;
     let mut more: usize = 1_000_000_000;
     while 0 < more {
         at = turn(fd, out, at, left, right, list);
-        if at == out.len() {
+        if 65536 <= at {
             return;
         }
         more -= 1;

@@ -26,9 +26,6 @@ answer-requires c κs = search needs
 same-length : tie.Need-same-length
 same-length c = search needs
 
-same-length-2 : tie.Need-same-length-2
-same-length-2 c = search needs
-
 returns : tie.Need-returns
 returns c = search needs
 
@@ -42,5 +39,4 @@ lent-spec =
     slice-aggregate-answer-3
     answer-requires
     same-length
-    same-length-2
     returns)

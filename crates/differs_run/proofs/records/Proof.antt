@@ -12,7 +12,7 @@ use Rattle.lines.proofs.line.flush.Reads as flush-reads
 
 abbrev Inv-loop : tie.InvT-loop
 Inv-loop fd out₀ left₀ right₀ list₀ at₀ more₀ out left right list at more =
-    (at < length out) × (length out ≡ length out₀) × (length left ≡ length left₀) × (length right ≡ length right₀) × (length list ≡ length list₀)
+    (at < 65536) × (length left ≡ length left₀) × (length right ≡ length right₀) × (length list ≡ length list₀)
 
 abbrev μ-loop : tie.MeasureT-loop
 μ-loop fd out₀ left₀ right₀ list₀ at₀ more₀ out left right list at more = more
@@ -32,9 +32,6 @@ same-length-2 c = search needs
 same-length-3 : tie.Need-same-length-3 Inv-loop μ-loop
 same-length-3 c = search needs
 
-same-length-4 : tie.Need-same-length-4 Inv-loop μ-loop
-same-length-4 c = search needs
-
 returns : tie.Need-returns Inv-loop μ-loop
 returns c = search needs
 
@@ -50,17 +47,14 @@ loop-again c = search needs
 flush-requires : tie.Need-flush-requires Inv-loop μ-loop
 flush-requires c κs = search needs
 
+same-length-4 : tie.Need-same-length-4 Inv-loop μ-loop
+same-length-4 c = search needs
+
 same-length-5 : tie.Need-same-length-5 Inv-loop μ-loop
 same-length-5 c = search needs
 
 same-length-6 : tie.Need-same-length-6 Inv-loop μ-loop
 same-length-6 c = search needs
-
-same-length-7 : tie.Need-same-length-7 Inv-loop μ-loop
-same-length-7 c = search needs
-
-same-length-8 : tie.Need-same-length-8 Inv-loop μ-loop
-same-length-8 c = search needs
 
 returns-2 : tie.Need-returns-2 Inv-loop μ-loop
 returns-2 c = search needs
@@ -76,14 +70,12 @@ records-spec =
     same-length
     same-length-2
     same-length-3
-    same-length-4
     returns
     sub-more
     loop-less
     loop-again
     flush-requires
+    same-length-4
     same-length-5
     same-length-6
-    same-length-7
-    same-length-8
     returns-2)
