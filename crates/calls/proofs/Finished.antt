@@ -19,9 +19,9 @@ use Rattle.keys.specs.Holds.{Stands}
 use Rattle.rules.specs.Notes.{noteWords}
 use Rattle.rules.specs.State.{State}
 use Rattle.rules.specs.Read.{Lent, lend, Answer, Called, reads, denied, fits, withKey, written}
-use Rattle.parts.specs.State.{notesOf, view}
-use Rattle.parts.proofs.LaidLaws.{length-notes}
-use Rattle.parts.specs.declared.state.Mark.{Mark}
+use Rattle.marks.specs.State.{notesOf, view}
+use Rattle.marks.proofs.LaidLaws.{length-notes}
+use Rattle.marks.specs.declared.state.Mark.{Mark}
 use Rattle.calls.specs.Reading.{seen, HeldIn, WroteIn, NoSpace}
 use Rattle.calls.specs.declared.reading.Reading.the-variants.{Read}
 use Rattle.calls.specs.declared.reading.Refused as declared

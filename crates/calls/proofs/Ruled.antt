@@ -22,10 +22,10 @@ use Rattle.rules.specs.Read as rules
 use Rattle.rules.specs.Read.{Lent, lend, given, denied, withKey, Called, written}
 use Rattle.rules.proofs.TokenLaws.{text-few, words-few, word-inside, word-sized}
 use Rattle.rules.proofs.Theorems.{tree-fits, tree-low, nodes-used, nodes-few, notes-few, key-short, names-spelled}
-use Rattle.parts.specs.State.{noteAt, notingWords, notesOf, view, Sound, Spelt}
-use Rattle.parts.specs.Laid.{runIn, wasAt, Laid}
-use Rattle.parts.proofs.LaidLaws.{length-notes}
-use Rattle.parts.specs.declared.state.Mark.{Mark}
+use Rattle.marks.specs.State.{noteAt, notingWords, notesOf, view, Sound, Spelt}
+use Rattle.marks.specs.Laid.{runIn, wasAt, Laid}
+use Rattle.marks.proofs.LaidLaws.{length-notes}
+use Rattle.marks.specs.declared.state.Mark.{Mark}
 use Rattle.calls.specs.Reading.{HeldIn}
 
 -- ---- A list that passed the check

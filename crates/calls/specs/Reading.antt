@@ -15,8 +15,8 @@ use Rattle.keys.specs.Key.{nodeTable, keyOf}
 use Rattle.keys.specs.Store.{nodesOf, namesOf, allPointed, filled}
 use Rattle.keys.specs.Holds.{Stands}
 use Rattle.rules.specs.Read.{Lent, lend, denied, withKey, Answer, reads, refuses, Called, written, read}
-use Rattle.parts.specs.State.{view}
-use Rattle.parts.specs.declared.state.Mark.{Mark}
+use Rattle.marks.specs.State.{view}
+use Rattle.marks.specs.declared.state.Mark.{Mark}
 use Rattle.calls.specs.declared.reading.Reading.{Reading}
 use Rattle.calls.specs.declared.reading.Reading.the-variants.{Read, Refused}
 use Rattle.calls.specs.declared.reading.Refused as declared

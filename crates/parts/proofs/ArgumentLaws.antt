@@ -21,23 +21,23 @@ use Rattle.rules.specs.State.{State, Result, read, refuse, refused, then, next,
 use Rattle.rules.specs.List.{count}
 use Rattle.rules.specs.Names.{dotsFrom, dotted}
 use Rattle.rules.specs.Arguments.{opens, opened}
-use Rattle.parts.specs.State.{view, givenOf, nextMark, namedMark, Spelt, Inside, Along}
-use Rattle.parts.specs.Laid.{namesRun, runsOpt, AllOpt, Was, BuiltAt, Spoken, Shape}
-use Rattle.parts.specs.Says.{GotNames, SaysNames, Any, one, Says, isThere}
-use Rattle.parts.specs.Node.{Makes, optList}
-use Rattle.parts.specs.Names.{Speaks, GotDots}
+use Rattle.marks.specs.State.{view, givenOf, nextMark, namedMark, Spelt, Inside, Along}
+use Rattle.marks.specs.Laid.{namesRun, runsOpt, AllOpt, Was, BuiltAt, Spoken, Shape}
+use Rattle.marks.specs.Says.{GotNames, SaysNames, Any, one, Says, isThere}
+use Rattle.marks.specs.Node.{Makes, optList}
+use Rattle.marks.specs.Names.{Speaks, GotDots}
 use Rattle.parts.specs.Arguments.{Naming, reference, typeof, import, namesOf, nameCount, nameChoices, nameScale, namedNode, importSource, importHead, dottedHead, queryHead, namingHead, NamingIs, Dotted}
-use Rattle.parts.specs.List.{here}
-use Rattle.parts.proofs.Answers.{then-read, then-refused, says-same}
-use Rattle.parts.proofs.BuiltLaws.{spoken-from, spoken-to, spoken-then}
-use Rattle.parts.proofs.MarkLaws.{moved-next, inside-next, along-named, along-then, along-moved}
-use Rattle.parts.proofs.StepLaws.{names-refused, names-read}
+use Rattle.marks.specs.List.{here}
+use Rattle.marks.proofs.Answers.{then-read, then-refused, says-same}
+use Rattle.marks.proofs.BuiltLaws.{spoken-from, spoken-to, spoken-then}
+use Rattle.marks.proofs.MarkLaws.{moved-next, inside-next, along-named, along-then, along-moved}
+use Rattle.marks.proofs.StepLaws.{names-refused, names-read}
 use Rattle.parts.proofs.NamingLaws.{nameTag, nameContent, named-tree, named-shape, spoken-count}
-use Rattle.parts.specs.declared.state.Given.{Given}
-use Rattle.parts.specs.declared.state.Mark.{Mark}
-use Rattle.parts.specs.declared.state.Begin.{Begin}
-use Rattle.parts.specs.declared.state.Listed.{Listed}
-use Rattle.parts.specs.declared.state.Answer.{Answer}
+use Rattle.marks.specs.declared.state.Given.{Given}
+use Rattle.marks.specs.declared.state.Mark.{Mark}
+use Rattle.marks.specs.declared.state.Begin.{Begin}
+use Rattle.marks.specs.declared.state.Listed.{Listed}
+use Rattle.marks.specs.declared.state.Answer.{Answer}
 use Rattle.parts.specs.declared.arguments.Named.{Named}
 
 -- ---- Where a list of arguments opens

@@ -21,10 +21,10 @@ use Rattle.keys.specs.Store.{Run, done, chose, name, kid, plant, packed, firstK
 use Rattle.keys.proofs.StoreLaws.{under-join, called-join, namesIn-join}
 use Rattle.keys.specs.Words.{firstNodes}
 use Rattle.rules.specs.Tuple as tuple
-use Rattle.parts.specs.Laid.{heights, skeleton, runIn, namesRun, showsAsked, allowed, IsNode, node as is-node, Was, Laid, Stands, Shape}
-use Rattle.parts.proofs.RunLaws.{heights-run}
+use Rattle.marks.specs.Laid.{heights, skeleton, runIn, namesRun, showsAsked, allowed, IsNode, node as is-node, Was, Laid, Stands, Shape}
+use Rattle.marks.proofs.RunLaws.{heights-run}
 use Rattle.parts.specs.Tuple.{memberChoices, Converts, optionalWord, lastWord}
-use Rattle.parts.specs.declared.state.Mark.{Mark}
+use Rattle.marks.specs.declared.state.Mark.{Mark}
 
 -- ---- Rows: classes 0 to 3 differ at 20, 21 and 22 alone
 

@@ -24,21 +24,21 @@ use Rattle.rules.specs.State as rule
 use Rattle.rules.specs.State.{State, Result, Reader, refuse, end, make, reportIf}
 use Rattle.rules.specs.List.{count}
 use Rattle.rules.specs.Function.{ThisParameter, Parameters, thisType, reportThis, functionNode}
-use Rattle.parts.specs.State.{view, givenOf, placeOf, Fine, Reached}
-use Rattle.parts.specs.Laid.{skeleton, runIn, runs, runsOpt, IsNode, IsOpt, AllNodes, AllOpt, Shape}
-use Rattle.parts.specs.Says.{isThere}
-use Rattle.parts.specs.Notes.{refusedAt, Reports, Noted}
-use Rattle.parts.specs.Node.{Makes, optList}
+use Rattle.marks.specs.State.{view, givenOf, placeOf, Fine, Reached}
+use Rattle.marks.specs.Laid.{skeleton, runIn, runs, runsOpt, IsNode, IsOpt, AllNodes, AllOpt, Shape}
+use Rattle.marks.specs.Says.{isThere}
+use Rattle.marks.specs.Notes.{refusedAt, Reports, Noted}
+use Rattle.marks.specs.Node.{Makes, optList}
 use Rattle.parts.specs.Function.{typeBits, thisBits, thisFirst, thisEnd, ThisIs, IsThis, thisRun, listScale, thisScale, functionChoices, constructorChoices, MakesFunction}
-use Rattle.parts.proofs.RunLaws.{skeleton-join}
-use Rattle.parts.proofs.Answers.{says-same, says-refused, says-stop}
-use Rattle.parts.proofs.ReportLaws.{reports-done, reports-refused, built-reported, reports-high}
+use Rattle.marks.proofs.RunLaws.{skeleton-join}
+use Rattle.marks.proofs.Answers.{says-same, says-refused, says-stop}
+use Rattle.marks.proofs.ReportLaws.{reports-done, reports-refused, built-reported, reports-high}
 use Rattle.parts.proofs.ShapeLaws.{packed-node, skeleton-maybe, packed-maybe, skeleton-list, packed-list, skeleton-maybeList, packed-maybeList}
 use Rattle.parts.proofs.ParameterLaws.{type-bits}
-use Rattle.parts.proofs.MarkLaws.{fine-noted, or-false}
-use Rattle.parts.specs.declared.state.Given.{Given}
-use Rattle.parts.specs.declared.state.Mark.{Mark}
-use Rattle.parts.specs.declared.state.Answer.{Answer}
+use Rattle.marks.proofs.MarkLaws.{fine-noted, or-false}
+use Rattle.marks.specs.declared.state.Given.{Given}
+use Rattle.marks.specs.declared.state.Mark.{Mark}
+use Rattle.marks.specs.declared.state.Answer.{Answer}
 use Rattle.parts.specs.declared.function.FunctionHead.{FunctionHead}
 use Rattle.parts.specs.declared.function.This.{This as ThisCode}
 use Rattle.parts.specs.declared.function.Params.{Params}

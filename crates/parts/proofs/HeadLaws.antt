@@ -16,16 +16,16 @@ use Rattle.rules.specs.State as rule
 use Rattle.rules.specs.State.{State, Result, read, refuse, then, past}
 use Rattle.rules.specs.TypeParameters as types
 use Rattle.rules.specs.Function as function
-use Rattle.parts.specs.State.{view, givenOf, pastMark, Moved}
-use Rattle.parts.specs.Says.{SaysNames, Any, one}
-use Rattle.parts.specs.Names.{oneName}
-use Rattle.parts.specs.List.{here}
+use Rattle.marks.specs.State.{view, givenOf, pastMark, Moved}
+use Rattle.marks.specs.Says.{SaysNames, Any, one}
+use Rattle.marks.specs.Names.{oneName}
+use Rattle.marks.specs.List.{here}
 use Rattle.parts.specs.Function.{whyIf, typeParameterHead, parameterHead}
-use Rattle.parts.proofs.Answers.{then-read, then-refused}
-use Rattle.parts.proofs.BuiltLaws.{spoken-from, spoken-to}
-use Rattle.parts.proofs.StepLaws.{view-past, names-refused, names-same}
-use Rattle.parts.specs.declared.state.Given.{Given}
-use Rattle.parts.specs.declared.state.Mark.{Mark}
+use Rattle.marks.proofs.Answers.{then-read, then-refused}
+use Rattle.marks.proofs.BuiltLaws.{spoken-from, spoken-to}
+use Rattle.marks.proofs.StepLaws.{view-past, names-refused, names-same}
+use Rattle.marks.specs.declared.state.Given.{Given}
+use Rattle.marks.specs.declared.state.Mark.{Mark}
 
 -- ---- Tests, by what each of their parts answers
 

@@ -18,18 +18,18 @@ use Rattle.rules.specs.State as rule
 use Rattle.rules.specs.State.{State, Result, Reader, read, refuse, then, next, stands, first, end, spelling, past, make, reportIf}
 use Rattle.rules.specs.Tuple as tuple
 use Rattle.rules.proofs.TokenLaws.{both-true}
-use Rattle.parts.specs.State.{view, givenOf, nextMark, pastMark, namedMark, Spelt, Moved, Along}
-use Rattle.parts.specs.Laid.{Spoken}
-use Rattle.parts.specs.List.{here}
-use Rattle.parts.specs.Names.{Speaks}
-use Rattle.parts.proofs.BuiltLaws.{spoken-none, spoken-from, spoken-to}
+use Rattle.marks.specs.State.{view, givenOf, nextMark, pastMark, namedMark, Spelt, Moved, Along}
+use Rattle.marks.specs.Laid.{Spoken}
+use Rattle.marks.specs.List.{here}
+use Rattle.marks.specs.Names.{Speaks}
+use Rattle.marks.proofs.BuiltLaws.{spoken-none, spoken-from, spoken-to}
 use Rattle.parts.specs.Tuple.{LabelIs, labelledAt, colonMark, labelAt, elementStart, labelNames, elementAfter, memberAfter, restAfter}
 use Rattle.parts.proofs.TupleLaws.{label-colon}
-use Rattle.parts.proofs.StepLaws.{view-past}
-use Rattle.parts.proofs.MarkLaws.{kind-inside}
-use Rattle.parts.specs.declared.state.Given.{Given}
-use Rattle.parts.specs.declared.state.Mark.{Mark}
-use Rattle.parts.specs.declared.state.Begin.{Begin}
+use Rattle.marks.proofs.StepLaws.{view-past}
+use Rattle.marks.proofs.MarkLaws.{kind-inside}
+use Rattle.marks.specs.declared.state.Given.{Given}
+use Rattle.marks.specs.declared.state.Mark.{Mark}
+use Rattle.marks.specs.declared.state.Begin.{Begin}
 use Rattle.parts.specs.declared.tuple.Label.{Label}
 
 -- ---- Marks and states

@@ -1,13 +1,3 @@
-pub mod RunLaws
-pub mod LaidLaws
-pub mod BuiltLaws
-pub mod Answers
-pub mod ReportLaws
-pub mod RecordLaws
-pub mod ListLaws
-pub mod MarkLaws
-pub mod NodeLaws
-pub mod NameLaws
 pub mod ShapeLaws
 pub mod ParameterLaws
 pub mod FunctionLaws
@@ -15,8 +5,6 @@ pub mod HeadLaws
 pub mod ParameterListLaws
 pub mod PrimaryLaws
 pub mod PostfixLaws
-pub mod LeafLaws
-pub mod StepLaws
 pub mod NamingLaws
 pub mod MappingLaws
 pub mod OperatorLaws

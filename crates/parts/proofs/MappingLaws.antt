@@ -14,16 +14,16 @@ use Rattle.rules.specs.Refusal.{unexpected}
 use Rattle.rules.specs.State.{Given, State, Result, Reader, read, refuse, refused, then, next, kind, stands, first, end, expect, optional, make}
 use Rattle.rules.specs.Names.{bindingWord}
 use Rattle.rules.specs.Mapped.{modifier, mapped}
-use Rattle.parts.specs.State.{view, givenOf, nextMark, pastMark}
-use Rattle.parts.specs.List.{here}
-use Rattle.parts.proofs.StepLaws.{view-past}
-use Rattle.parts.specs.Laid.{runIn, runOpt, nameRun, IsNode, node as isNode, IsOpt, Shape, optBit}
-use Rattle.parts.specs.Names.{oneName}
+use Rattle.marks.specs.State.{view, givenOf, nextMark, pastMark}
+use Rattle.marks.specs.List.{here}
+use Rattle.marks.proofs.StepLaws.{view-past}
+use Rattle.marks.specs.Laid.{runIn, runOpt, nameRun, IsNode, node as isNode, IsOpt, Shape, optBit}
+use Rattle.marks.specs.Names.{oneName}
 use Rattle.parts.specs.Mapped.{mappedHead, mappedMiddle, mappedChoices, closeCurly}
 use Rattle.parts.specs.Onward.{behindConstraint}
 use Rattle.parts.proofs.RingLaws.{expect-yes, expect-no}
-use Rattle.parts.specs.declared.state.Given.{Given as Code}
-use Rattle.parts.specs.declared.state.Mark.{Mark}
+use Rattle.marks.specs.declared.state.Given.{Given as Code}
+use Rattle.marks.specs.declared.state.Mark.{Mark}
 
 module _ (g : Given) (T : Reader) where
   -- A mapped type from its `{` on.

@@ -20,24 +20,24 @@ use Rattle.rules.specs.Refusal.{tooLong}
 use Rattle.rules.specs.State as rule
 use Rattle.rules.specs.State.{State, Result, Reader, read, refuse, refused, then, end, overlong, make, reportIf}
 use Rattle.rules.specs.Tuple as tuple
-use Rattle.parts.specs.State.{view, givenOf, Spelt, Fine, Reached, placeOf}
-use Rattle.parts.specs.Laid.{heights, runIn, namesRun, IsNode, Was, was, Laid, Stands}
-use Rattle.parts.specs.Says.{Says}
-use Rattle.parts.specs.Notes.{Reports, silent, noted, full, Noted}
-use Rattle.parts.specs.Node.{Makes}
-use Rattle.parts.proofs.LaidLaws.{laid-noted, laid-on, notes-before}
-use Rattle.parts.proofs.BuiltLaws.{built-one, laid-spoken}
-use Rattle.parts.proofs.Answers.{then-read, then-refused, says-read, says-same, says-stop, says-stops}
-use Rattle.parts.proofs.ReportLaws.{reports-done, reports-refused}
+use Rattle.marks.specs.State.{view, givenOf, Spelt, Fine, Reached, placeOf}
+use Rattle.marks.specs.Laid.{heights, runIn, namesRun, IsNode, Was, was, Laid, Stands}
+use Rattle.marks.specs.Says.{Says}
+use Rattle.marks.specs.Notes.{Reports, silent, noted, full, Noted}
+use Rattle.marks.specs.Node.{Makes}
+use Rattle.marks.proofs.LaidLaws.{laid-noted, laid-on, notes-before}
+use Rattle.marks.proofs.BuiltLaws.{built-one, laid-spoken}
+use Rattle.marks.proofs.Answers.{then-read, then-refused, says-read, says-same, says-stop, says-stops}
+use Rattle.marks.proofs.ReportLaws.{reports-done, reports-refused}
 use Rattle.parts.specs.Tuple.{LabelIs, labelNames, elementAfter, memberChoices, memberAfter, restAfter, Converts, MakesMember, MakesRest, MakesElement, optionalWord, lastWord, Checks}
 use Rattle.parts.proofs.TupleLaws.{element-is}
 use Rattle.parts.proofs.LabelLaws.{HeadSays}
 use Rattle.parts.proofs.ElementLaws.{element-node, element-high, element-tag, element-place, element-optional, rest-shape, rest-member, member-shape}
-use Rattle.parts.proofs.MarkLaws.{fine-noted, or-false}
-use Rattle.parts.specs.declared.state.Given.{Given}
-use Rattle.parts.specs.declared.state.Mark.{Mark}
-use Rattle.parts.specs.declared.state.Begin.{Begin}
-use Rattle.parts.specs.declared.state.Answer.{Answer}
+use Rattle.marks.proofs.MarkLaws.{fine-noted, or-false}
+use Rattle.marks.specs.declared.state.Given.{Given}
+use Rattle.marks.specs.declared.state.Mark.{Mark}
+use Rattle.marks.specs.declared.state.Begin.{Begin}
+use Rattle.marks.specs.declared.state.Answer.{Answer}
 use Rattle.parts.specs.declared.tuple.Label.{Label}
 
 -- ---- A tree stays where a diagnostic is reported

@@ -24,14 +24,14 @@ use Rattle.rules.specs.Arguments.{arguments, named, importFrom, importType}
 use Rattle.rules.specs.Primary.{query}
 use Rattle.parts.specs.Arguments.{Naming, reference, typeof, import, namesOf, nameCount, nameChoices, nameScale, namedNode, importHead, dottedHead, namingHead}
 use Rattle.parts.specs.Onward.{nameAt}
-use Rattle.parts.specs.Node.{optList}
-use Rattle.parts.specs.Says.{isThere}
-use Rattle.parts.specs.Laid.{skeleton, runsOpt, namesRun, AllOpt, Spoken, Shape}
-use Rattle.parts.proofs.RunLaws.{skeleton-join, called-names}
+use Rattle.marks.specs.Node.{optList}
+use Rattle.marks.specs.Says.{isThere}
+use Rattle.marks.specs.Laid.{skeleton, runsOpt, namesRun, AllOpt, Spoken, Shape}
+use Rattle.marks.proofs.RunLaws.{skeleton-join, called-names}
 use Rattle.parts.proofs.ShapeLaws.{skeleton-maybeList, packed-maybeList}
 use Rattle.parts.specs.Function.{listScale}
-use Rattle.parts.proofs.BuiltLaws.{laid-spoken}
-use Rattle.parts.specs.declared.state.Mark.{Mark}
+use Rattle.marks.proofs.BuiltLaws.{laid-spoken}
+use Rattle.marks.specs.declared.state.Mark.{Mark}
 
 module _ (g : Given) (T : Reader) (b : ℕ) where
   -- The arguments of what begins with such names, and its node.

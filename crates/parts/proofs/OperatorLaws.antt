@@ -18,18 +18,18 @@ use Rattle.keys.specs.Placed.{Placed, join, number}
 use Rattle.rules.specs.State.{Given, State, Result, Reader, read, refuse, then, next, kind, end, make}
 use Rattle.rules.specs.List.{position}
 use Rattle.rules.specs.Operator.{operators, operand, operatorFrom, operator}
-use Rattle.parts.specs.State.{view, givenOf}
-use Rattle.parts.specs.Laid.{runIn, IsNode, node as isNode, Was, Stands, Shape}
-use Rattle.parts.specs.Says.{Says}
-use Rattle.parts.specs.Node.{Makes}
-use Rattle.parts.proofs.Answers.{says-read, says-same, says-stop}
-use Rattle.parts.proofs.BuiltLaws.{built-one}
+use Rattle.marks.specs.State.{view, givenOf}
+use Rattle.marks.specs.Laid.{runIn, IsNode, node as isNode, Was, Stands, Shape}
+use Rattle.marks.specs.Says.{Says}
+use Rattle.marks.specs.Node.{Makes}
+use Rattle.marks.proofs.Answers.{says-read, says-same, says-stop}
+use Rattle.marks.proofs.BuiltLaws.{built-one}
 use Rattle.parts.specs.Operator.{operatorAbout, operatorsAbout}
-use Rattle.parts.proofs.MarkLaws.{or-false}
-use Rattle.parts.specs.declared.state.Given.{Given as Code}
-use Rattle.parts.specs.declared.state.Mark.{Mark}
-use Rattle.parts.specs.declared.state.Begin.{Begin}
-use Rattle.parts.specs.declared.state.Answer.{Answer}
+use Rattle.marks.proofs.MarkLaws.{or-false}
+use Rattle.marks.specs.declared.state.Given.{Given as Code}
+use Rattle.marks.specs.declared.state.Mark.{Mark}
+use Rattle.marks.specs.declared.state.Begin.{Begin}
+use Rattle.marks.specs.declared.state.Answer.{Answer}
 
 -- One prefix more, next to what was read.
 operators-more : (g : Given) (i n : ℕ) (x : Result Placed) → operatorsAbout g i (suc n) x ≡ operatorsAbout g i n (operatorAbout g (i + n) x)

@@ -11,9 +11,9 @@ use Rattle.keys.specs.Table.{opt}
 use Rattle.keys.specs.Placed.{Placed, join, Spelling, Opt, absent, present, spell, bit, maybe}
 use Rattle.keys.specs.Store.{Run, done, name, plant, _⊕_}
 use Rattle.keys.proofs.StoreLaws.{join-done}
-use Rattle.parts.specs.Laid.{skeleton, runIn, runOpt, namesRun, IsOpt, Shape, optBit}
+use Rattle.marks.specs.Laid.{skeleton, runIn, runOpt, namesRun, IsOpt, Shape, optBit}
 use Rattle.parts.specs.Function.{typeBits}
-use Rattle.parts.proofs.RunLaws.{skeleton-join}
+use Rattle.marks.proofs.RunLaws.{skeleton-join}
 use Rattle.parts.proofs.ShapeLaws.{skeleton-maybe, packed-maybe}
 
 -- ---- The bits of a `this`

@@ -12,14 +12,14 @@ use Rattle.rules.specs.Refusal.{unexpected, unsupported}
 use Rattle.rules.specs.State as rule
 use Rattle.rules.specs.State.{State, Result, Reader, read, refuse, next, stands, optional, turns}
 use Rattle.rules.specs.Function.{ThisParameter, parametersOf, modified, freed, separated, parameter, parametersFrom, thisFirst, parameters}
-use Rattle.parts.specs.State.{view, nextMark}
-use Rattle.parts.specs.List.{Separates, default, closes, behindRest, goes, stops}
+use Rattle.marks.specs.State.{view, nextMark}
+use Rattle.marks.specs.List.{Separates, default, closes, behindRest, goes, stops}
 use Rattle.parts.specs.Function.{Opens, plain, freedMark}
 use Rattle.parts.specs.Function as opens
-use Rattle.parts.proofs.Answers.{then-read, then-refused}
-use Rattle.parts.specs.declared.state.Mark.{Mark}
-use Rattle.parts.specs.declared.state.Head.{Head}
-use Rattle.parts.specs.declared.state.Answer.{Answer}
+use Rattle.marks.proofs.Answers.{then-read, then-refused}
+use Rattle.marks.specs.declared.state.Mark.{Mark}
+use Rattle.marks.specs.declared.state.Head.{Head}
+use Rattle.marks.specs.declared.state.Answer.{Answer}
 
 -- ---- Behind a parameter
 

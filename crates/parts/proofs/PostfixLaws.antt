@@ -14,10 +14,10 @@ use Rattle.rules.specs.State.{Given, State, Result, read, refuse, Reader, then,
 use Rattle.rules.specs.Names.{bindingWord}
 use Rattle.rules.specs.Infer.{constraintOf, kept, dropped, trial, infer}
 use Rattle.rules.specs.Postfix as rule
-use Rattle.parts.specs.Laid.{nameRun, runIn, IsNode, node, Shape}
-use Rattle.parts.specs.Names.{oneName}
+use Rattle.marks.specs.Laid.{nameRun, runIn, IsNode, node, Shape}
+use Rattle.marks.specs.Names.{oneName}
 use Rattle.parts.specs.Mapped.{closeSquare}
-use Rattle.parts.proofs.Answers.{then-read, then-refused}
+use Rattle.marks.proofs.Answers.{then-read, then-refused}
 use Rattle.parts.proofs.ShapeLaws.{packed-node}
 
 -- ---- Postfix

@@ -24,16 +24,16 @@ use Rattle.rules.specs.Tuple.{tuple}
 use Rattle.rules.specs.Template.{pieces, template}
 use Rattle.rules.specs.Primary as rule
 use Rattle.rules.proofs.TokenLaws.{both-true}
-use Rattle.parts.specs.Laid.{nameRun, runIn, IsNode, node, Shape}
+use Rattle.marks.specs.Laid.{nameRun, runIn, IsNode, node, Shape}
 use Rattle.parts.specs.Primary.{isLiteral, closeParens, literalChoices}
 use Rattle.parts.specs.Onward.{predicate, nameAt, literalAt, StartAs}
-use Rattle.parts.specs.State.{AnyGiven}
-use Rattle.parts.specs.List.{here}
-use Rattle.parts.proofs.Answers.{then-then}
+use Rattle.marks.specs.State.{AnyGiven}
+use Rattle.marks.specs.List.{here}
+use Rattle.marks.proofs.Answers.{then-then}
 use Rattle.parts.proofs.ShapeLaws.{packed-node}
-use Rattle.parts.proofs.MarkLaws.{or-false, kind-inside}
+use Rattle.marks.proofs.MarkLaws.{or-false, kind-inside}
 use Rattle.parts.proofs.RingShapes.{shape-template}
-use Rattle.parts.specs.declared.state.Mark.{Mark}
+use Rattle.marks.specs.declared.state.Mark.{Mark}
 use Rattle.parts.specs.declared.primary.Start.{Start}
 
 -- ---- Tests

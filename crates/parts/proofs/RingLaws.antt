@@ -26,10 +26,10 @@ use Rattle.rules.specs.Arguments as arguments
 use Rattle.rules.specs.Template as template
 use Rattle.rules.specs.TypeRule as type
 use Rattle.rules.specs.Reading.{readType}
-use Rattle.parts.specs.Names.{oneName}
+use Rattle.marks.specs.Names.{oneName}
 use Rattle.parts.specs.Function.{typeParameterHead, parameterHead}
 use Rattle.parts.specs.Onward.{behindColon, behindQuestion, signature, subjectAt, predicate}
-use Rattle.parts.proofs.Answers.{then-then}
+use Rattle.marks.proofs.Answers.{then-then}
 
 -- ---- A mark that is due, an optional part
 

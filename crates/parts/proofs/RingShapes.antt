@@ -11,9 +11,9 @@ use Rattle.keys.specs.Table.{times, type, spelling, _⊗_}
 use Rattle.keys.specs.Placed.{Placed, join, pick, spell, maybe, subjectOf, listed, entries, pieces, Spelling, Opt, absent, present}
 use Rattle.keys.specs.Store.{Run, done, name, plant, packed, _⊕_}
 use Rattle.keys.proofs.StoreLaws.{join-join}
-use Rattle.parts.specs.Laid.{skeleton, runIn, runOpt, runs, nameRun, namesRun, IsNode, node, IsOpt, AllNodes, Shape, optBit}
+use Rattle.marks.specs.Laid.{skeleton, runIn, runOpt, runs, nameRun, namesRun, IsNode, node, IsOpt, AllNodes, Shape, optBit}
 use borrow.Author.Tests.{le-leb}
-use Rattle.parts.specs.Says.{optNames}
+use Rattle.marks.specs.Says.{optNames}
 use Rattle.parts.specs.Primary.{predicateChoices}
 use Rattle.parts.proofs.ShapeLaws.{shape-list}
 

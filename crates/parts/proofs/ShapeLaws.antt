@@ -14,11 +14,11 @@ use Rattle.keys.specs.Placed.{Placed, Opt, absent, present, entries, listed, ma
 use Rattle.keys.specs.Store.{Run, done, chose, plant, packed, _⊕_}
 use Rattle.keys.proofs.StoreLaws.{join-done, join-join, plant-join}
 use Rattle.rules.specs.List.{count}
-use Rattle.parts.specs.Laid.{skeleton, runIn, runOpt, runs, runsOpt, IsNode, node, IsOpt, AllNodes, AllOpt, allowed, Shape, optBit}
-use Rattle.parts.specs.Says.{isThere}
-use Rattle.parts.specs.Node.{optList}
+use Rattle.marks.specs.Laid.{skeleton, runIn, runOpt, runs, runsOpt, IsNode, node, IsOpt, AllNodes, AllOpt, allowed, Shape, optBit}
+use Rattle.marks.specs.Says.{isThere}
+use Rattle.marks.specs.Node.{optList}
 use Rattle.parts.specs.Function.{listScale}
-use Rattle.parts.proofs.RunLaws.{plant-entries}
+use Rattle.marks.proofs.RunLaws.{plant-entries}
 
 -- ---- Lists of nodes
 

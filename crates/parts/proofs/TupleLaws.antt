@@ -19,11 +19,11 @@ use Rattle.rules.specs.State.{Given, State, Result, Reader, read, refuse, refus
 use Rattle.rules.specs.List.{listFrom}
 use Rattle.rules.specs.List as rule
 use Rattle.rules.specs.Tuple as tuple
-use Rattle.parts.specs.Laid.{runs, AllNodes, Shape}
+use Rattle.marks.specs.Laid.{runs, AllNodes, Shape}
 use Rattle.parts.proofs.ShapeLaws.{shape-list}
-use Rattle.parts.proofs.Answers.{then-read, then-refused, then-then}
+use Rattle.marks.proofs.Answers.{then-read, then-refused, then-then}
 use Rattle.parts.specs.Tuple.{elementStart, elementAfter}
-use Rattle.parts.proofs.MarkLaws.{or-false}
+use Rattle.marks.proofs.MarkLaws.{or-false}
 
 -- ---- Elements
 

@@ -10,16 +10,16 @@ use Rattle.keys.specs.Store.{Run, _⊕_}
 use Rattle.keys.proofs.StoreLaws.{join-join}
 use Rattle.rules.specs.State.{Given, State, Result, read, then, stands}
 use Rattle.rules.specs.List.{listFrom}
-use Rattle.parts.specs.State.{view}
-use Rattle.parts.specs.Laid.{runIn, runs, nameRun, IsNode, AllNodes, Was, BuiltAt, Stands}
-use Rattle.parts.specs.List.{Follows, closes, goes, stops}
-use Rattle.parts.proofs.RunLaws.{runs-more}
+use Rattle.marks.specs.State.{view}
+use Rattle.marks.specs.Laid.{runIn, runs, nameRun, IsNode, AllNodes, Was, BuiltAt, Stands}
+use Rattle.marks.specs.List.{Follows, closes, goes, stops}
+use Rattle.marks.proofs.RunLaws.{runs-more}
 use Rattle.parts.proofs.ShapeLaws.{all-more}
-use Rattle.parts.proofs.ListLaws.{list-goes, list-closed}
+use Rattle.marks.proofs.ListLaws.{list-goes, list-closed}
 use Rattle.parts.proofs.RingShapes.{pieceRuns, AllPieces}
-use Rattle.parts.specs.declared.state.Mark.{Mark}
-use Rattle.parts.specs.declared.state.Kids.{Kids}
-use Rattle.parts.specs.declared.state.Answer.{Answer}
+use Rattle.marks.specs.declared.state.Mark.{Mark}
+use Rattle.marks.specs.declared.state.Kids.{Kids}
+use Rattle.marks.specs.declared.state.Answer.{Answer}
 
 -- A list of trees behind the run t.
 pub record ListTurn {A : Type 0} (c len : ℕ) (B : Was) (t : Run) (L : ℕ → List Placed → State → Result A) (x : Result A) (many : ℕ) (k : Kids) (p : Mark) (N M O : List ℕ) : Type 0 where

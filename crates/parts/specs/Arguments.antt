@@ -17,14 +17,14 @@ use Rattle.rules.specs.State as rule
 use Rattle.rules.specs.State.{State, Result, read, refused, then, next, stands, end, spelling, expect, make, turns}
 use Rattle.rules.specs.List.{count}
 use Rattle.rules.specs.Names as names
-use Rattle.parts.specs.State.{view, givenOf, Sound, Spelt, Fine, Under}
-use Rattle.parts.specs.Laid.{runsOpt, namesRun, Was, BuiltAt, AllOpt}
-use Rattle.parts.specs.Says.{Says, SaysNames, isThere}
-use Rattle.parts.specs.declared.state.Given.{Given}
-use Rattle.parts.specs.declared.state.Mark.{Mark}
-use Rattle.parts.specs.declared.state.Begin.{Begin}
-use Rattle.parts.specs.declared.state.Answer.{Answer}
-use Rattle.parts.specs.declared.state.Listed.{Listed}
+use Rattle.marks.specs.State.{view, givenOf, Sound, Spelt, Fine, Under}
+use Rattle.marks.specs.Laid.{runsOpt, namesRun, Was, BuiltAt, AllOpt}
+use Rattle.marks.specs.Says.{Says, SaysNames, isThere}
+use Rattle.marks.specs.declared.state.Given.{Given}
+use Rattle.marks.specs.declared.state.Mark.{Mark}
+use Rattle.marks.specs.declared.state.Begin.{Begin}
+use Rattle.marks.specs.declared.state.Answer.{Answer}
+use Rattle.marks.specs.declared.state.Listed.{Listed}
 use Rattle.parts.specs.declared.arguments.Named.{Named}
 
 -- What a reference, typeof or import has before its arguments: which it is, and its names.

@@ -19,17 +19,17 @@ use Rattle.rules.specs.List.{count}
 use Rattle.rules.specs.TypeParameters as types
 use Rattle.rules.specs.Function as function
 use Rattle.rules.specs.Function.{ThisParameter, Parameters}
-use Rattle.parts.specs.State.{notingWords, view, givenOf, nextMark, pastMark, Sound, Spelt, Fine, Under}
-use Rattle.parts.specs.Laid.{runIn, runOpt, runs, runsOpt, IsNode, IsOpt, AllNodes, AllOpt, Was, BuiltAt}
-use Rattle.parts.specs.Says.{Says, SaysNames, one, isThere}
-use Rattle.parts.specs.Node.{Links, optList}
-use Rattle.parts.specs.Names.{oneName}
-use Rattle.parts.specs.List.{here}
-use Rattle.parts.specs.declared.state.Given.{Given}
-use Rattle.parts.specs.declared.state.Mark.{Mark}
-use Rattle.parts.specs.declared.state.Kids.{Kids}
-use Rattle.parts.specs.declared.state.Head.{Head}
-use Rattle.parts.specs.declared.state.Answer.{Answer}
+use Rattle.marks.specs.State.{notingWords, view, givenOf, nextMark, pastMark, Sound, Spelt, Fine, Under}
+use Rattle.marks.specs.Laid.{runIn, runOpt, runs, runsOpt, IsNode, IsOpt, AllNodes, AllOpt, Was, BuiltAt}
+use Rattle.marks.specs.Says.{Says, SaysNames, one, isThere}
+use Rattle.marks.specs.Node.{Links, optList}
+use Rattle.marks.specs.Names.{oneName}
+use Rattle.marks.specs.List.{here}
+use Rattle.marks.specs.declared.state.Given.{Given}
+use Rattle.marks.specs.declared.state.Mark.{Mark}
+use Rattle.marks.specs.declared.state.Kids.{Kids}
+use Rattle.marks.specs.declared.state.Head.{Head}
+use Rattle.marks.specs.declared.state.Answer.{Answer}
 use Rattle.parts.specs.declared.function.FunctionHead.{FunctionHead}
 use Rattle.parts.specs.declared.function.This.{This as ThisCode}
 use Rattle.parts.specs.declared.function.Params.{Params}

@@ -10,14 +10,14 @@ use Rattle.keys.specs.Placed as node
 use Rattle.keys.specs.Placed.{Placed, Spelling, absent, present}
 use Rattle.keys.specs.Store.{_⊕_}
 use Rattle.rules.specs.State.{end, make}
-use Rattle.parts.specs.State.{view, givenOf, nextMark, Sound, Spelt, Fine, placeOf}
-use Rattle.parts.specs.Laid.{heights, runIn, nameRun, IsNode, Was, Laid}
-use Rattle.parts.specs.Says.{Says, SaysNames, Any, one}
-use Rattle.parts.specs.Names.{oneName}
-use Rattle.parts.specs.declared.state.Given.{Given}
-use Rattle.parts.specs.declared.state.Mark.{Mark}
-use Rattle.parts.specs.declared.state.Begin.{Begin}
-use Rattle.parts.specs.declared.state.Answer.{Answer}
+use Rattle.marks.specs.State.{view, givenOf, nextMark, Sound, Spelt, Fine, placeOf}
+use Rattle.marks.specs.Laid.{heights, runIn, nameRun, IsNode, Was, Laid}
+use Rattle.marks.specs.Says.{Says, SaysNames, Any, one}
+use Rattle.marks.specs.Names.{oneName}
+use Rattle.marks.specs.declared.state.Given.{Given}
+use Rattle.marks.specs.declared.state.Mark.{Mark}
+use Rattle.marks.specs.declared.state.Begin.{Begin}
+use Rattle.marks.specs.declared.state.Answer.{Answer}
 
 -- The name behind the infer at m: what the rules read, from any text that is spelled so.
 abbrev pub StartsInfer : (W : List ℕ) (m : Mark) (M : List ℕ) (a : Answer) (M' : List ℕ) → Type 0

@@ -1,11 +1,4 @@
 -- What the parts of readers answer, over the rules' definitions and the key's store.
-pub mod State
-pub mod Laid
-pub mod Says
-pub mod Notes
-pub mod Node
-pub mod Names
-pub mod List
 pub mod Union
 pub mod Infer
 pub mod Function

@@ -8,16 +8,16 @@ use Rattle.keys.specs.Store.{Run}
 use Rattle.rules.specs.State as rule
 use Rattle.rules.specs.State.{State, Result, read, then, end, past, expect, make}
 use Rattle.rules.specs.Mapped.{modifier}
-use Rattle.parts.specs.State.{view, givenOf, nextMark, Spelt}
-use Rattle.parts.specs.Laid.{Was, BuiltAt, Shape}
-use Rattle.parts.specs.Says.{Says, SaysNames, one}
-use Rattle.parts.specs.Names.{oneName}
-use Rattle.parts.specs.declared.state.Given.{Given}
-use Rattle.parts.specs.declared.state.Mark.{Mark}
-use Rattle.parts.specs.declared.state.Begin.{Begin}
-use Rattle.parts.specs.declared.state.Kids.{Kids}
-use Rattle.parts.specs.declared.state.Head.{Head}
-use Rattle.parts.specs.declared.state.Answer.{Answer}
+use Rattle.marks.specs.State.{view, givenOf, nextMark, Spelt}
+use Rattle.marks.specs.Laid.{Was, BuiltAt, Shape}
+use Rattle.marks.specs.Says.{Says, SaysNames, one}
+use Rattle.marks.specs.Names.{oneName}
+use Rattle.marks.specs.declared.state.Given.{Given}
+use Rattle.marks.specs.declared.state.Mark.{Mark}
+use Rattle.marks.specs.declared.state.Begin.{Begin}
+use Rattle.marks.specs.declared.state.Kids.{Kids}
+use Rattle.marks.specs.declared.state.Head.{Head}
+use Rattle.marks.specs.declared.state.Answer.{Answer}
 
 -- From behind the `{` to the constraint: readonly, and the key.
 abbrev pub mappedHead : rule.Given → State → Result (ℕ × Spelling)

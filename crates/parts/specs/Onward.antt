@@ -16,13 +16,13 @@ use Rattle.rules.specs.Arguments.{named, importType}
 use Rattle.rules.specs.Tuple.{tuple}
 use Rattle.rules.specs.Template.{template}
 use Rattle.rules.specs.Primary as primary
-use Rattle.parts.specs.State.{AnyGiven, view, givenOf, nextMark, Spelt}
-use Rattle.parts.specs.Laid.{was}
-use Rattle.parts.specs.Says.{Says}
-use Rattle.parts.specs.List.{here}
+use Rattle.marks.specs.State.{AnyGiven, view, givenOf, nextMark, Spelt}
+use Rattle.marks.specs.Laid.{was}
+use Rattle.marks.specs.Says.{Says}
+use Rattle.marks.specs.List.{here}
 use Rattle.parts.specs.Primary.{isLiteral}
-use Rattle.parts.specs.declared.state.Mark.{Mark}
-use Rattle.parts.specs.declared.state.Answer.{Answer}
+use Rattle.marks.specs.declared.state.Mark.{Mark}
+use Rattle.marks.specs.declared.state.Answer.{Answer}
 use Rattle.parts.specs.declared.primary.Start.{Start}
 use Rattle.parts.specs.declared.primary.Start.the-variants.{Keyword, Literal, This, Asserts, Name, Mapped, Tuple, Parens, Template, Nothing}
 

@@ -14,12 +14,12 @@ use Rattle.rules.specs.State.{Result, Reader, read, then, end, make}
 use Rattle.rules.specs.List.{position}
 use Rattle.rules.specs.Operator as operator
 use Rattle.rules.specs.Operator.{operators}
-use Rattle.parts.specs.State.{view, givenOf, Sound, Fine}
-use Rattle.parts.specs.Laid.{Was, Stands}
-use Rattle.parts.specs.Says.{Says}
-use Rattle.parts.specs.declared.state.Given.{Given}
-use Rattle.parts.specs.declared.state.Mark.{Mark}
-use Rattle.parts.specs.declared.state.Answer.{Answer}
+use Rattle.marks.specs.State.{view, givenOf, Sound, Fine}
+use Rattle.marks.specs.Laid.{Was, Stands}
+use Rattle.marks.specs.Says.{Says}
+use Rattle.marks.specs.declared.state.Given.{Given}
+use Rattle.marks.specs.declared.state.Mark.{Mark}
+use Rattle.marks.specs.declared.state.Answer.{Answer}
 
 -- One prefix, at token i, about what was read.
 abbrev pub operatorAbout : rule.Given → ℕ → Result Placed → Result Placed

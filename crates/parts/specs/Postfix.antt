@@ -5,14 +5,14 @@ use Prim.Native.Nat.{ℕ}
 use Rattle.keys.specs.Placed as node
 use Rattle.keys.specs.Placed.{Placed}
 use Rattle.rules.specs.State.{end, make}
-use Rattle.parts.specs.State.{view, givenOf}
-use Rattle.parts.specs.Laid.{Was, Stands}
-use Rattle.parts.specs.Says.{Says}
+use Rattle.marks.specs.State.{view, givenOf}
+use Rattle.marks.specs.Laid.{Was, Stands}
+use Rattle.marks.specs.Says.{Says}
 use Rattle.parts.specs.Mapped.{closeSquare}
-use Rattle.parts.specs.declared.state.Given.{Given}
-use Rattle.parts.specs.declared.state.Mark.{Mark}
-use Rattle.parts.specs.declared.state.Begin.{Begin}
-use Rattle.parts.specs.declared.state.Answer.{Answer}
+use Rattle.marks.specs.declared.state.Given.{Given}
+use Rattle.marks.specs.declared.state.Mark.{Mark}
+use Rattle.marks.specs.declared.state.Begin.{Begin}
+use Rattle.marks.specs.declared.state.Answer.{Answer}
 
 -- Over its element, which stands since B, the array that the rules make once its `]` is passed.
 abbrev pub MakesArray : (W : List ℕ) (given : Given) (b : Begin) (high : ℕ) (m : Mark) (N : List ℕ) (a : Answer) (N' : List ℕ) → Type 0

@@ -16,14 +16,14 @@ use Rattle.rules.specs.State.{State, Result, read, kind, stands, next, end, spe
 use Rattle.rules.specs.List.{position}
 use Rattle.rules.specs.Function.{subject}
 use Rattle.rules.specs.Primary as primary
-use Rattle.parts.specs.State.{view, givenOf, Sound, Spelt, Fine}
-use Rattle.parts.specs.Laid.{nameRun, Was, was, Stands, Spoken, Shape}
-use Rattle.parts.specs.Says.{Says, optNames}
-use Rattle.parts.specs.List.{here}
-use Rattle.parts.specs.declared.state.Given.{Given}
-use Rattle.parts.specs.declared.state.Mark.{Mark}
-use Rattle.parts.specs.declared.state.Begin.{Begin}
-use Rattle.parts.specs.declared.state.Answer.{Answer}
+use Rattle.marks.specs.State.{view, givenOf, Sound, Spelt, Fine}
+use Rattle.marks.specs.Laid.{nameRun, Was, was, Stands, Spoken, Shape}
+use Rattle.marks.specs.Says.{Says, optNames}
+use Rattle.marks.specs.List.{here}
+use Rattle.marks.specs.declared.state.Given.{Given}
+use Rattle.marks.specs.declared.state.Mark.{Mark}
+use Rattle.marks.specs.declared.state.Begin.{Begin}
+use Rattle.marks.specs.declared.state.Answer.{Answer}
 
 -- A literal stands here, a negative one, or a template with no type in it.
 abbrev pub isLiteral : rule.Given → State → Bool

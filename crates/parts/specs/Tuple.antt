@@ -19,15 +19,15 @@ use Rattle.rules.specs.Notes.{note, requiredAfterOptional, restAfterLabel, aske
 use Rattle.rules.specs.State as rule
 use Rattle.rules.specs.State.{State, Result, Reader, read, then, next, stands, first, end, spelling, past, make, reportIf}
 use Rattle.rules.specs.Tuple as tuple
-use Rattle.parts.specs.State.{notingWords, view, givenOf, nextMark, pastMark, namedMark, Sound, Spelt, Fine, Under}
-use Rattle.parts.specs.Laid.{heights, runIn, namesRun, IsNode, Was, Laid, Stands, Spoken}
-use Rattle.parts.specs.Says.{Says}
-use Rattle.parts.specs.List.{here}
-use Rattle.parts.specs.declared.state.Given.{Given}
-use Rattle.parts.specs.declared.state.Mark.{Mark}
-use Rattle.parts.specs.declared.state.Begin.{Begin}
-use Rattle.parts.specs.declared.state.Kids.{Kids}
-use Rattle.parts.specs.declared.state.Answer.{Answer}
+use Rattle.marks.specs.State.{notingWords, view, givenOf, nextMark, pastMark, namedMark, Sound, Spelt, Fine, Under}
+use Rattle.marks.specs.Laid.{heights, runIn, namesRun, IsNode, Was, Laid, Stands, Spoken}
+use Rattle.marks.specs.Says.{Says}
+use Rattle.marks.specs.List.{here}
+use Rattle.marks.specs.declared.state.Given.{Given}
+use Rattle.marks.specs.declared.state.Mark.{Mark}
+use Rattle.marks.specs.declared.state.Begin.{Begin}
+use Rattle.marks.specs.declared.state.Kids.{Kids}
+use Rattle.marks.specs.declared.state.Answer.{Answer}
 use Rattle.parts.specs.declared.tuple.Label.{Label}
 use Rattle.parts.specs.declared.tuple.Seen.{Seen}
 

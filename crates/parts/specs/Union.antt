@@ -7,13 +7,13 @@ use lib.Dec.{eqb}
 use Rattle.words.specs.Test.{_and_}
 use Rattle.words.specs.Limits.{tallest}
 use Rattle.words.specs.Cursor.{firstByte}
-use Rattle.parts.specs.Node.{Links, MakesList}
-use Rattle.parts.specs.List.{here}
-use Rattle.parts.specs.declared.state.Given.{Given}
-use Rattle.parts.specs.declared.state.Mark.{Mark}
-use Rattle.parts.specs.declared.state.Begin.{Begin}
-use Rattle.parts.specs.declared.state.Kids.{Kids}
-use Rattle.parts.specs.declared.state.Answer.{Answer}
+use Rattle.marks.specs.Node.{Links, MakesList}
+use Rattle.marks.specs.List.{here}
+use Rattle.marks.specs.declared.state.Given.{Given}
+use Rattle.marks.specs.declared.state.Mark.{Mark}
+use Rattle.marks.specs.declared.state.Begin.{Begin}
+use Rattle.marks.specs.declared.state.Kids.{Kids}
+use Rattle.marks.specs.declared.state.Answer.{Answer}
 
 -- A part is alone behind those before it: there are none, and no mark stood before it.
 abbrev pub isAlone : (W : List ℕ) (mark : ℕ) (k : Kids) (m : Mark) → Bool

@@ -4,16 +4,16 @@ ghost use Prim.Native.Nat.{_*_, _≤_, _<_};
 ghost use lib.ListN.{length};
 ghost use Rattle.words.specs.Limits.{mostTokens, tallest};
 ghost use Rattle.keys.specs.Limits.{recordWords};
-ghost use Rattle.parts.specs.State.{Sound, Fine, Under};
+ghost use Rattle.marks.specs.State.{Sound, Fine, Under};
 ghost use Rattle.parts.specs.Union.{isAlone, Joins, JoinedAt};
-use crate::node::link;
-use crate::node::put_list;
-use crate::state::Answer;
-use crate::state::Begin;
-use crate::state::Given;
-use crate::state::Kids;
-use crate::state::Mark;
-use crate::state::kind_at;
+use marks::node::link;
+use marks::node::put_list;
+use marks::state::Answer;
+use marks::state::Begin;
+use marks::state::Given;
+use marks::state::Kids;
+use marks::state::Mark;
+use marks::state::kind_at;
 
 // Whether a part is alone behind those before it: there are none, and no mark stood before it.
 fn alone(words: &[u64], mark: usize, k: Kids, m: Mark) -> bool

@@ -11,20 +11,20 @@ use Rattle.keys.specs.Store.{Run, firstKid, under, _⊕_}
 use Rattle.keys.proofs.StoreLaws.{firstKid-join, join-done}
 use Rattle.rules.specs.State as rule
 use Rattle.rules.specs.State.{Given, State, Result, refuse, next, stands, optional, make}
-use Rattle.parts.specs.State.{view}
-use Rattle.parts.specs.Laid.{heights, runIn, namesRun, Was, was, wasAt, Laid, Built, BuiltAt, Stands, Spoken, Shape}
-use Rattle.parts.specs.Says.{Says, SaysChild, SaysOption}
-use Rattle.parts.specs.Node.{Links}
-use Rattle.parts.proofs.Answers.{then-read, then-refused}
+use Rattle.marks.specs.State.{view}
+use Rattle.marks.specs.Laid.{heights, runIn, namesRun, Was, was, wasAt, Laid, Built, BuiltAt, Stands, Spoken, Shape}
+use Rattle.marks.specs.Says.{Says, SaysChild, SaysOption}
+use Rattle.marks.specs.Node.{Links}
+use Rattle.marks.proofs.Answers.{then-read, then-refused}
 use Rattle.parts.proofs.RingLaws.{optional-none, optional-some}
-use Rattle.parts.proofs.RunLaws.{heights-join, heights-names, first-names}
-use Rattle.parts.proofs.LaidLaws.{laid-on}
-use Rattle.parts.proofs.BuiltLaws.{built-names, built-one, laid-spoken}
-use Rattle.parts.proofs.LeafLaws.{noKids, oneKid}
-use Rattle.parts.specs.declared.state.Mark.{Mark}
-use Rattle.parts.specs.declared.state.Kids.{Kids}
-use Rattle.parts.specs.declared.state.Answer.{Answer}
-use Rattle.parts.specs.declared.state.Listed.{Listed}
+use Rattle.marks.proofs.RunLaws.{heights-join, heights-names, first-names}
+use Rattle.marks.proofs.LaidLaws.{laid-on}
+use Rattle.marks.proofs.BuiltLaws.{built-names, built-one, laid-spoken}
+use Rattle.marks.proofs.LeafLaws.{noKids, oneKid}
+use Rattle.marks.specs.declared.state.Mark.{Mark}
+use Rattle.marks.specs.declared.state.Kids.{Kids}
+use Rattle.marks.specs.declared.state.Answer.{Answer}
+use Rattle.marks.specs.declared.state.Listed.{Listed}
 
 -- The same children under another name.
 pub built-as : {B : Was} {t : Run} {k l : Kids} {used named noted : ℕ} {N M O : List ℕ} → l ≡ k → Built B t k used named noted N M O → Built B t l used named noted N M O

@@ -3,9 +3,9 @@ use mathlib.Core.Path.{_≡_}
 use mathlib.Core.List.{List}
 use Prim.Native.Nat.{ℕ, _+_, _*_, _≤_}
 use lib.ListN.{length}
-use Rattle.parts.specs.State.{Fine, placeOf}
-use Rattle.parts.specs.declared.state.Given.{Given}
-use Rattle.parts.specs.declared.state.Mark.{Mark}
+use Rattle.marks.specs.State.{Fine, placeOf}
+use Rattle.marks.specs.declared.state.Given.{Given}
+use Rattle.marks.specs.declared.state.Mark.{Mark}
 
 -- The slices are as long as they were, and the mark went on from p₀ within what there is.
 pub record Kept (len : ℕ) (given : Given) (N₀ M₀ O₀ : List ℕ) (p₀ : Mark) (N M O : List ℕ) (p : Mark) : Type 0 where

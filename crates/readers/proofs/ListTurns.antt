@@ -11,22 +11,22 @@ use Rattle.rules.specs.Notes.{note}
 use Rattle.rules.specs.State as rule
 use Rattle.rules.specs.State.{State, Result, read, refuse, stands, end, reportIf}
 use Rattle.rules.specs.List.{noEntry}
-use Rattle.parts.specs.State.{view, givenOf, Moved}
-use Rattle.parts.specs.Laid.{runIn, runs, Was, was, BuiltAt}
-use Rattle.parts.specs.Says.{Got, GotChild, SaysList}
-use Rattle.parts.specs.Node.{Links}
-use Rattle.parts.specs.List.{Follows, Ends}
-use Rattle.parts.proofs.Answers.{then-read, then-refused}
-use Rattle.parts.proofs.BuiltLaws.{built-none}
-use Rattle.parts.proofs.LeafLaws.{noKids}
-use Rattle.parts.proofs.StepLaws.{built-at}
-use Rattle.parts.proofs.ListLaws.{list-refused, list-stops, list-closed}
+use Rattle.marks.specs.State.{view, givenOf, Moved}
+use Rattle.marks.specs.Laid.{runIn, runs, Was, was, BuiltAt}
+use Rattle.marks.specs.Says.{Got, GotChild, SaysList}
+use Rattle.marks.specs.Node.{Links}
+use Rattle.marks.specs.List.{Follows, Ends}
+use Rattle.marks.proofs.Answers.{then-read, then-refused}
+use Rattle.marks.proofs.BuiltLaws.{built-none}
+use Rattle.marks.proofs.LeafLaws.{noKids}
+use Rattle.marks.proofs.StepLaws.{built-at}
+use Rattle.marks.proofs.ListLaws.{list-refused, list-stops, list-closed}
 use Rattle.parts.proofs.Turns.{ListTurn, looped, turn-list}
-use Rattle.parts.specs.declared.state.Given.{Given}
-use Rattle.parts.specs.declared.state.Mark.{Mark}
-use Rattle.parts.specs.declared.state.Kids.{Kids}
-use Rattle.parts.specs.declared.state.Answer.{Answer}
-use Rattle.parts.specs.declared.state.Listed.{Listed}
+use Rattle.marks.specs.declared.state.Given.{Given}
+use Rattle.marks.specs.declared.state.Mark.{Mark}
+use Rattle.marks.specs.declared.state.Kids.{Kids}
+use Rattle.marks.specs.declared.state.Answer.{Answer}
+use Rattle.marks.specs.declared.state.Listed.{Listed}
 use Rattle.readers.proofs.MovedLaws.{built-moved}
 
 -- The list is absent.

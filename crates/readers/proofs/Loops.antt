@@ -18,11 +18,11 @@ use Rattle.rules.specs.Postfix.{postfixFrom}
 use Rattle.rules.specs.Arguments as arguments
 use Rattle.rules.specs.Tuple as tuple
 use Rattle.rules.specs.Template as template
-use Rattle.parts.specs.Laid.{Was}
+use Rattle.marks.specs.Laid.{Was}
 use Rattle.parts.proofs.RingLaws.{endTypes, endArguments, endTemplate}
 use Rattle.parts.proofs.Turns.{ListTurn, TreeTurn, PieceTurn, looped}
-use Rattle.parts.specs.declared.state.Mark.{Mark}
-use Rattle.parts.specs.declared.state.Kids.{Kids}
+use Rattle.marks.specs.declared.state.Mark.{Mark}
+use Rattle.marks.specs.declared.state.Kids.{Kids}
 
 module _ (g : Given) (T : Reader) where
   -- A list in angle brackets that began at s.

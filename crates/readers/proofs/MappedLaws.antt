@@ -9,11 +9,11 @@ use Rattle.keys.specs.Placed.{Placed, Spelling, Opt}
 use Rattle.keys.specs.Store.{_⊕_}
 use Rattle.rules.specs.State.{Given, State, Result, Reader, read, then, next, kind, first, end, optional, make}
 use Rattle.rules.specs.Mapped.{mapped}
-use Rattle.parts.specs.Laid.{runIn, runOpt, nameRun, IsNode, IsOpt, Shape, optBit}
+use Rattle.marks.specs.Laid.{runIn, runOpt, nameRun, IsNode, IsOpt, Shape, optBit}
 use Rattle.parts.specs.Mapped.{mappedHead, mappedMiddle, mappedChoices, closeCurly}
 use Rattle.parts.specs.Onward.{behindConstraint}
 use Rattle.parts.proofs.MappingLaws.{mapped-step, behind-step, mappedContent, mapped-shape}
-use Rattle.parts.proofs.Answers.{then-read}
+use Rattle.marks.proofs.Answers.{then-read}
 
 module _ (g : Given) (T : Reader) where
   -- The head and the constraint were read; b is the first byte.

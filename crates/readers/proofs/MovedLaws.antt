@@ -5,13 +5,13 @@ use Prim.Native.Nat.{ℕ}
 use Rattle.keys.specs.Placed.{Placed}
 use Rattle.keys.specs.Store.{Run}
 use Rattle.rules.specs.State.{Result}
-use Rattle.parts.specs.State.{Moved}
-use Rattle.parts.specs.Laid.{Was, was, wasAt, Laid, BuiltAt}
-use Rattle.parts.specs.Says.{Says}
-use Rattle.parts.proofs.StepLaws.{built-at}
-use Rattle.parts.specs.declared.state.Mark.{Mark}
-use Rattle.parts.specs.declared.state.Kids.{Kids}
-use Rattle.parts.specs.declared.state.Answer.{Answer}
+use Rattle.marks.specs.State.{Moved}
+use Rattle.marks.specs.Laid.{Was, was, wasAt, Laid, BuiltAt}
+use Rattle.marks.specs.Says.{Says}
+use Rattle.marks.proofs.StepLaws.{built-at}
+use Rattle.marks.specs.declared.state.Mark.{Mark}
+use Rattle.marks.specs.declared.state.Kids.{Kids}
+use Rattle.marks.specs.declared.state.Answer.{Answer}
 
 -- The slices hold the same at both marks.
 was-moved : {len : ℕ} {m q : Mark} → Moved len m q → (N M O : List ℕ) → was q N M O ≡ was m N M O

@@ -9,7 +9,7 @@ use Rattle.rules.specs.Arguments.{arguments}
 use Rattle.parts.specs.Arguments.{Naming, nameCount, namedNode, namingHead}
 use Rattle.parts.specs.Onward.{nameAt}
 use Rattle.parts.proofs.NamingLaws.{name-at, behindNames}
-use Rattle.parts.proofs.Answers.{then-read}
+use Rattle.marks.proofs.Answers.{then-read}
 
 -- Its names and its arguments were read; b is its first byte.
 pub named-read : (g : Given) (T : Reader) (s : State) {b : ℕ} {x : Naming} {q : State} {ts : Opt (List Placed)} {p : State} → b ≡ first g s

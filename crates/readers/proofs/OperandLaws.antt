@@ -5,15 +5,15 @@ use Prim.Native.Nat.{ℕ, _-_}
 use lib.ListN.{length}
 use Rattle.keys.specs.Placed.{Placed}
 use Rattle.rules.specs.State.{Result, read}
-use Rattle.parts.specs.State.{view, givenOf, Moved}
-use Rattle.parts.specs.Laid.{Was, was, Stands}
-use Rattle.parts.specs.Says.{Says}
+use Rattle.marks.specs.State.{view, givenOf, Moved}
+use Rattle.marks.specs.Laid.{Was, was, Stands}
+use Rattle.marks.specs.Says.{Says}
 use Rattle.parts.specs.Operator.{operatorsAbout}
-use Rattle.parts.proofs.Answers.{says-same, says-stop}
+use Rattle.marks.proofs.Answers.{says-same, says-stop}
 use Rattle.parts.proofs.OperatorLaws.{operators-refused}
-use Rattle.parts.specs.declared.state.Given.{Given}
-use Rattle.parts.specs.declared.state.Mark.{Mark}
-use Rattle.parts.specs.declared.state.Answer.{Answer}
+use Rattle.marks.specs.declared.state.Given.{Given}
+use Rattle.marks.specs.declared.state.Mark.{Mark}
+use Rattle.marks.specs.declared.state.Answer.{Answer}
 use Rattle.readers.proofs.MovedLaws.{says-moved}
 
 -- An operand y that begins at q, behind the prefixes from m on, which make x of it.

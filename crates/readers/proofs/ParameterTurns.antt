@@ -14,18 +14,18 @@ use Rattle.keys.proofs.StoreLaws.{join-done}
 use Rattle.rules.specs.Refusal.{unexpected, unsupported}
 use Rattle.rules.specs.State.{Given, State, Result, Reader, read, refuse, stands, turns}
 use Rattle.rules.specs.Function.{ThisParameter, Parameters, modified, parameter, parametersFrom}
-use Rattle.parts.specs.State.{view, nextMark}
-use Rattle.parts.specs.Laid.{runIn, runs, IsNode, Was, BuiltAt}
-use Rattle.parts.specs.List.{Separates, default, closes, behindRest, goes, stops}
+use Rattle.marks.specs.State.{view, nextMark}
+use Rattle.marks.specs.Laid.{runIn, runs, IsNode, Was, BuiltAt}
+use Rattle.marks.specs.List.{Separates, default, closes, behindRest, goes, stops}
 use Rattle.parts.specs.Function.{whyIf, ThisIs}
 use Rattle.readers.specs.Ring.{SaysRest}
-use Rattle.parts.proofs.LeafLaws.{noKids}
+use Rattle.marks.proofs.LeafLaws.{noKids}
 use Rattle.parts.proofs.ShapeLaws.{all-more}
 use Rattle.parts.proofs.Turns.{built-more}
 use Rattle.parts.proofs.ParameterListLaws.{parameters-closed, parameters-none, parameters-go}
-use Rattle.parts.specs.declared.state.Mark.{Mark}
-use Rattle.parts.specs.declared.state.Kids.{Kids}
-use Rattle.parts.specs.declared.state.Answer.{Answer}
+use Rattle.marks.specs.declared.state.Mark.{Mark}
+use Rattle.marks.specs.declared.state.Kids.{Kids}
+use Rattle.marks.specs.declared.state.Answer.{Answer}
 use Rattle.parts.specs.declared.function.This.{This as ThisCode}
 use Rattle.parts.specs.declared.function.Params.{Params}
 use Rattle.readers.proofs.Loops.{ParametersTurn}

@@ -14,21 +14,21 @@ use Rattle.keys.proofs.StoreLaws.{join-done}
 use Rattle.rules.specs.State as rule
 use Rattle.rules.specs.State.{Result, Reader, refuse, optional, turns}
 use Rattle.rules.specs.Function.{ThisParameter, Parameters, parametersOf, parametersFrom, thisFirst, parameters}
-use Rattle.parts.specs.State.{view, nextMark, Moved, Under}
-use Rattle.parts.specs.Laid.{runOpt, optBit, Was, was, Built, BuiltAt}
-use Rattle.parts.specs.Says.{SaysOption}
-use Rattle.parts.specs.List.{Separates}
+use Rattle.marks.specs.State.{view, nextMark, Moved, Under}
+use Rattle.marks.specs.Laid.{runOpt, optBit, Was, was, Built, BuiltAt}
+use Rattle.marks.specs.Says.{SaysOption}
+use Rattle.marks.specs.List.{Separates}
 use Rattle.parts.specs.Function.{typeBits, thisRun, IsThis, ThisIs, SaysParams, Opens, freedMark, beforeThis, behindThis, freedUsed}
 use Rattle.readers.specs.Ring.{SaysRest}
-use Rattle.parts.proofs.LaidLaws.{laid-back}
-use Rattle.parts.proofs.BuiltLaws.{built-none}
-use Rattle.parts.proofs.StepLaws.{built-at}
+use Rattle.marks.proofs.LaidLaws.{laid-back}
+use Rattle.marks.proofs.BuiltLaws.{built-none}
+use Rattle.marks.proofs.StepLaws.{built-at}
 use Rattle.parts.proofs.ParameterListLaws.{opens-this, this-refused, this-goes, this-stops}
-use Rattle.parts.specs.declared.state.Mark.{Mark}
-use Rattle.parts.specs.declared.state.Kids.{Kids}
-use Rattle.parts.specs.declared.state.Head.{Head}
-use Rattle.parts.specs.declared.state.Answer.{Answer}
-use Rattle.parts.specs.declared.state.Listed.{Listed}
+use Rattle.marks.specs.declared.state.Mark.{Mark}
+use Rattle.marks.specs.declared.state.Kids.{Kids}
+use Rattle.marks.specs.declared.state.Head.{Head}
+use Rattle.marks.specs.declared.state.Answer.{Answer}
+use Rattle.marks.specs.declared.state.Listed.{Listed}
 use Rattle.parts.specs.declared.function.This.{This as ThisCode}
 use Rattle.parts.specs.declared.function.Params.{Params}
 use Rattle.readers.proofs.MovedLaws.{built-moved}

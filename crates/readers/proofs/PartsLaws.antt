@@ -13,23 +13,23 @@ use Rattle.rules.specs.State as rule
 use Rattle.rules.specs.State.{State, Result, Reader, read, refuse, then, next, stands, first, end, past, make}
 use Rattle.rules.specs.List.{noEntry}
 use Rattle.rules.specs.Union.{partsFrom}
-use Rattle.parts.specs.State.{view, givenOf, nextMark, pastMark, Moved}
-use Rattle.parts.specs.Laid.{runs, AllNodes, Was, was, BuiltAt, Stands, Shape}
-use Rattle.parts.specs.Says.{Got, Says}
-use Rattle.parts.specs.Node.{Links}
-use Rattle.parts.specs.List.{here}
+use Rattle.marks.specs.State.{view, givenOf, nextMark, pastMark, Moved}
+use Rattle.marks.specs.Laid.{runs, AllNodes, Was, was, BuiltAt, Stands, Shape}
+use Rattle.marks.specs.Says.{Got, Says}
+use Rattle.marks.specs.Node.{Links}
+use Rattle.marks.specs.List.{here}
 use Rattle.parts.specs.Union.{isAlone, Joins, alone, joins}
-use Rattle.parts.proofs.Answers.{then-read, then-then, says-same, says-as, says-stops}
-use Rattle.parts.proofs.LaidLaws.{laid-on}
-use Rattle.parts.proofs.LeafLaws.{noKids}
+use Rattle.marks.proofs.Answers.{then-read, then-then, says-same, says-as, says-stops}
+use Rattle.marks.proofs.LaidLaws.{laid-on}
+use Rattle.marks.proofs.LeafLaws.{noKids}
 use Rattle.parts.proofs.ShapeLaws.{all-more}
-use Rattle.parts.proofs.StepLaws.{view-past}
+use Rattle.marks.proofs.StepLaws.{view-past}
 use Rattle.parts.proofs.RingLaws.{behindPart, parts-more, parts-end}
 use Rattle.parts.proofs.Turns.{ListTurn, built-more}
-use Rattle.parts.specs.declared.state.Given.{Given}
-use Rattle.parts.specs.declared.state.Mark.{Mark}
-use Rattle.parts.specs.declared.state.Kids.{Kids}
-use Rattle.parts.specs.declared.state.Answer.{Answer}
+use Rattle.marks.specs.declared.state.Given.{Given}
+use Rattle.marks.specs.declared.state.Mark.{Mark}
+use Rattle.marks.specs.declared.state.Kids.{Kids}
+use Rattle.marks.specs.declared.state.Answer.{Answer}
 use Rattle.readers.proofs.Loops.{endParts, partsOf, partDue, behindOne}
 use Rattle.readers.proofs.ListTurns.{turn-starts}
 

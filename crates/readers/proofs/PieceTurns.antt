@@ -15,21 +15,21 @@ use Rattle.rules.specs.Refusal.{unexpected}
 use Rattle.rules.specs.State as rule
 use Rattle.rules.specs.State.{State, Result, Reader, refuse, then, next, first, end, spelling, turns, make}
 use Rattle.rules.specs.Template as template
-use Rattle.parts.specs.State.{view, givenOf, namedMark}
-use Rattle.parts.specs.Laid.{nameRun, namesRun, Was, was, Laid, BuiltAt, Spoken}
-use Rattle.parts.specs.Says.{GotChild, Says}
-use Rattle.parts.specs.Node.{MakesList}
-use Rattle.parts.proofs.Answers.{says-same, then-read, then-refused}
-use Rattle.parts.proofs.BuiltLaws.{built-names, laid-spoken}
-use Rattle.parts.proofs.LeafLaws.{noKids}
+use Rattle.marks.specs.State.{view, givenOf, namedMark}
+use Rattle.marks.specs.Laid.{nameRun, namesRun, Was, was, Laid, BuiltAt, Spoken}
+use Rattle.marks.specs.Says.{GotChild, Says}
+use Rattle.marks.specs.Node.{MakesList}
+use Rattle.marks.proofs.Answers.{says-same, then-read, then-refused}
+use Rattle.marks.proofs.BuiltLaws.{built-names, laid-spoken}
+use Rattle.marks.proofs.LeafLaws.{noKids}
 use Rattle.parts.proofs.RingLaws.{endTemplate, template-is, behindPiece, pieces-is}
 use Rattle.parts.proofs.RingShapes.{pieceRuns, pieces-join, all-pieces, shape-template}
 use Rattle.parts.proofs.Turns.{PieceTurn}
-use Rattle.parts.specs.declared.state.Given.{Given}
-use Rattle.parts.specs.declared.state.Mark.{Mark}
-use Rattle.parts.specs.declared.state.Begin.{Begin}
-use Rattle.parts.specs.declared.state.Kids.{Kids}
-use Rattle.parts.specs.declared.state.Answer.{Answer}
+use Rattle.marks.specs.declared.state.Given.{Given}
+use Rattle.marks.specs.declared.state.Mark.{Mark}
+use Rattle.marks.specs.declared.state.Begin.{Begin}
+use Rattle.marks.specs.declared.state.Kids.{Kids}
+use Rattle.marks.specs.declared.state.Answer.{Answer}
 use Rattle.readers.proofs.Loops.{piecesOf}
 use Rattle.readers.proofs.ChildLaws.{built-named, shape-as}
 

@@ -15,15 +15,15 @@ use Rattle.rules.proofs.TokenLaws.{both-true}
 use Rattle.rules.specs.State as rule
 use Rattle.rules.specs.State.{State, Reader, then, next, kind, first, end, spelling, optional, make}
 use Rattle.rules.specs.Function.{subject, predicates}
-use Rattle.parts.specs.State.{view, givenOf, nextMark}
-use Rattle.parts.specs.List.{here}
+use Rattle.marks.specs.State.{view, givenOf, nextMark}
+use Rattle.marks.specs.List.{here}
 use Rattle.parts.specs.Onward.{subjectAt, subjectMark, predicate}
 use Rattle.parts.specs.Primary.{predicateChoices}
-use Rattle.parts.proofs.MarkLaws.{kind-inside}
+use Rattle.marks.proofs.MarkLaws.{kind-inside}
 use Rattle.parts.proofs.RingLaws.{predicate-is}
 use Rattle.parts.proofs.RingShapes.{isThis}
-use Rattle.parts.specs.declared.state.Given.{Given}
-use Rattle.parts.specs.declared.state.Mark.{Mark}
+use Rattle.marks.specs.declared.state.Given.{Given}
+use Rattle.marks.specs.declared.state.Mark.{Mark}
 
 -- The choices of a predicate are small.
 pub predicate-small : (asserts isThis : Bool) → predicateChoices asserts isThis ≤ 208

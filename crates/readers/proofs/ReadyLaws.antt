@@ -2,9 +2,9 @@
 use mathlib.Core.List.{List}
 use Prim.Native.Nat.{ℕ}
 use lib.ListN.{length}
-use Rattle.parts.specs.State.{Room, Fine}
-use Rattle.parts.specs.declared.state.Given.{Given}
-use Rattle.parts.specs.declared.state.Mark.{Mark}
+use Rattle.marks.specs.State.{Room, Fine}
+use Rattle.marks.specs.declared.state.Given.{Given}
+use Rattle.marks.specs.declared.state.Mark.{Mark}
 use Rattle.readers.specs.Ring.{Ready}
 
 -- The tokens, their text and the classes stay as they are.

@@ -14,18 +14,18 @@ use Rattle.rules.specs.List.{count}
 use Rattle.rules.specs.TypeParameters.{typeParameters}
 use Rattle.rules.specs.Function as function
 use Rattle.rules.specs.Function.{Parameters}
-use Rattle.parts.specs.State.{view, givenOf, nextMark, pastMark}
-use Rattle.parts.specs.Laid.{runIn, runs, runsOpt, AllOpt, Was, was, BuiltAt}
-use Rattle.parts.specs.Says.{Got, Says, isThere}
-use Rattle.parts.specs.Node.{Links}
+use Rattle.marks.specs.State.{view, givenOf, nextMark, pastMark}
+use Rattle.marks.specs.Laid.{runIn, runs, runsOpt, AllOpt, Was, was, BuiltAt}
+use Rattle.marks.specs.Says.{Got, Says, isThere}
+use Rattle.marks.specs.Node.{Links}
 use Rattle.parts.specs.Function.{thisRun, ThisIs, GotParams, HeadIs, MakesFunction}
 use Rattle.parts.specs.Onward.{signature}
-use Rattle.parts.proofs.Answers.{then-read}
+use Rattle.marks.proofs.Answers.{then-read}
 use Rattle.parts.proofs.RingLaws.{expect-yes, expect-no, function-is, behindParameters, signature-is}
-use Rattle.parts.proofs.StepLaws.{view-past}
-use Rattle.parts.specs.declared.state.Given.{Given}
-use Rattle.parts.specs.declared.state.Mark.{Mark}
-use Rattle.parts.specs.declared.state.Answer.{Answer}
+use Rattle.marks.proofs.StepLaws.{view-past}
+use Rattle.marks.specs.declared.state.Given.{Given}
+use Rattle.marks.specs.declared.state.Mark.{Mark}
+use Rattle.marks.specs.declared.state.Answer.{Answer}
 use Rattle.parts.specs.declared.function.This.{This as ThisCode}
 use Rattle.parts.specs.declared.function.FunctionHead.{FunctionHead}
 use Rattle.parts.specs.declared.function.Params.{Params}

@@ -15,17 +15,17 @@ use Rattle.rules.specs.State as rule
 use Rattle.rules.specs.State.{State, Result, Reader, then, onLine, first, turns}
 use Rattle.rules.specs.Primary.{primary}
 use Rattle.rules.specs.Postfix.{suffixed, suffix, postfixFrom, postfix}
-use Rattle.parts.specs.State.{view, givenOf}
-use Rattle.parts.specs.Laid.{Was, was, Stands}
-use Rattle.parts.specs.Says.{Says}
-use Rattle.parts.proofs.Answers.{then-read, says-read, says-stops}
-use Rattle.parts.proofs.MarkLaws.{kind-inside}
+use Rattle.marks.specs.State.{view, givenOf}
+use Rattle.marks.specs.Laid.{Was, was, Stands}
+use Rattle.marks.specs.Says.{Says}
+use Rattle.marks.proofs.Answers.{then-read, says-read, says-stops}
+use Rattle.marks.proofs.MarkLaws.{kind-inside}
 use Rattle.parts.proofs.PostfixLaws.{postfix-more, postfix-end}
 use Rattle.parts.proofs.Turns.{TreeTurn}
-use Rattle.parts.specs.declared.state.Given.{Given}
-use Rattle.parts.specs.declared.state.Mark.{Mark}
-use Rattle.parts.specs.declared.state.Begin.{Begin}
-use Rattle.parts.specs.declared.state.Answer.{Answer}
+use Rattle.marks.specs.declared.state.Given.{Given}
+use Rattle.marks.specs.declared.state.Mark.{Mark}
+use Rattle.marks.specs.declared.state.Begin.{Begin}
+use Rattle.marks.specs.declared.state.Answer.{Answer}
 
 -- A mark that follows lies inside the list.
 pub suffixed-inside : (g : rule.Given) (s : State) → suffixed g s ≡ true → s .at < length (g .words)

@@ -13,23 +13,23 @@ use Rattle.rules.specs.State as rule
 use Rattle.rules.specs.State.{State, Result, Reader, first, end, make}
 use Rattle.rules.specs.Infer.{infer}
 use Rattle.rules.specs.Notes.{Note}
-use Rattle.parts.specs.State.{view, givenOf, nextMark}
-use Rattle.parts.specs.Laid.{nameRun, was, Laid}
-use Rattle.parts.specs.Says.{Says, GotNames, Any, one}
-use Rattle.parts.specs.Names.{oneName}
-use Rattle.parts.specs.Node.{Makes}
+use Rattle.marks.specs.State.{view, givenOf, nextMark}
+use Rattle.marks.specs.Laid.{nameRun, was, Laid}
+use Rattle.marks.specs.Says.{Says, GotNames, Any, one}
+use Rattle.marks.specs.Names.{oneName}
+use Rattle.marks.specs.Node.{Makes}
 use Rattle.parts.specs.Infer.{Infers}
-use Rattle.parts.specs.List.{here}
-use Rattle.parts.proofs.Answers.{says-same, says-stops}
-use Rattle.parts.proofs.BuiltLaws.{laid-spoken}
-use Rattle.parts.proofs.LaidLaws.{laid-on, laid-back}
-use Rattle.parts.proofs.LeafLaws.{noKids}
+use Rattle.marks.specs.List.{here}
+use Rattle.marks.proofs.Answers.{says-same, says-stops}
+use Rattle.marks.proofs.BuiltLaws.{laid-spoken}
+use Rattle.marks.proofs.LaidLaws.{laid-on, laid-back}
+use Rattle.marks.proofs.LeafLaws.{noKids}
 use Rattle.parts.proofs.PostfixLaws.{infer-none, infer-tried, infer-dropped, infer-kept, shape-infer}
-use Rattle.parts.specs.declared.state.Given.{Given}
-use Rattle.parts.specs.declared.state.Mark.{Mark}
-use Rattle.parts.specs.declared.state.Begin.{Begin}
-use Rattle.parts.specs.declared.state.Kids.{Kids}
-use Rattle.parts.specs.declared.state.Answer.{Answer}
+use Rattle.marks.specs.declared.state.Given.{Given}
+use Rattle.marks.specs.declared.state.Mark.{Mark}
+use Rattle.marks.specs.declared.state.Begin.{Begin}
+use Rattle.marks.specs.declared.state.Kids.{Kids}
+use Rattle.marks.specs.declared.state.Answer.{Answer}
 use Rattle.readers.proofs.ChildLaws.{built-spoken}
 
 -- The name was read from m to p.

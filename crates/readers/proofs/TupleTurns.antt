@@ -16,22 +16,22 @@ use Rattle.rules.specs.State as rule
 use Rattle.rules.specs.State.{State, Result, Reader, read, refuse, then, kind, stands, first, end, make, reportIf}
 use Rattle.rules.specs.List.{listFrom}
 use Rattle.rules.specs.Tuple as tuple
-use Rattle.parts.specs.State.{view, givenOf, nextMark, Moved}
-use Rattle.parts.specs.Laid.{runs, Was, was, BuiltAt, Stands, Shape}
-use Rattle.parts.specs.Says.{Got}
-use Rattle.parts.specs.Node.{Links}
-use Rattle.parts.specs.List.{Follows, closes, goes, stops}
+use Rattle.marks.specs.State.{view, givenOf, nextMark, Moved}
+use Rattle.marks.specs.Laid.{runs, Was, was, BuiltAt, Stands, Shape}
+use Rattle.marks.specs.Says.{Got}
+use Rattle.marks.specs.Node.{Links}
+use Rattle.marks.specs.List.{Follows, closes, goes, stops}
 use Rattle.parts.specs.Tuple.{Checks}
-use Rattle.parts.proofs.ListLaws.{list-closed, list-refused, list-goes, list-stops}
-use Rattle.parts.proofs.BuiltLaws.{built-none}
-use Rattle.parts.proofs.LeafLaws.{noKids}
+use Rattle.marks.proofs.ListLaws.{list-closed, list-refused, list-goes, list-stops}
+use Rattle.marks.proofs.BuiltLaws.{built-none}
+use Rattle.marks.proofs.LeafLaws.{noKids}
 use Rattle.parts.proofs.ShapeLaws.{all-more}
 use Rattle.parts.proofs.TupleLaws.{tuple-is, checked-read, checked-full, checked-refused, seen-more, tuple-shape}
 use Rattle.parts.proofs.Turns.{looped, built-more}
-use Rattle.parts.specs.declared.state.Given.{Given}
-use Rattle.parts.specs.declared.state.Mark.{Mark}
-use Rattle.parts.specs.declared.state.Kids.{Kids}
-use Rattle.parts.specs.declared.state.Answer.{Answer}
+use Rattle.marks.specs.declared.state.Given.{Given}
+use Rattle.marks.specs.declared.state.Mark.{Mark}
+use Rattle.marks.specs.declared.state.Kids.{Kids}
+use Rattle.marks.specs.declared.state.Answer.{Answer}
 use Rattle.parts.specs.declared.tuple.Seen.{Seen}
 use Rattle.readers.proofs.MovedLaws.{built-moved}
 use Rattle.readers.proofs.Loops.{TupleTurn, endTuple}

@@ -12,7 +12,7 @@ use Rattle.rules.specs.Union as union
 use Rattle.rules.specs.Primary as primary
 use Rattle.parts.specs.Onward.{behindColon, behindQuestion}
 use Rattle.parts.specs.Primary.{closeParens}
-use Rattle.parts.proofs.Answers.{then-read, then-refused}
+use Rattle.marks.proofs.Answers.{then-read, then-refused}
 use Rattle.parts.proofs.RingLaws.{expect-yes, expect-no, orConditional, union-or, conditional-is, question-is}
 use Rattle.parts.proofs.PrimaryLaws.{brackets-is}
 

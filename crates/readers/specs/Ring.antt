@@ -15,16 +15,16 @@ use Rattle.rules.specs.State.{State, Result, Reader, read, refuse, turns}
 use Rattle.rules.specs.Function as function
 use Rattle.rules.specs.Function.{ThisParameter, Parameters, parametersOf}
 use Rattle.rules.specs.Reading.{readType}
-use Rattle.parts.specs.State.{view, givenOf, Sound, Spelt, Room, Fine, Under, placeOf}
-use Rattle.parts.specs.Laid.{runs, AllNodes, Was, was, BuiltAt, Stands}
-use Rattle.parts.specs.Says.{Says, SaysList, SaysChild, SaysOption}
+use Rattle.marks.specs.State.{view, givenOf, Sound, Spelt, Room, Fine, Under, placeOf}
+use Rattle.marks.specs.Laid.{runs, AllNodes, Was, was, BuiltAt, Stands}
+use Rattle.marks.specs.Says.{Says, SaysList, SaysChild, SaysOption}
 use Rattle.parts.specs.Function.{ThisIs, thisRun, SaysParams}
-use Rattle.parts.specs.declared.state.Given.{Given}
-use Rattle.parts.specs.declared.state.Mark.{Mark}
-use Rattle.parts.specs.declared.state.Begin.{Begin}
-use Rattle.parts.specs.declared.state.Kids.{Kids}
-use Rattle.parts.specs.declared.state.Answer.{Answer}
-use Rattle.parts.specs.declared.state.Listed.{Listed}
+use Rattle.marks.specs.declared.state.Given.{Given}
+use Rattle.marks.specs.declared.state.Mark.{Mark}
+use Rattle.marks.specs.declared.state.Begin.{Begin}
+use Rattle.marks.specs.declared.state.Kids.{Kids}
+use Rattle.marks.specs.declared.state.Answer.{Answer}
+use Rattle.marks.specs.declared.state.Listed.{Listed}
 use Rattle.parts.specs.declared.function.This.{This}
 use Rattle.parts.specs.declared.function.Params.{Params}
 

@@ -2,7 +2,7 @@
 use mathlib.Core.Path.{refl}
 use native.Mathlib.Omega.{arith}
 use lib.ListN.{length}
-use Rattle.parts.specs.State.{view}
+use Rattle.marks.specs.State.{view}
 use Rattle.calls.proofs.Finished.{same-key-lent, comes-none, no-names, no-bytes, finished}
 use borrow.Author.Needs.{needs}
 use Rattle.calls.proofs.reading.finish.Statement.{statement}

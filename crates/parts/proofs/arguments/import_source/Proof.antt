@@ -6,13 +6,13 @@ use lib.ListN.{length}
 use Rattle.words.specs.Kind.{RParen, Str, Comma}
 use Rattle.rules.specs.State as rule
 use Rattle.rules.specs.State.{spelling}
-use Rattle.parts.specs.State.{view, givenOf, nextMark, namedMark, Along}
-use Rattle.parts.specs.Notes.{takenAt, refusedAt}
-use Rattle.parts.proofs.MarkLaws.{is-here, is-not-here, moved-same, moved-next, along-then, along-moved, inside-along}
-use Rattle.parts.proofs.StepLaws.{is-at, not-at, answer-refused, answer-read}
+use Rattle.marks.specs.State.{view, givenOf, nextMark, namedMark, Along}
+use Rattle.marks.specs.Notes.{takenAt, refusedAt}
+use Rattle.marks.proofs.MarkLaws.{is-here, is-not-here, moved-same, moved-next, along-then, along-moved, inside-along}
+use Rattle.marks.proofs.StepLaws.{is-at, not-at, answer-refused, answer-read}
 use Rattle.parts.proofs.ArgumentLaws.{source-none, source-other, source-comma, source-open, source-read, source-spoken, along-source}
-use Rattle.parts.specs.declared.state.Answer.{Answer}
-use Rattle.parts.specs.declared.state.Mark.{Mark}
+use Rattle.marks.specs.declared.state.Answer.{Answer}
+use Rattle.marks.specs.declared.state.Mark.{Mark}
 use borrow.Author.Needs.{needs}
 use Rattle.parts.proofs.arguments.import_source.Statement.{statement}
 use Rattle.parts.proofs.arguments.import_source.Tie as tie

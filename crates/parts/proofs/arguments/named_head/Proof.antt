@@ -3,12 +3,12 @@ use mathlib.Core.Path.{refl, sym, ap, _∙_}
 use mathlib.Core.Bool.{false}
 use native.Mathlib.Omega.{arith}
 use lib.ListN.{length}
-use Rattle.parts.specs.State.{view, givenOf, Moved}
+use Rattle.marks.specs.State.{view, givenOf, Moved}
 use Rattle.parts.specs.Arguments as naming
-use Rattle.parts.proofs.MarkLaws.{is-here, is-not-here, along-then, along-moved}
-use Rattle.parts.proofs.StepLaws.{names-behind, names-same, moved-taken, inside-taken}
+use Rattle.marks.proofs.MarkLaws.{is-here, is-not-here, along-then, along-moved}
+use Rattle.marks.proofs.StepLaws.{names-behind, names-same, moved-taken, inside-taken}
 use Rattle.parts.proofs.ArgumentLaws.{naming-typeof, naming-import, naming-name, of-reference}
-use Rattle.parts.specs.declared.state.Mark.{Mark}
+use Rattle.marks.specs.declared.state.Mark.{Mark}
 use borrow.Author.Needs.{needs}
 use Rattle.parts.proofs.arguments.named_head.Statement.{statement}
 use Rattle.parts.proofs.arguments.named_head.Tie as tie

@@ -3,11 +3,11 @@ use Prim.Native.Nat.{_+_, _*_}
 use native.Mathlib.Omega.{arith}
 use Rattle.rules.specs.State.{end}
 use Rattle.rules.specs.List.{count}
-use Rattle.parts.specs.State.{view, givenOf}
+use Rattle.marks.specs.State.{view, givenOf}
 use Rattle.parts.specs.Arguments.{nameCount, namedNode}
-use Rattle.parts.proofs.Answers.{says-as, says-refused}
+use Rattle.marks.proofs.Answers.{says-as, says-refused}
 use Rattle.parts.proofs.ArgumentLaws.{lists-long, lists-longer, product-small, named-made}
-use Rattle.parts.proofs.NodeLaws.{put-refused}
+use Rattle.marks.proofs.NodeLaws.{put-refused}
 use borrow.Author.Needs.{needs}
 use Rattle.parts.proofs.arguments.named_node.Statement.{statement}
 use Rattle.parts.proofs.arguments.named_node.Tie as tie

@@ -3,11 +3,11 @@ use mathlib.Core.Path.{refl, sym, ap, _∙_, subst}
 use mathlib.Core.Bool.{true, false}
 use native.Mathlib.Omega.{arith}
 use lib.ListN.{length}
-use Rattle.parts.specs.State.{view}
+use Rattle.marks.specs.State.{view}
 use Rattle.parts.specs.Arguments.{OpenedAt}
-use Rattle.parts.proofs.MarkLaws.{is-here, is-not-here}
+use Rattle.marks.proofs.MarkLaws.{is-here, is-not-here}
 use Rattle.parts.proofs.ArgumentLaws.{opened-by}
-use Rattle.parts.specs.declared.state.Mark.{Mark}
+use Rattle.marks.specs.declared.state.Mark.{Mark}
 use borrow.Author.Needs.{needs}
 use Rattle.parts.proofs.arguments.opened.Statement.{statement}
 use Rattle.parts.proofs.arguments.opened.Tie as tie

@@ -3,7 +3,7 @@ use mathlib.Core.Path.{sym, subst}
 use Prim.Native.Nat.{_+_, _<_}
 use native.Mathlib.Omega.{arith}
 use lib.ListN.{length}
-use Rattle.parts.specs.State.{view, givenOf, Along}
+use Rattle.marks.specs.State.{view, givenOf, Along}
 use Rattle.parts.specs.Arguments.{NamedSmall}
 use Rattle.parts.proofs.ArgumentLaws.{named-refused, reference-refused, reference-read}
 use Rattle.parts.specs.declared.arguments.Named.{Named}

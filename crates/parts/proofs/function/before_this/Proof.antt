@@ -2,7 +2,7 @@
 use mathlib.Core.Path.{refl, ap, _∙_, sym}
 use native.Mathlib.Omega.{arith}
 use borrow.Author.Needs.{needs}
-use Rattle.parts.specs.declared.state.Kids.{Kids}
+use Rattle.marks.specs.declared.state.Kids.{Kids}
 use Rattle.parts.proofs.function.before_this.Statement.{statement}
 use Rattle.parts.proofs.function.before_this.Tie as tie
 

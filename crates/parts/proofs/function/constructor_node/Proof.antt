@@ -2,7 +2,7 @@
 use mathlib.Core.Path.{refl, sym, _∙_}
 use native.Mathlib.Omega.{arith}
 use Rattle.parts.proofs.FunctionLaws.{constructor-stops, constructor-long, constructor-put, both-fit, reached-reported}
-use Rattle.parts.proofs.MarkLaws.{fine-noted, reached-refused, reached-put}
+use Rattle.marks.proofs.MarkLaws.{fine-noted, reached-refused, reached-put}
 use borrow.Author.Needs.{needs}
 use Rattle.parts.proofs.function.constructor_node.Statement.{statement}
 use Rattle.parts.proofs.function.constructor_node.Tie as tie

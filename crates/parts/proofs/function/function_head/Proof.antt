@@ -3,8 +3,8 @@ use mathlib.Core.Path.{ap, _∙_}
 use Prim.Native.Nat.{ℕ}
 use lib.Dec.{eqb}
 use Rattle.words.specs.Kind.{Abstract, New}
-use Rattle.parts.specs.State.{pastMark}
-use Rattle.parts.specs.List.{here}
+use Rattle.marks.specs.State.{pastMark}
+use Rattle.marks.specs.List.{here}
 use borrow.Author.Needs.{needs}
 use Rattle.parts.proofs.function.function_head.Statement.{statement}
 use Rattle.parts.proofs.function.function_head.Tie as tie

@@ -2,7 +2,7 @@
 use mathlib.Core.Path.{refl, sym, _∙_}
 use native.Mathlib.Omega.{arith}
 use Rattle.parts.proofs.FunctionLaws.{function-long, function-put, both-fit}
-use Rattle.parts.proofs.MarkLaws.{reached-refused, reached-put}
+use Rattle.marks.proofs.MarkLaws.{reached-refused, reached-put}
 use borrow.Author.Needs.{needs}
 use Rattle.parts.proofs.function.function_node.Statement.{statement}
 use Rattle.parts.proofs.function.function_node.Tie as tie

@@ -5,8 +5,8 @@ use Rattle.words.specs.Kind.{This}
 use Rattle.words.specs.Test.{_or_}
 use Rattle.rules.specs.Refusal.{unsupported}
 use Rattle.parts.specs.Function.{whyIf}
-use Rattle.parts.proofs.MarkLaws.{is-here, is-not-here}
-use Rattle.parts.specs.List.{here}
+use Rattle.marks.proofs.MarkLaws.{is-here, is-not-here}
+use Rattle.marks.specs.List.{here}
 use borrow.Author.Needs.{needs}
 use Rattle.parts.proofs.function.no_param.Statement.{statement}
 use Rattle.parts.proofs.function.no_param.Tie as tie

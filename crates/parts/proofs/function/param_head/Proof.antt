@@ -7,10 +7,10 @@ use lib.Dec.{eqb}
 use Rattle.words.specs.Kind.{Question, Dot3, This}
 use Rattle.words.specs.Test.{_and_}
 use Rattle.keys.specs.Bits.{unit}
-use Rattle.parts.proofs.MarkLaws.{along-then, along-moved}
+use Rattle.marks.proofs.MarkLaws.{along-then, along-moved}
 use Rattle.parts.proofs.HeadLaws.{head-this, parameter-head-refused, parameter-head-read}
-use Rattle.parts.specs.List.{here}
-use Rattle.parts.proofs.StepLaws.{names-refused}
+use Rattle.marks.specs.List.{here}
+use Rattle.marks.proofs.StepLaws.{names-refused}
 use borrow.Author.Needs.{needs}
 use Rattle.parts.proofs.function.param_head.Statement.{statement}
 use Rattle.parts.proofs.function.param_head.Tie as tie

@@ -4,13 +4,13 @@ use mathlib.Core.Bool.{true, false}
 use Prim.Native.Nat.{ℕ, _+_, _<_}
 use native.Mathlib.Omega.{arith}
 use Rattle.words.specs.Kind.{This}
-use Rattle.parts.specs.State.{nextMark, Moved, Inside}
-use Rattle.parts.proofs.MarkLaws.{moved-same, moved-next, is-here, is-not-here}
-use Rattle.parts.specs.declared.state.Mark.{Mark}
-use Rattle.parts.specs.declared.state.Head.{Head}
+use Rattle.marks.specs.State.{nextMark, Moved, Inside}
+use Rattle.marks.proofs.MarkLaws.{moved-same, moved-next, is-here, is-not-here}
+use Rattle.marks.specs.declared.state.Mark.{Mark}
+use Rattle.marks.specs.declared.state.Head.{Head}
 use Rattle.parts.specs.Function.{stops, plain, this}
 use lib.ListN.{length}
-use Rattle.parts.specs.List.{here}
+use Rattle.marks.specs.List.{here}
 use borrow.Author.Needs.{needs}
 use Rattle.parts.proofs.function.params_head.Statement.{statement}
 use Rattle.parts.proofs.function.params_head.Tie as tie

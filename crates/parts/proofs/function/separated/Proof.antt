@@ -1,9 +1,9 @@
 -- By the kind that stands there, in the order of the tests.
 use mathlib.Core.Path.{ap, _∙_}
 use native.Mathlib.Omega.{arith}
-use Rattle.parts.specs.Notes.{takenAt}
-use Rattle.parts.proofs.MarkLaws.{moved-same, moved-next, is-here, is-not-here}
-use Rattle.parts.specs.List.{default, closes, behindRest, goes, stops}
+use Rattle.marks.specs.Notes.{takenAt}
+use Rattle.marks.proofs.MarkLaws.{moved-same, moved-next, is-here, is-not-here}
+use Rattle.marks.specs.List.{default, closes, behindRest, goes, stops}
 use borrow.Author.Needs.{needs}
 use Rattle.parts.proofs.function.separated.Statement.{statement}
 use Rattle.parts.proofs.function.separated.Tie as tie

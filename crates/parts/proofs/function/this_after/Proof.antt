@@ -5,7 +5,7 @@ use Prim.Native.Nat.{ℕ}
 use lib.Dec.{eqb}
 use Rattle.words.specs.Kind.{This}
 use Rattle.words.specs.Test.{_and_}
-use Rattle.parts.specs.List.{here}
+use Rattle.marks.specs.List.{here}
 use borrow.Author.Needs.{needs}
 use Rattle.parts.proofs.function.this_after.Statement.{statement}
 use Rattle.parts.proofs.function.this_after.Tie as tie

@@ -3,7 +3,7 @@ use mathlib.Core.Path.{ap, _∙_}
 use Prim.Native.Nat.{ℕ, _+_, _*_, _≤_}
 use native.Mathlib.Omega.{arith}
 use Rattle.words.specs.Cursor.{firstByte}
-use Rattle.parts.specs.declared.state.Mark.{Mark}
+use Rattle.marks.specs.declared.state.Mark.{Mark}
 use borrow.Author.Needs.{needs}
 use Rattle.parts.proofs.function.this_of.Statement.{statement}
 use Rattle.parts.proofs.function.this_of.Tie as tie

@@ -1,6 +1,6 @@
 -- No modifier, then a name.
 use native.Mathlib.Omega.{arith}
-use Rattle.parts.proofs.MarkLaws.{along-same}
+use Rattle.marks.proofs.MarkLaws.{along-same}
 use Rattle.parts.proofs.HeadLaws.{type-head-stops, type-head-says}
 use borrow.Author.Needs.{needs}
 use Rattle.parts.proofs.function.type_param_head.Statement.{statement}

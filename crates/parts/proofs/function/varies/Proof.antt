@@ -4,7 +4,7 @@ use mathlib.Core.Bool.{Bool}
 use Rattle.words.specs.Class.{inClass}
 use Rattle.rules.specs.Refusal.{unsupported}
 use Rattle.parts.specs.Function.{whyIf}
-use Rattle.parts.proofs.MarkLaws.{is-here, is-not-here}
+use Rattle.marks.proofs.MarkLaws.{is-here, is-not-here}
 use Rattle.parts.proofs.HeadLaws.{varies-is}
 use borrow.Author.Needs.{needs}
 use Rattle.parts.proofs.function.varies.Statement.{statement}

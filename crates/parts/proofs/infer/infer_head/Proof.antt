@@ -2,11 +2,11 @@
 use mathlib.Core.Path.{subst}
 use native.Mathlib.Omega.{arith}
 use lib.ListN.{length}
-use Rattle.parts.specs.State.{givenOf, view, Along}
-use Rattle.parts.specs.Says.{SaysNames, Any, one}
-use Rattle.parts.specs.Names.{oneName}
-use Rattle.parts.proofs.LeafLaws.{says-next}
-use Rattle.parts.specs.declared.state.Mark.{Mark}
+use Rattle.marks.specs.State.{givenOf, view, Along}
+use Rattle.marks.specs.Says.{SaysNames, Any, one}
+use Rattle.marks.specs.Names.{oneName}
+use Rattle.marks.proofs.LeafLaws.{says-next}
+use Rattle.marks.specs.declared.state.Mark.{Mark}
 use borrow.Author.Needs.{needs}
 use Rattle.parts.proofs.infer.infer_head.Statement.{statement}
 use Rattle.parts.proofs.infer.infer_head.Tie as tie

@@ -5,12 +5,12 @@ use mathlib.Core.List.{[], _∷_}
 use native.Mathlib.Omega.{arith}
 use Rattle.keys.specs.Store.{_⊕_}
 use Rattle.keys.specs.Placed.{present, absent, join, spell, maybe}
-use Rattle.parts.specs.Laid.{nameRun, runIn}
-use Rattle.parts.proofs.BuiltLaws.{built-names, built-one}
+use Rattle.marks.specs.Laid.{nameRun, runIn}
+use Rattle.marks.proofs.BuiltLaws.{built-names, built-one}
 use Rattle.parts.proofs.PostfixLaws.{shape-infer, shape-constrained}
 use Rattle.parts.specs.Infer.{Infers}
-use Rattle.parts.proofs.LeafLaws.{under-none, makes-at}
-use Rattle.parts.proofs.MarkLaws.{reached-put}
+use Rattle.marks.proofs.LeafLaws.{under-none, makes-at}
+use Rattle.marks.proofs.MarkLaws.{reached-put}
 use borrow.Author.Needs.{needs}
 use Rattle.parts.proofs.infer.infer_node.Statement.{statement}
 use Rattle.parts.proofs.infer.infer_node.Tie as tie

@@ -6,14 +6,14 @@ use lib.ListN.{length}
 use Rattle.words.specs.Kind.{Readonly}
 use Rattle.rules.specs.State.{read}
 use Rattle.rules.specs.Mapped as rule
-use Rattle.parts.specs.State.{view, givenOf, nextMark, Moved, Along}
-use Rattle.parts.specs.Names.{oneName}
-use Rattle.parts.proofs.BuiltLaws.{spoken-from}
-use Rattle.parts.proofs.MarkLaws.{is-here, is-not-here, along-then, along-moved, inside-along}
-use Rattle.parts.proofs.StepLaws.{names-refused, head-refused, names-read, moved-taken, moved-then, inside-taken, inside-moved, spoken-between}
+use Rattle.marks.specs.State.{view, givenOf, nextMark, Moved, Along}
+use Rattle.marks.specs.Names.{oneName}
+use Rattle.marks.proofs.BuiltLaws.{spoken-from}
+use Rattle.marks.proofs.MarkLaws.{is-here, is-not-here, along-then, along-moved, inside-along}
+use Rattle.marks.proofs.StepLaws.{names-refused, head-refused, names-read, moved-taken, moved-then, inside-taken, inside-moved, spoken-between}
 use Rattle.parts.proofs.MappingLaws.{head-modifier, head-bracket, head-name, head-in, head-read}
-use Rattle.parts.specs.declared.state.Head.{Head}
-use Rattle.parts.specs.declared.state.Mark.{Mark}
+use Rattle.marks.specs.declared.state.Head.{Head}
+use Rattle.marks.specs.declared.state.Mark.{Mark}
 use borrow.Author.Needs.{needs}
 use Rattle.parts.proofs.mapped.mapped_head.Statement.{statement}
 use Rattle.parts.proofs.mapped.mapped_head.Tie as tie

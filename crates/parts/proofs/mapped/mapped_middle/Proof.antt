@@ -5,12 +5,12 @@ use native.Mathlib.Omega.{arith}
 use lib.ListN.{length}
 use Rattle.words.specs.Kind.{RBrack, Question}
 use Rattle.rules.specs.Mapped as rule
-use Rattle.parts.specs.State.{view, givenOf, Moved}
-use Rattle.parts.proofs.MarkLaws.{is-here, is-not-here, moved-same}
-use Rattle.parts.proofs.StepLaws.{number-refused, number-same, moved-taken, moved-then, inside-taken}
+use Rattle.marks.specs.State.{view, givenOf, Moved}
+use Rattle.marks.proofs.MarkLaws.{is-here, is-not-here, moved-same}
+use Rattle.marks.proofs.StepLaws.{number-refused, number-same, moved-taken, moved-then, inside-taken}
 use Rattle.parts.proofs.RingLaws.{expect-yes, expect-no}
-use Rattle.parts.specs.declared.state.Head.{Head}
-use Rattle.parts.specs.declared.state.Mark.{Mark}
+use Rattle.marks.specs.declared.state.Head.{Head}
+use Rattle.marks.specs.declared.state.Mark.{Mark}
 use borrow.Author.Needs.{needs}
 use Rattle.parts.proofs.mapped.mapped_middle.Statement.{statement}
 use Rattle.parts.proofs.mapped.mapped_middle.Tie as tie

@@ -6,10 +6,10 @@ use native.Mathlib.Omega.{arith}
 use lib.ListN.{length}
 use Rattle.keys.specs.Placed.{tree}
 use Rattle.rules.specs.State.{make, end}
-use Rattle.parts.specs.State.{givenOf, Moved, Under}
-use Rattle.parts.proofs.Answers.{says-same, says-as, says-refused}
-use Rattle.parts.proofs.MarkLaws.{is-here, is-not-here, reached-refused, reached-put}
-use Rattle.parts.proofs.StepLaws.{built-at, moved-taken, moved-then, inside-moved, fine-moved}
+use Rattle.marks.specs.State.{givenOf, Moved, Under}
+use Rattle.marks.proofs.Answers.{says-same, says-as, says-refused}
+use Rattle.marks.proofs.MarkLaws.{is-here, is-not-here, reached-refused, reached-put}
+use Rattle.marks.proofs.StepLaws.{built-at, moved-taken, moved-then, inside-moved, fine-moved}
 use Rattle.parts.proofs.MappingLaws.{curly-refused, curly-taken}
 use borrow.Author.Needs.{needs}
 use Rattle.parts.proofs.mapped.mapped_node.Statement.{statement}

@@ -2,11 +2,11 @@
 use mathlib.Core.Path.{refl, sym, ap, _∙_}
 use native.Mathlib.Omega.{arith}
 use Rattle.rules.specs.State.{expect, read}
-use Rattle.parts.specs.State.{view, givenOf}
-use Rattle.parts.proofs.MarkLaws.{is-here, is-not-here, moved-same}
-use Rattle.parts.proofs.StepLaws.{number-read, number-same, moved-taken, moved-then, inside-taken}
+use Rattle.marks.specs.State.{view, givenOf}
+use Rattle.marks.proofs.MarkLaws.{is-here, is-not-here, moved-same}
+use Rattle.marks.proofs.StepLaws.{number-read, number-same, moved-taken, moved-then, inside-taken}
 use Rattle.parts.proofs.MappingLaws.{modifier-here, modifier-plus, modifier-minus, modifier-none}
-use Rattle.parts.specs.declared.state.Mark.{Mark}
+use Rattle.marks.specs.declared.state.Mark.{Mark}
 use borrow.Author.Needs.{needs}
 use Rattle.parts.proofs.mapped.modifier.Statement.{statement}
 use Rattle.parts.proofs.mapped.modifier.Tie as tie

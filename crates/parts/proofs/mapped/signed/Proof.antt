@@ -4,11 +4,11 @@ use Prim.Native.Nat.{_≤_}
 use native.Mathlib.Omega.{arith}
 use lib.ListN.{length}
 use Rattle.rules.specs.State.{read}
-use Rattle.parts.specs.State.{view, givenOf, Moved}
-use Rattle.parts.proofs.MarkLaws.{is-here, is-not-here, moved-same}
-use Rattle.parts.proofs.StepLaws.{number-read, number-refused, moved-taken}
+use Rattle.marks.specs.State.{view, givenOf, Moved}
+use Rattle.marks.proofs.MarkLaws.{is-here, is-not-here, moved-same}
+use Rattle.marks.proofs.StepLaws.{number-read, number-refused, moved-taken}
 use Rattle.parts.proofs.RingLaws.{expect-yes, expect-no}
-use Rattle.parts.specs.declared.state.Head.{Head}
+use Rattle.marks.specs.declared.state.Head.{Head}
 use borrow.Author.Needs.{needs}
 use Rattle.parts.proofs.mapped.signed.Statement.{statement}
 use Rattle.parts.proofs.mapped.signed.Tie as tie

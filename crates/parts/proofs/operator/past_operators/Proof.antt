@@ -9,12 +9,12 @@ use Rattle.words.specs.Test.{among}
 use Rattle.words.specs.Cursor.{kindAt}
 use Rattle.rules.specs.State.{Reader}
 use Rattle.rules.specs.Operator as rule
-use Rattle.parts.specs.State.{AnyGiven, view, givenOf, Moved}
+use Rattle.marks.specs.State.{AnyGiven, view, givenOf, Moved}
 use Rattle.parts.specs.Operator.{operatorsAbout}
-use Rattle.parts.proofs.MarkLaws.{moved-same}
-use Rattle.parts.proofs.StepLaws.{moved-taken, moved-then, inside-moved}
+use Rattle.marks.proofs.MarkLaws.{moved-same}
+use Rattle.marks.proofs.StepLaws.{moved-taken, moved-then, inside-moved}
 use Rattle.parts.proofs.OperatorLaws.{operator-some, operators-begin, operators-past, operator-end}
-use Rattle.parts.specs.declared.state.Mark.{Mark}
+use Rattle.marks.specs.declared.state.Mark.{Mark}
 use borrow.Author.Needs.{needs}
 use Rattle.parts.proofs.operator.past_operators.Statement.{statement}
 use Rattle.parts.proofs.operator.past_operators.Tie as tie

@@ -10,8 +10,8 @@ use Rattle.keys.specs.Placed.{Placed}
 use Rattle.rules.specs.State.{read}
 use Rattle.rules.specs.List.{position}
 use Rattle.rules.specs.Operator.{operators}
-use Rattle.parts.specs.State.{view, givenOf}
-use Rattle.parts.specs.Laid.{Was, Stands}
+use Rattle.marks.specs.State.{view, givenOf}
+use Rattle.marks.specs.Laid.{Was, Stands}
 use Rattle.parts.proofs.OperatorLaws.{operator-made, start-low, Left, left-none, left-refused, left-put}
 use borrow.Author.Needs.{needs}
 use Rattle.parts.proofs.operator.put_operators.Statement.{statement}

@@ -1,9 +1,9 @@
 -- The node about the type, if the mark follows.
 use mathlib.Core.List.{[]}
-use Rattle.parts.specs.Laid.{runIn}
-use Rattle.parts.proofs.BuiltLaws.{built-one}
+use Rattle.marks.specs.Laid.{runIn}
+use Rattle.marks.proofs.BuiltLaws.{built-one}
 use Rattle.parts.proofs.PostfixLaws.{shape-array}
-use Rattle.parts.proofs.LeafLaws.{under-one}
+use Rattle.marks.proofs.LeafLaws.{under-one}
 use borrow.Author.Needs.{needs}
 use Rattle.parts.proofs.postfix.array.Statement.{statement}
 use Rattle.parts.proofs.postfix.array.Tie as tie

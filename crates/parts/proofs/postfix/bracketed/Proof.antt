@@ -4,11 +4,11 @@ use mathlib.Core.List.{[]}
 use native.Mathlib.Omega.{arith}
 use Rattle.rules.specs.State.{make, end}
 use Rattle.keys.specs.Placed.{tree}
-use Rattle.parts.specs.State.{givenOf, view, nextMark}
-use Rattle.parts.proofs.Answers.{says-same, says-as, says-refused}
+use Rattle.marks.specs.State.{givenOf, view, nextMark}
+use Rattle.marks.proofs.Answers.{says-same, says-as, says-refused}
 use Rattle.parts.proofs.PrimaryLaws.{eq-at, ne-at}
-use Rattle.parts.proofs.LeafLaws.{fine-next, makes-at}
-use Rattle.parts.proofs.MarkLaws.{reached-put, reached-refused}
+use Rattle.marks.proofs.LeafLaws.{fine-next, makes-at}
+use Rattle.marks.proofs.MarkLaws.{reached-put, reached-refused}
 use Rattle.parts.proofs.RingLaws.{expect-yes}
 use borrow.Author.Needs.{needs}
 use Rattle.parts.proofs.postfix.bracketed.Statement.{statement}

@@ -5,7 +5,7 @@ use Prim.Native.Nat.{ℕ, _+_}
 use lib.Dec.{eqb}
 use borrow.Author.Tests.{not-true, not-false}
 use Rattle.parts.proofs.PrimaryLaws.{eq-at, ne-at}
-use Rattle.parts.proofs.MarkLaws.{or-false}
+use Rattle.marks.proofs.MarkLaws.{or-false}
 use Rattle.words.specs.Ahead as ahead
 use borrow.Author.Needs.{needs}
 use Rattle.parts.proofs.postfix.suffixed.Statement.{statement}

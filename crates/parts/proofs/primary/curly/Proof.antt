@@ -1,7 +1,7 @@
 -- By the look-ahead.
 use mathlib.Core.Path.{sym, _∙_}
 use native.Mathlib.Omega.{arith}
-use Rattle.parts.specs.State.{givenOf, view}
+use Rattle.marks.specs.State.{givenOf, view}
 use Rattle.parts.proofs.PrimaryLaws.{enclosed-mapped, enclosed-curly}
 use borrow.Author.Needs.{needs}
 use Rattle.parts.proofs.primary.curly.Statement.{statement}

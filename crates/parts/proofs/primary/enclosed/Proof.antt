@@ -3,9 +3,9 @@ use mathlib.Core.Path.{refl, sym, _∙_}
 use native.Mathlib.Omega.{arith}
 use lib.Dec.{eqb}
 use borrow.Author.Tests.{eq-eqb}
-use Rattle.parts.specs.State.{givenOf, view}
+use Rattle.marks.specs.State.{givenOf, view}
 use Rattle.parts.proofs.PrimaryLaws.{minus-off, start-from, template-here, enclosed-tuple, enclosed-parens, enclosed-whole, enclosed-template, enclosed-other}
-use Rattle.parts.proofs.MarkLaws.{kind-small}
+use Rattle.marks.proofs.MarkLaws.{kind-small}
 use Rattle.parts.proofs.primary.enclosed.Statement.{statement}
 use Rattle.parts.proofs.primary.enclosed.Tie as tie
 

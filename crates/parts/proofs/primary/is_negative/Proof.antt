@@ -4,7 +4,7 @@ use Prim.Native.Nat.{ℕ, _+_}
 use lib.Dec.{eqb}
 use Rattle.words.specs.Cursor.{wholeKind}
 use Rattle.parts.proofs.PrimaryLaws.{eq-at, ne-at}
-use Rattle.parts.proofs.MarkLaws.{or-false}
+use Rattle.marks.proofs.MarkLaws.{or-false}
 use borrow.Author.Needs.{needs}
 use Rattle.parts.proofs.primary.is_negative.Statement.{statement}
 use Rattle.parts.proofs.primary.is_negative.Tie as tie

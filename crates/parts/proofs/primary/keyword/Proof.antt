@@ -5,12 +5,12 @@ use native.Mathlib.Omega.{arith}
 use Rattle.keys.specs.Store.{done}
 use Rattle.rules.specs.List.{position}
 use Rattle.keys.specs.Placed.{number}
-use Rattle.parts.specs.State.{givenOf, view, nextMark}
-use Rattle.parts.specs.Laid.{Shape}
-use Rattle.parts.proofs.Answers.{says-same}
+use Rattle.marks.specs.State.{givenOf, view, nextMark}
+use Rattle.marks.specs.Laid.{Shape}
+use Rattle.marks.proofs.Answers.{says-same}
 use Rattle.parts.proofs.PrimaryLaws.{shape-keyword, keyword-is}
-use Rattle.parts.proofs.LeafLaws.{fine-next, under-none, plain-says}
-use Rattle.parts.proofs.MarkLaws.{reached-put}
+use Rattle.marks.proofs.LeafLaws.{fine-next, under-none, plain-says}
+use Rattle.marks.proofs.MarkLaws.{reached-put}
 use Rattle.rules.specs.Primary as rule
 use borrow.Author.Needs.{needs}
 use Rattle.parts.proofs.primary.keyword.Statement.{statement}

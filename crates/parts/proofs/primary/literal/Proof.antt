@@ -5,16 +5,16 @@ use Prim.Native.Nat.{ℕ}
 use native.Mathlib.Omega.{arith}
 use Rattle.rules.specs.State.{spelling, make, end, next}
 use Rattle.keys.specs.Placed.{tree, pick, present, literalSpelling}
-use Rattle.parts.specs.State.{givenOf, view, nextMark}
-use Rattle.parts.specs.Laid.{nameRun, Shape}
+use Rattle.marks.specs.State.{givenOf, view, nextMark}
+use Rattle.marks.specs.Laid.{nameRun, Shape}
 use Rattle.parts.specs.Primary.{literalChoices, SaysNegative}
-use Rattle.parts.proofs.Answers.{says-same}
+use Rattle.marks.proofs.Answers.{says-same}
 use Rattle.parts.proofs.PrimaryLaws.{eq-at, shape-truth, literal-true, literal-false, literal-minus, literal-named, minus-next, negative-is}
-use Rattle.parts.proofs.LeafLaws.{fine-next, under-none, plain-says}
-use Rattle.parts.proofs.MarkLaws.{reached-put, reached-less}
+use Rattle.marks.proofs.LeafLaws.{fine-next, under-none, plain-says}
+use Rattle.marks.proofs.MarkLaws.{reached-put, reached-less}
 use Rattle.rules.specs.Primary as rule
 use Rattle.rules.specs.State as state
-use Rattle.parts.specs.declared.state.Mark.{Mark}
+use Rattle.marks.specs.declared.state.Mark.{Mark}
 use borrow.Author.Needs.{needs}
 use Rattle.parts.proofs.primary.literal.Statement.{statement}
 use Rattle.parts.proofs.primary.literal.Tie as tie

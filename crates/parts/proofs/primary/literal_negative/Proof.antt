@@ -2,7 +2,7 @@
 use mathlib.Core.Path.{sym, _∙_}
 use Rattle.rules.specs.State.{spelling}
 use Rattle.keys.specs.Placed.{pick, present, literalSpelling}
-use Rattle.parts.specs.State.{givenOf, view}
+use Rattle.marks.specs.State.{givenOf, view}
 use Rattle.parts.proofs.PrimaryLaws.{shape-literal, other-number}
 use Rattle.rules.specs.Primary as rule
 use Rattle.rules.specs.State as state

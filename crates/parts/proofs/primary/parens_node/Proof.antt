@@ -1,14 +1,14 @@
 -- No `)`; a node about the type; or the type itself.
 use mathlib.Core.Path.{sym, ap, subst}
 use native.Mathlib.Omega.{arith}
-use Rattle.parts.specs.State.{givenOf, view, nextMark}
-use Rattle.parts.specs.Says.{Says}
+use Rattle.marks.specs.State.{givenOf, view, nextMark}
+use Rattle.marks.specs.Says.{Says}
 use Rattle.parts.specs.Primary.{closeParens}
-use Rattle.parts.proofs.Answers.{says-same, says-as, says-refused, says-read}
+use Rattle.marks.proofs.Answers.{says-same, says-as, says-refused, says-read}
 use Rattle.parts.proofs.PrimaryLaws.{eq-at, ne-at, shape-parens, parens-kept, parens-dropped}
-use Rattle.parts.proofs.LeafLaws.{fine-next, oneKid, about-says, stands-on}
-use Rattle.parts.proofs.MarkLaws.{reached-put, reached-refused}
-use Rattle.parts.specs.declared.state.Mark.{Mark}
+use Rattle.marks.proofs.LeafLaws.{fine-next, oneKid, about-says, stands-on}
+use Rattle.marks.proofs.MarkLaws.{reached-put, reached-refused}
+use Rattle.marks.specs.declared.state.Mark.{Mark}
 use borrow.Author.Needs.{needs}
 use Rattle.parts.proofs.primary.parens_node.Statement.{statement}
 use Rattle.parts.proofs.primary.parens_node.Tie as tie

@@ -3,9 +3,9 @@ use mathlib.Core.Path.{refl, sym, ap, _∙_}
 use mathlib.Core.List.{[]}
 use native.Mathlib.Omega.{arith}
 use Rattle.words.specs.Test.{among}
-use Rattle.parts.specs.State.{givenOf, view}
+use Rattle.marks.specs.State.{givenOf, view}
 use Rattle.parts.proofs.PrimaryLaws.{eq-at, ne-at, keyword-inside, negative-inside, minus-off, noGiven, start-from, primary-keyword, primary-this, primary-literal, primary-negative, primary-worded, literal-at, negative-at, literal-here, negative-here}
-use Rattle.parts.proofs.MarkLaws.{kind-inside}
+use Rattle.marks.proofs.MarkLaws.{kind-inside}
 use Rattle.rules.specs.Primary as rule
 use borrow.Author.Needs.{needs}
 use Rattle.parts.proofs.primary.primary_start.Statement.{statement}

@@ -1,8 +1,8 @@
 -- The name, and the node over it.
 use native.Mathlib.Omega.{arith}
-use Rattle.parts.specs.State.{namedMark}
-use Rattle.parts.proofs.LeafLaws.{fine-named, under-none, named-says}
-use Rattle.parts.proofs.MarkLaws.{reached-put}
+use Rattle.marks.specs.State.{namedMark}
+use Rattle.marks.proofs.LeafLaws.{fine-named, under-none, named-says}
+use Rattle.marks.proofs.MarkLaws.{reached-put}
 use borrow.Author.Needs.{needs}
 use Rattle.parts.proofs.primary.spelled.Statement.{statement}
 use Rattle.parts.proofs.primary.spelled.Tie as tie

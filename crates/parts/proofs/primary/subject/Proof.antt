@@ -2,14 +2,14 @@
 use mathlib.Core.Path.{_≡_, refl, ap, _∙_, subst}
 use Prim.Native.Nat.{_+_, _*_}
 use native.Mathlib.Omega.{arith}
-use Rattle.parts.specs.State.{givenOf, view}
-use Rattle.parts.specs.Laid.{Spoken}
-use Rattle.parts.specs.Says.{optNames}
-use Rattle.parts.proofs.BuiltLaws.{spoken-from}
+use Rattle.marks.specs.State.{givenOf, view}
+use Rattle.marks.specs.Laid.{Spoken}
+use Rattle.marks.specs.Says.{optNames}
+use Rattle.marks.proofs.BuiltLaws.{spoken-from}
 use Rattle.keys.specs.Bits.{unit}
 use Rattle.rules.specs.Function.{subject}
-use Rattle.parts.specs.List.{here}
-use Rattle.parts.specs.declared.state.Mark.{Mark}
+use Rattle.marks.specs.List.{here}
+use Rattle.marks.specs.declared.state.Mark.{Mark}
 use borrow.Author.Needs.{needs}
 use Rattle.parts.proofs.primary.subject.Statement.{statement}
 use Rattle.parts.proofs.primary.subject.Tie as tie

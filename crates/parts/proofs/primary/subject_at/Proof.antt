@@ -1,9 +1,9 @@
 -- This, which is no name; or a name.
 use mathlib.Core.Path.{ap}
 use native.Mathlib.Omega.{arith}
-use Rattle.parts.proofs.BuiltLaws.{spoken-none}
+use Rattle.marks.proofs.BuiltLaws.{spoken-none}
 use Rattle.parts.proofs.PrimaryLaws.{eq-at, ne-at}
-use Rattle.parts.specs.declared.state.Mark.{Mark}
+use Rattle.marks.specs.declared.state.Mark.{Mark}
 use borrow.Author.Needs.{needs}
 use Rattle.parts.proofs.primary.subject_at.Statement.{statement}
 use Rattle.parts.proofs.primary.subject_at.Tie as tie

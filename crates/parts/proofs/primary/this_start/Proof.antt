@@ -1,7 +1,7 @@
 -- By whether `is` follows on the line.
 use mathlib.Core.Path.{sym, _∙_}
 use borrow.Author.Tests.{eq-eqb}
-use Rattle.parts.specs.State.{givenOf, view}
+use Rattle.marks.specs.State.{givenOf, view}
 use Rattle.parts.proofs.PrimaryLaws.{this-alone, this-predicate}
 use borrow.Author.Needs.{needs}
 use Rattle.parts.proofs.primary.this_start.Statement.{statement}

@@ -2,7 +2,7 @@
 use mathlib.Core.Path.{sym, _∙_}
 use mathlib.Core.List.{[]}
 use native.Mathlib.Omega.{arith}
-use Rattle.parts.specs.State.{givenOf, view}
+use Rattle.marks.specs.State.{givenOf, view}
 use Rattle.parts.proofs.PrimaryLaws.{eq-at, ne-at, assertion-inside, noGiven, start-from, worded-assertion, worded-typeof, worded-import, worded-enclosed}
 use borrow.Author.Needs.{needs}
 use Rattle.parts.proofs.primary.worded.Statement.{statement}

@@ -2,7 +2,7 @@
 use mathlib.Core.Path.{sym, _∙_, subst}
 use Prim.Native.Nat.{_^_, _<_}
 use native.Mathlib.Omega.{arith}
-use Rattle.parts.proofs.MarkLaws.{along-moved, along-then}
+use Rattle.marks.proofs.MarkLaws.{along-moved, along-then}
 use Rattle.parts.proofs.LabelLaws.{head-label, head-plain}
 use Rattle.parts.specs.declared.tuple.Label.{Label}
 use borrow.Author.Needs.{needs}

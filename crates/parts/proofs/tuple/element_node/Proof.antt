@@ -4,12 +4,12 @@ use mathlib.Core.List.{List, []}
 use native.Mathlib.Omega.{arith}
 use Rattle.keys.specs.Placed.{Spelling}
 use Rattle.keys.specs.Store.{_⊕_}
-use Rattle.parts.specs.State.{view}
-use Rattle.parts.specs.Laid.{runIn, namesRun, Laid}
-use Rattle.parts.proofs.Answers.{says-same}
+use Rattle.marks.specs.State.{view}
+use Rattle.marks.specs.Laid.{runIn, namesRun, Laid}
+use Rattle.marks.proofs.Answers.{says-same}
 use Rattle.parts.proofs.LabelLaws.{after-label, after-rest, after-type, names-label, names-none}
 use Rattle.parts.proofs.MemberLaws.{says-type, says-rest}
-use Rattle.parts.proofs.MarkLaws.{reached-put}
+use Rattle.marks.proofs.MarkLaws.{reached-put}
 use borrow.Author.Needs.{needs}
 use Rattle.parts.proofs.tuple.element_node.Statement.{statement}
 use Rattle.parts.proofs.tuple.element_node.Tie as tie

@@ -3,9 +3,9 @@ use mathlib.Core.Path.{_≡_, sym, ap, _∙_, subst}
 use native.Mathlib.Omega.{arith}
 use lib.ListN.{length}
 use Rattle.words.specs.Kind.{Question}
-use Rattle.parts.specs.State.{Inside, pastMark, namedMark}
+use Rattle.marks.specs.State.{Inside, pastMark, namedMark}
 use Rattle.parts.proofs.LabelLaws.{label-inside, colon-inside, label-made, along-label}
-use Rattle.parts.specs.declared.state.Mark.{Mark}
+use Rattle.marks.specs.declared.state.Mark.{Mark}
 use borrow.Author.Needs.{needs}
 use Rattle.parts.proofs.tuple.labelled.Statement.{statement}
 use Rattle.parts.proofs.tuple.labelled.Tie as tie

@@ -3,8 +3,8 @@ use mathlib.Core.Path.{refl, sym, ap₂, _∙_}
 use native.Mathlib.Omega.{arith}
 use Rattle.words.specs.Cursor.{endByte}
 use Rattle.parts.proofs.MemberLaws.{member-refused, member-dots, member-asked, member-rest, reached-noted}
-use Rattle.parts.proofs.MarkLaws.{fine-noted, fine-put, reached-put, reached-less}
-use Rattle.parts.proofs.ReportLaws.{reports-high}
+use Rattle.marks.proofs.MarkLaws.{fine-noted, fine-put, reached-put, reached-less}
+use Rattle.marks.proofs.ReportLaws.{reports-high}
 use borrow.Author.Needs.{needs}
 use Rattle.parts.proofs.tuple.member.Statement.{statement}
 use Rattle.parts.proofs.tuple.member.Tie as tie

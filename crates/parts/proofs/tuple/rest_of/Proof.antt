@@ -3,8 +3,8 @@ use mathlib.Core.Path.{refl}
 use native.Mathlib.Omega.{arith}
 use borrow.Author.Tests.{not-true, not-false}
 use Rattle.parts.proofs.MemberLaws.{rest-none, rest-full, rest-about, reached-noted}
-use Rattle.parts.proofs.MarkLaws.{fine-noted, reached-put}
-use Rattle.parts.proofs.ReportLaws.{reports-high}
+use Rattle.marks.proofs.MarkLaws.{fine-noted, reached-put}
+use Rattle.marks.proofs.ReportLaws.{reports-high}
 use borrow.Author.Needs.{needs}
 use Rattle.parts.proofs.tuple.rest_of.Statement.{statement}
 use Rattle.parts.proofs.tuple.rest_of.Tie as tie

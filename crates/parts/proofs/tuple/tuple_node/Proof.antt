@@ -2,9 +2,9 @@
 use mathlib.Core.Path.{sym, subst}
 use native.Mathlib.Omega.{arith}
 use lib.ListN.{length}
-use Rattle.parts.specs.State.{Fine, Under}
-use Rattle.parts.specs.Node.{Put, MakesList}
-use Rattle.parts.specs.declared.state.Mark.{Mark}
+use Rattle.marks.specs.State.{Fine, Under}
+use Rattle.marks.specs.Node.{Put, MakesList}
+use Rattle.marks.specs.declared.state.Mark.{Mark}
 use borrow.Author.Needs.{needs}
 use Rattle.parts.proofs.tuple.tuple_node.Statement.{statement}
 use Rattle.parts.proofs.tuple.tuple_node.Tie as tie

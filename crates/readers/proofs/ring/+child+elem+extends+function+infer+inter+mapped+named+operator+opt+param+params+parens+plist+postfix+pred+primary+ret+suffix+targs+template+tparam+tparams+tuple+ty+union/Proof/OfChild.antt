@@ -3,12 +3,12 @@ use Prim.Native.Nat.{ℕ, _-_, _*_, _≤_}
 use native.Mathlib.Omega.{arith}
 use borrow.Author.Needs.{needs}
 use mathlib.Core.Path.{refl, sym, _∙_, ap}
-use Rattle.parts.specs.declared.state.Listed.{Listed}
+use Rattle.marks.specs.declared.state.Listed.{Listed}
 use Rattle.readers.proofs.Fields.{same-listed}
 use Rattle.readers.proofs.ChildLaws.{child-read, child-refused}
 use Rattle.readers.proofs.ReadyLaws.{ready}
-use Rattle.parts.proofs.node.link.Reads as link-reads
-use Rattle.parts.proofs.state.Listed.refused.Reads as state-Listed-refused-reads
+use Rattle.marks.proofs.node.link.Reads as link-reads
+use Rattle.marks.proofs.state.Listed.refused.Reads as state-Listed-refused-reads
 use Rattle.readers.proofs.ring.child.Reads as child
 use Rattle.readers.proofs.ring.ty.Reads as ty
 use Rattle.readers.proofs.ring.+child+elem+extends+function+infer+inter+mapped+named+operator+opt+param+params+parens+plist+postfix+pred+primary+ret+suffix+targs+template+tparam+tparams+tuple+ty+union.Lts-child as lts

@@ -4,18 +4,18 @@ use native.Mathlib.Omega.{arith}
 use borrow.Author.Needs.{needs}
 use mathlib.Core.Path.{_∙_}
 use Rattle.keys.specs.Placed.{join}
-use Rattle.parts.proofs.Answers.{says-same, says-as, says-refused, says-stop, then-read, then-refused}
-use Rattle.parts.proofs.MarkLaws.{is-here, is-not-here}
+use Rattle.marks.proofs.Answers.{says-same, says-as, says-refused, says-stop, then-read, then-refused}
+use Rattle.marks.proofs.MarkLaws.{is-here, is-not-here}
 use Rattle.parts.proofs.RingLaws.{conditional-is, question-is, colon-is}
 use Rattle.parts.proofs.RingShapes.{shape-conditional}
 use Rattle.readers.proofs.Fields.{same-kids, same-answer}
 use Rattle.readers.proofs.ChildLaws.{built-child}
 use Rattle.readers.proofs.TypeLaws.{question-none, question-some, colon-none, colon-some}
 use Rattle.readers.proofs.ReadyLaws.{ready}
-use Rattle.parts.proofs.node.put.Reads as put-reads
-use Rattle.parts.proofs.state.Answer.refused.Reads as state-Answer-refused-reads
-use Rattle.parts.proofs.state.Kids.one.Reads as one-reads
-use Rattle.parts.proofs.state.kind_at.Reads as kind-at-reads
+use Rattle.marks.proofs.node.put.Reads as put-reads
+use Rattle.marks.proofs.state.Answer.refused.Reads as state-Answer-refused-reads
+use Rattle.marks.proofs.state.Kids.one.Reads as one-reads
+use Rattle.marks.proofs.state.kind_at.Reads as kind-at-reads
 use Rattle.readers.proofs.ring.child.Reads as child
 use Rattle.readers.proofs.ring.extends.Reads as extends
 use Rattle.readers.proofs.ring.+child+elem+extends+function+infer+inter+mapped+named+operator+opt+param+params+parens+plist+postfix+pred+primary+ret+suffix+targs+template+tparam+tparams+tuple+ty+union.Lts-extends as lts

@@ -4,8 +4,8 @@ use native.Mathlib.Omega.{arith}
 use borrow.Author.Needs.{needs}
 use mathlib.Core.Path.{sym, _∙_, ap}
 use Rattle.parts.proofs.RingLaws.{signature-is}
-use Rattle.parts.proofs.Answers.{then-read, then-refused, says-same, says-as, says-refused, says-stop, says-stops}
-use Rattle.parts.proofs.MarkLaws.{is-here, is-not-here}
+use Rattle.marks.proofs.Answers.{then-read, then-refused, says-same, says-as, says-refused, says-stop, says-stops}
+use Rattle.marks.proofs.MarkLaws.{is-here, is-not-here}
 use Rattle.parts.specs.declared.function.This.{This}
 use Rattle.readers.proofs.Fields.{same-mark, same-answer}
 use Rattle.readers.proofs.MovedLaws.{says-moved}
@@ -14,8 +14,8 @@ use Rattle.readers.proofs.ReadyLaws.{ready}
 use Rattle.parts.proofs.function.Params.with.Reads as with-reads
 use Rattle.parts.proofs.function.function_head.Reads as function-head-reads
 use Rattle.parts.proofs.function.function_node.Reads as function-node-reads
-use Rattle.parts.proofs.state.Answer.refused.Reads as state-Answer-refused-reads
-use Rattle.parts.proofs.state.kind_at.Reads as kind-at-reads
+use Rattle.marks.proofs.state.Answer.refused.Reads as state-Answer-refused-reads
+use Rattle.marks.proofs.state.kind_at.Reads as kind-at-reads
 use Rattle.readers.proofs.ring.function.Reads as function
 use Rattle.readers.proofs.ring.params.Reads as params
 use Rattle.readers.proofs.ring.ret.Reads as ret

@@ -2,10 +2,10 @@
 use Prim.Native.Nat.{ℕ}
 use native.Mathlib.Omega.{arith}
 use borrow.Author.Needs.{needs}
-use Rattle.parts.specs.State.{view, givenOf}
+use Rattle.marks.specs.State.{view, givenOf}
 use Rattle.readers.specs.Ring.{below}
-use Rattle.parts.proofs.Answers.{says-as, says-stop}
-use Rattle.parts.proofs.MarkLaws.{is-here, is-not-here}
+use Rattle.marks.proofs.Answers.{says-as, says-stop}
+use Rattle.marks.proofs.MarkLaws.{is-here, is-not-here}
 use Rattle.parts.proofs.PostfixLaws.{infer-refused}
 use Rattle.readers.proofs.Fields.{same-kids, same-answer}
 use Rattle.readers.proofs.TrialLaws.{bare-put, trial-refused, trial-put}
@@ -13,11 +13,11 @@ use Rattle.readers.proofs.ReadyLaws.{ready}
 use Rattle.parts.proofs.infer.dropped.Reads as dropped-reads
 use Rattle.parts.proofs.infer.infer_head.Reads as infer-head-reads
 use Rattle.parts.proofs.infer.infer_node.Reads as infer-node-reads
-use Rattle.parts.proofs.node.put.Reads as put-reads
-use Rattle.parts.proofs.state.Answer.refused.Reads as state-Answer-refused-reads
-use Rattle.parts.proofs.state.Begin.at.Reads as at-reads
-use Rattle.parts.proofs.state.Kids.none.Reads as state-Kids-none-reads
-use Rattle.parts.proofs.state.kind_at.Reads as kind-at-reads
+use Rattle.marks.proofs.node.put.Reads as put-reads
+use Rattle.marks.proofs.state.Answer.refused.Reads as state-Answer-refused-reads
+use Rattle.marks.proofs.state.Begin.at.Reads as at-reads
+use Rattle.marks.proofs.state.Kids.none.Reads as state-Kids-none-reads
+use Rattle.marks.proofs.state.kind_at.Reads as kind-at-reads
 use Rattle.readers.proofs.ring.infer.Reads as infer
 use Rattle.readers.proofs.ring.ty.Reads as ty
 use Rattle.readers.proofs.ring.+child+elem+extends+function+infer+inter+mapped+named+operator+opt+param+params+parens+plist+postfix+pred+primary+ret+suffix+targs+template+tparam+tparams+tuple+ty+union.Lts-infer as lts

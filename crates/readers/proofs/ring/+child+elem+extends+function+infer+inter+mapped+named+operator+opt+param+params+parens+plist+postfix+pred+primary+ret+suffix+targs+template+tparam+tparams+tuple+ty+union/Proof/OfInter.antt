@@ -8,10 +8,10 @@ use Rattle.words.specs.Kind.{Amp}
 use Rattle.keys.specs.Placed as node
 use Rattle.rules.specs.Union as unions
 use Rattle.rules.specs.Operator as operators
-use Rattle.parts.specs.State.{view, givenOf, Under, placeOf}
-use Rattle.parts.specs.Laid.{was}
+use Rattle.marks.specs.State.{view, givenOf, Under, placeOf}
+use Rattle.marks.specs.Laid.{was}
 use Rattle.readers.specs.Ring.{below}
-use Rattle.parts.proofs.MarkLaws.{is-here, is-not-here}
+use Rattle.marks.proofs.MarkLaws.{is-here, is-not-here}
 use Rattle.parts.proofs.RingLaws.{intersection-is}
 use Rattle.parts.proofs.RingShapes.{shape-intersection}
 use Rattle.readers.proofs.Kept.{Kept}
@@ -19,10 +19,10 @@ use Rattle.readers.proofs.Fields.{same-kids}
 use Rattle.readers.proofs.Loops.{PartsTurn}
 use Rattle.readers.proofs.PartsLaws.{parts-start, part-refused, parts-again, parts-joined}
 use Rattle.readers.proofs.ReadyLaws.{ready}
-use Rattle.parts.proofs.node.link.Reads as link-reads
-use Rattle.parts.proofs.state.Kids.none.Reads as state-Kids-none-reads
-use Rattle.parts.proofs.state.kind_at.Reads as kind-at-reads
-use Rattle.parts.proofs.state.past.Reads as past-reads
+use Rattle.marks.proofs.node.link.Reads as link-reads
+use Rattle.marks.proofs.state.Kids.none.Reads as state-Kids-none-reads
+use Rattle.marks.proofs.state.kind_at.Reads as kind-at-reads
+use Rattle.marks.proofs.state.past.Reads as past-reads
 use Rattle.parts.proofs.union.joined.Reads as joined-reads
 use Rattle.readers.proofs.ring.inter.Reads as inter
 use Rattle.readers.proofs.ring.operator.Reads as operator

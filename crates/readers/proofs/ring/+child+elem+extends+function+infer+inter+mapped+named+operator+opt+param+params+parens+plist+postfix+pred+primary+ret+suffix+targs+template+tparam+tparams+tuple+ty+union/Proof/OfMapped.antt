@@ -3,7 +3,7 @@ use Prim.Native.Nat.{ℕ, _-_, _*_, _≤_}
 use native.Mathlib.Omega.{arith}
 use borrow.Author.Needs.{needs}
 use mathlib.Core.Path.{refl, _∙_}
-use Rattle.parts.proofs.Answers.{then-read, then-refused, says-same, says-as, says-stop}
+use Rattle.marks.proofs.Answers.{then-read, then-refused, says-same, says-as, says-stop}
 use Rattle.parts.proofs.MappingLaws.{mapped-step, behind-step, mappedContent}
 use Rattle.readers.proofs.Fields.{same-kids, same-answer}
 use Rattle.readers.proofs.MovedLaws.{built-moved}
@@ -14,10 +14,10 @@ use Rattle.parts.proofs.mapped.mapped_choices.Reads as mapped-choices-reads
 use Rattle.parts.proofs.mapped.mapped_head.Reads as mapped-head-reads
 use Rattle.parts.proofs.mapped.mapped_middle.Reads as mapped-middle-reads
 use Rattle.parts.proofs.mapped.mapped_node.Reads as mapped-node-reads
-use Rattle.parts.proofs.node.opt_bit.Reads as opt-bit-reads
-use Rattle.parts.proofs.state.Answer.refused.Reads as state-Answer-refused-reads
-use Rattle.parts.proofs.state.Begin.at.Reads as at-reads
-use Rattle.parts.proofs.state.Kids.none.Reads as state-Kids-none-reads
+use Rattle.marks.proofs.node.opt_bit.Reads as opt-bit-reads
+use Rattle.marks.proofs.state.Answer.refused.Reads as state-Answer-refused-reads
+use Rattle.marks.proofs.state.Begin.at.Reads as at-reads
+use Rattle.marks.proofs.state.Kids.none.Reads as state-Kids-none-reads
 use Rattle.readers.proofs.ring.child.Reads as child
 use Rattle.readers.proofs.ring.mapped.Reads as mapped
 use Rattle.readers.proofs.ring.opt.Reads as opt

@@ -4,17 +4,17 @@ use native.Mathlib.Omega.{arith}
 use borrow.Author.Needs.{needs}
 use mathlib.Core.Path.{_∙_}
 use Rattle.parts.specs.Arguments.{namesOf}
-use Rattle.parts.proofs.Answers.{then-read, then-refused, says-same, says-as, says-stop}
+use Rattle.marks.proofs.Answers.{then-read, then-refused, says-same, says-as, says-stop}
 use Rattle.parts.proofs.NamingLaws.{name-at}
-use Rattle.parts.proofs.BuiltLaws.{laid-spoken}
+use Rattle.marks.proofs.BuiltLaws.{laid-spoken}
 use Rattle.readers.proofs.Fields.{same-answer}
 use Rattle.readers.proofs.ChildLaws.{built-behind}
 use Rattle.readers.proofs.NamedLaws.{named-read}
 use Rattle.readers.proofs.ReadyLaws.{ready}
 use Rattle.parts.proofs.arguments.named_head.Reads as named-head-reads
 use Rattle.parts.proofs.arguments.named_node.Reads as named-node-reads
-use Rattle.parts.proofs.state.Answer.refused.Reads as state-Answer-refused-reads
-use Rattle.parts.proofs.state.Begin.at.Reads as at-reads
+use Rattle.marks.proofs.state.Answer.refused.Reads as state-Answer-refused-reads
+use Rattle.marks.proofs.state.Begin.at.Reads as at-reads
 use Rattle.readers.proofs.ring.named.Reads as named
 use Rattle.readers.proofs.ring.targs.Reads as targs
 use Rattle.readers.proofs.ring.+child+elem+extends+function+infer+inter+mapped+named+operator+opt+param+params+parens+plist+postfix+pred+primary+ret+suffix+targs+template+tparam+tparams+tuple+ty+union.Lts-named as lts

@@ -2,15 +2,15 @@
 use Prim.Native.Nat.{ℕ}
 use native.Mathlib.Omega.{arith}
 use borrow.Author.Needs.{needs}
-use Rattle.parts.specs.State.{view, givenOf}
+use Rattle.marks.specs.State.{view, givenOf}
 use Rattle.readers.specs.Ring.{below}
-use Rattle.parts.proofs.MarkLaws.{is-here, is-not-here}
+use Rattle.marks.proofs.MarkLaws.{is-here, is-not-here}
 use Rattle.parts.proofs.RingLaws.{operand-infer, operand-postfix}
 use Rattle.readers.proofs.OperandLaws.{operand-refused, operand-about}
 use Rattle.readers.proofs.ReadyLaws.{ready}
 use Rattle.parts.proofs.operator.past_operators.Reads as past-operators-reads
 use Rattle.parts.proofs.operator.put_operators.Reads as put-operators-reads
-use Rattle.parts.proofs.state.kind_at.Reads as kind-at-reads
+use Rattle.marks.proofs.state.kind_at.Reads as kind-at-reads
 use Rattle.readers.proofs.ring.infer.Reads as infer
 use Rattle.readers.proofs.ring.operator.Reads as operator
 use Rattle.readers.proofs.ring.postfix.Reads as postfix

@@ -2,12 +2,12 @@
 use Prim.Native.Nat.{ℕ, _-_, _*_, _≤_}
 use native.Mathlib.Omega.{arith}
 use borrow.Author.Needs.{needs}
-use Rattle.parts.specs.State.{givenOf}
-use Rattle.parts.proofs.MarkLaws.{is-here, is-not-here}
+use Rattle.marks.specs.State.{givenOf}
+use Rattle.marks.proofs.MarkLaws.{is-here, is-not-here}
 use Rattle.readers.specs.Ring.{below}
 use Rattle.readers.proofs.ChildLaws.{option-absent, option-there}
 use Rattle.readers.proofs.ReadyLaws.{ready}
-use Rattle.parts.proofs.state.kind_at.Reads as kind-at-reads
+use Rattle.marks.proofs.state.kind_at.Reads as kind-at-reads
 use Rattle.readers.proofs.ring.child.Reads as child
 use Rattle.readers.proofs.ring.opt.Reads as opt
 use Rattle.readers.proofs.ring.+child+elem+extends+function+infer+inter+mapped+named+operator+opt+param+params+parens+plist+postfix+pred+primary+ret+suffix+targs+template+tparam+tparams+tuple+ty+union.Lts-opt as lts

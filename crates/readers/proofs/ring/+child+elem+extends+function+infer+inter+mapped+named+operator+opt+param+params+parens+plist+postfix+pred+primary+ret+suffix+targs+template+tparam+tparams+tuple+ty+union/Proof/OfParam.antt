@@ -4,19 +4,19 @@ use native.Mathlib.Omega.{arith}
 use borrow.Author.Needs.{needs}
 use mathlib.Core.Path.{_∙_}
 use Rattle.words.specs.Kind.{Dot3}
-use Rattle.parts.specs.List.{here}
-use Rattle.parts.proofs.Answers.{says-as, says-same, says-stop, then-read, then-refused}
+use Rattle.marks.specs.List.{here}
+use Rattle.marks.proofs.Answers.{says-as, says-same, says-stop, then-read, then-refused}
 use Rattle.parts.proofs.RingLaws.{parameter-is}
 use Rattle.parts.proofs.ParameterLaws.{shape-parameter}
 use Rattle.readers.proofs.Fields.{same-kids, same-answer}
 use Rattle.readers.proofs.ChildLaws.{built-spoken, shape-as, make-first}
 use Rattle.readers.proofs.ReadyLaws.{ready}
 use Rattle.parts.proofs.function.param_head.Reads as param-head-reads
-use Rattle.parts.proofs.node.opt_bit.Reads as opt-bit-reads
-use Rattle.parts.proofs.node.put.Reads as put-reads
-use Rattle.parts.proofs.state.Answer.refused.Reads as state-Answer-refused-reads
-use Rattle.parts.proofs.state.Begin.at.Reads as at-reads
-use Rattle.parts.proofs.state.Kids.none.Reads as state-Kids-none-reads
+use Rattle.marks.proofs.node.opt_bit.Reads as opt-bit-reads
+use Rattle.marks.proofs.node.put.Reads as put-reads
+use Rattle.marks.proofs.state.Answer.refused.Reads as state-Answer-refused-reads
+use Rattle.marks.proofs.state.Begin.at.Reads as at-reads
+use Rattle.marks.proofs.state.Kids.none.Reads as state-Kids-none-reads
 use Rattle.readers.proofs.ring.opt.Reads as opt
 use Rattle.readers.proofs.ring.param.Reads as param
 use Rattle.readers.proofs.ring.+child+elem+extends+function+infer+inter+mapped+named+operator+opt+param+params+parens+plist+postfix+pred+primary+ret+suffix+targs+template+tparam+tparams+tuple+ty+union.Lts-param as lts

@@ -4,12 +4,12 @@ use native.Mathlib.Omega.{arith}
 use borrow.Author.Needs.{needs}
 use mathlib.Core.Path.{ap, subst, sym}
 use Rattle.keys.specs.Placed.{absent}
-use Rattle.parts.specs.State.{givenOf, Under}
+use Rattle.marks.specs.State.{givenOf, Under}
 use Rattle.parts.specs.Function.{freedUsed}
 use Rattle.readers.specs.Ring.{below}
 use Rattle.parts.proofs.ParameterListLaws.{opens-refused, opens-plain}
 use Rattle.parts.specs.declared.function.This.{This}
-use Rattle.parts.specs.declared.state.Kids.{Kids}
+use Rattle.marks.specs.declared.state.Kids.{Kids}
 use Rattle.readers.proofs.Fields.{same-params, same-kids}
 use Rattle.readers.proofs.MovedLaws.{built-moved}
 use Rattle.readers.proofs.ParamsLaws.{freed-low, freed-high, bit-low, under-this, params-refused, this-none, params-plain, params-this-refused, params-this-stops, params-this}

@@ -1,12 +1,12 @@
 -- The needs of `parens`.
 use Prim.Native.Nat.{ℕ}
 use native.Mathlib.Omega.{arith}
-use Rattle.parts.proofs.Answers.{says-stops, says-same}
+use Rattle.marks.proofs.Answers.{says-stops, says-same}
 use Rattle.parts.proofs.PrimaryLaws.{brackets-is}
 use Rattle.readers.proofs.TypeLaws.{brackets-from}
 use Rattle.readers.proofs.ReadyLaws.{ready}
 use Rattle.parts.proofs.primary.parens_node.Reads as parens-node-reads
-use Rattle.parts.proofs.state.Begin.at.Reads as at-reads
+use Rattle.marks.proofs.state.Begin.at.Reads as at-reads
 use Rattle.readers.proofs.ring.parens.Reads as parens
 use Rattle.readers.proofs.ring.ty.Reads as ty
 use Rattle.readers.proofs.ring.+child+elem+extends+function+infer+inter+mapped+named+operator+opt+param+params+parens+plist+postfix+pred+primary+ret+suffix+targs+template+tparam+tparams+tuple+ty+union.Lts-parens as lts

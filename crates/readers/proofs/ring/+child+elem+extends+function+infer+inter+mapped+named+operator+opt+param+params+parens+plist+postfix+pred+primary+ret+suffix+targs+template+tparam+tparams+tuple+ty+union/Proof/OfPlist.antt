@@ -6,13 +6,13 @@ use mathlib.Core.Path.{_∙_}
 use mathlib.Core.List.{List}
 use lib.ListN.{length}
 use Rattle.parts.proofs.ParameterListLaws.{parameters-refused, parameters-stop}
-use Rattle.parts.proofs.MarkLaws.{is-here, is-not-here}
+use Rattle.marks.proofs.MarkLaws.{is-here, is-not-here}
 use Rattle.words.specs.Kind.{Dot3}
 use Rattle.keys.specs.Placed.{Opt}
 use Rattle.keys.specs.Store.{Run}
 use Rattle.rules.specs.Function.{ThisParameter}
-use Rattle.parts.specs.State.{view, givenOf, Spelt, Under, placeOf}
-use Rattle.parts.specs.Laid.{Was, BuiltAt}
+use Rattle.marks.specs.State.{view, givenOf, Spelt, Under, placeOf}
+use Rattle.marks.specs.Laid.{Was, BuiltAt}
 use Rattle.readers.specs.Ring.{below}
 use Rattle.readers.proofs.Kept.{Kept}
 use Rattle.readers.proofs.Fields.{same-params}
@@ -24,8 +24,8 @@ use Rattle.parts.proofs.function.Params.all.Reads as all-reads
 use Rattle.parts.proofs.function.Params.refused.Reads as function-Params-refused-reads
 use Rattle.parts.proofs.function.no_param.Reads as no-param-reads
 use Rattle.parts.proofs.function.separated.Reads as separated-reads
-use Rattle.parts.proofs.node.link.Reads as link-reads
-use Rattle.parts.proofs.state.kind_at.Reads as kind-at-reads
+use Rattle.marks.proofs.node.link.Reads as link-reads
+use Rattle.marks.proofs.state.kind_at.Reads as kind-at-reads
 use Rattle.readers.proofs.ring.param.Reads as param
 use Rattle.readers.proofs.ring.plist.Reads as plist
 use Rattle.readers.proofs.ring.+child+elem+extends+function+infer+inter+mapped+named+operator+opt+param+params+parens+plist+postfix+pred+primary+ret+suffix+targs+template+tparam+tparams+tuple+ty+union.Lts-plist as lts

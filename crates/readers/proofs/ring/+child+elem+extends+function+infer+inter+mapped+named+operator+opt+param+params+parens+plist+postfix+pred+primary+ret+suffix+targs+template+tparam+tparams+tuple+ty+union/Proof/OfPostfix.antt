@@ -7,16 +7,16 @@ use mathlib.Core.List.{List, []}
 use lib.ListN.{length}
 use Rattle.words.specs.Limits.{tallest}
 use Rattle.keys.specs.Placed.{Placed}
-use Rattle.parts.specs.State.{view, givenOf, Spelt, placeOf}
-use Rattle.parts.specs.Laid.{Was, was, Stands}
+use Rattle.marks.specs.State.{view, givenOf, Spelt, placeOf}
+use Rattle.marks.specs.Laid.{Was, was, Stands}
 use Rattle.readers.specs.Ring.{below}
-use Rattle.parts.proofs.Answers.{says-stops}
+use Rattle.marks.proofs.Answers.{says-stops}
 use Rattle.readers.proofs.Kept.{Kept}
 use Rattle.readers.proofs.Loops.{SuffixTurn}
 use Rattle.readers.proofs.SuffixLaws.{suffixed-inside, postfix-is, marks-begin, marks-turn, marks-end, mark-refused, marks-again}
 use Rattle.readers.proofs.ReadyLaws.{ready}
 use Rattle.parts.proofs.postfix.suffixed.Reads as suffixed-reads
-use Rattle.parts.proofs.state.Begin.at.Reads as at-reads
+use Rattle.marks.proofs.state.Begin.at.Reads as at-reads
 use Rattle.readers.proofs.ring.postfix.Reads as postfix
 use Rattle.readers.proofs.ring.primary.Reads as primary
 use Rattle.readers.proofs.ring.suffix.Reads as suffix

@@ -2,14 +2,14 @@
 use Prim.Native.Nat.{ℕ}
 use native.Mathlib.Omega.{arith}
 use borrow.Author.Needs.{needs}
-use Rattle.parts.proofs.Answers.{says-same, says-as, says-stop}
+use Rattle.marks.proofs.Answers.{says-same, says-as, says-stop}
 use Rattle.readers.proofs.Fields.{same-answer}
 use Rattle.readers.proofs.StartLaws.{start-is, start-has}
 use Rattle.readers.proofs.ReadyLaws.{ready}
 use Rattle.parts.proofs.primary.keyword.Reads as keyword-reads
 use Rattle.parts.proofs.primary.literal.Reads as literal-reads
 use Rattle.parts.proofs.primary.primary_start.Reads as primary-start-reads
-use Rattle.parts.proofs.state.Answer.refused.Reads as state-Answer-refused-reads
+use Rattle.marks.proofs.state.Answer.refused.Reads as state-Answer-refused-reads
 use Rattle.readers.proofs.ring.mapped.Reads as mapped
 use Rattle.readers.proofs.ring.named.Reads as named
 use Rattle.readers.proofs.ring.parens.Reads as parens

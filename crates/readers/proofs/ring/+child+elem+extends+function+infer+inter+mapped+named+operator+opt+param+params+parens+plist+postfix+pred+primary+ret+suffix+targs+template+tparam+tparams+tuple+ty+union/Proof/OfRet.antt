@@ -4,8 +4,8 @@ use native.Mathlib.Omega.{arith}
 use borrow.Author.Needs.{needs}
 use mathlib.Core.Path.{sym, _∙_}
 use mathlib.Core.List.{[]}
-use Rattle.parts.specs.State.{view, givenOf}
-use Rattle.parts.proofs.Answers.{says-same}
+use Rattle.marks.specs.State.{view, givenOf}
+use Rattle.marks.proofs.Answers.{says-same}
 use Rattle.parts.proofs.PrimaryLaws.{return-type, return-predicate}
 use Rattle.readers.proofs.PredicateLaws.{predicates-inside}
 use Rattle.readers.proofs.ReadyLaws.{ready}

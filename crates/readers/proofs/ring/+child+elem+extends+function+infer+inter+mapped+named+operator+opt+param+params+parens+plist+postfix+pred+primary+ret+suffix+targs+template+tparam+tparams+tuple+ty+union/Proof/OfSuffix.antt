@@ -4,23 +4,23 @@ use native.Mathlib.Omega.{arith}
 use borrow.Author.Needs.{needs}
 use borrow.Author.Tests.{not-true, not-false}
 use mathlib.Core.Path.{refl, sym, _∙_}
-use Rattle.parts.proofs.LeafLaws.{stands-on}
+use Rattle.marks.proofs.LeafLaws.{stands-on}
 use Rattle.keys.specs.Placed.{join}
-use Rattle.parts.specs.State.{view, givenOf}
-use Rattle.parts.specs.Laid.{runIn}
+use Rattle.marks.specs.State.{view, givenOf}
+use Rattle.marks.specs.Laid.{runIn}
 use Rattle.readers.specs.Ring.{below}
-use Rattle.parts.proofs.Answers.{says-as, says-stop, says-same, then-read, then-refused}
-use Rattle.parts.proofs.MarkLaws.{is-here, is-not-here}
+use Rattle.marks.proofs.Answers.{says-as, says-stop, says-same, then-read, then-refused}
+use Rattle.marks.proofs.MarkLaws.{is-here, is-not-here}
 use Rattle.parts.proofs.PostfixLaws.{suffix-bang, suffix-asked, suffix-array, suffix-index, shape-non-null, shape-asked, shape-indexed}
 use Rattle.readers.proofs.Fields.{same-kids, same-answer}
 use Rattle.readers.proofs.ChildLaws.{built-child}
 use Rattle.readers.proofs.ReadyLaws.{ready}
-use Rattle.parts.proofs.node.put_about.Reads as put-about-reads
+use Rattle.marks.proofs.node.put_about.Reads as put-about-reads
 use Rattle.parts.proofs.postfix.array.Reads as array-reads
 use Rattle.parts.proofs.postfix.bracketed.Reads as bracketed-reads
-use Rattle.parts.proofs.state.Answer.refused.Reads as state-Answer-refused-reads
-use Rattle.parts.proofs.state.Kids.one.Reads as one-reads
-use Rattle.parts.proofs.state.kind_at.Reads as kind-at-reads
+use Rattle.marks.proofs.state.Answer.refused.Reads as state-Answer-refused-reads
+use Rattle.marks.proofs.state.Kids.one.Reads as one-reads
+use Rattle.marks.proofs.state.kind_at.Reads as kind-at-reads
 use Rattle.readers.proofs.ring.child.Reads as child
 use Rattle.readers.proofs.ring.suffix.Reads as suffix
 use Rattle.words.proofs.ahead.starter.Reads as starter-reads

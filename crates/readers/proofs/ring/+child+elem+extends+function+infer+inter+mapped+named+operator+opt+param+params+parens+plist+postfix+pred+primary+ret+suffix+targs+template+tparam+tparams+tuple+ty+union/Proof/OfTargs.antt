@@ -9,11 +9,11 @@ use mathlib.Core.List.{[]}
 use lib.ListN.{length}
 use Rattle.words.specs.Kind.{RAngle}
 use Rattle.rules.specs.State.{first, turns}
-use Rattle.parts.proofs.MarkLaws.{is-here, is-not-here}
+use Rattle.marks.proofs.MarkLaws.{is-here, is-not-here}
 use Rattle.parts.proofs.RingLaws.{arguments-none, arguments-some, endArguments}
 use Rattle.parts.proofs.Turns.{looped}
-use Rattle.parts.specs.State.{view, givenOf, Under, placeOf}
-use Rattle.parts.specs.Laid.{was}
+use Rattle.marks.specs.State.{view, givenOf, Under, placeOf}
+use Rattle.marks.specs.Laid.{was}
 use Rattle.readers.specs.Ring.{below}
 use Rattle.readers.proofs.Kept.{Kept}
 use Rattle.readers.proofs.Fields.{same-kids, same-listed}
@@ -22,13 +22,13 @@ use Rattle.readers.proofs.ListTurns.{listed-absent, listed-refused, lis
 use Rattle.readers.proofs.ReadyLaws.{ready}
 use Rattle.parts.proofs.arguments.opened.Reads as opened-reads
 use Rattle.parts.proofs.arguments.opens.Reads as opens-reads
-use Rattle.parts.proofs.list.list_end.Reads as list-end-reads
-use Rattle.parts.proofs.list.past_comma.Reads as past-comma-reads
-use Rattle.parts.proofs.state.Kids.none.Reads as state-Kids-none-reads
-use Rattle.parts.proofs.state.Listed.absent.Reads as absent-reads
-use Rattle.parts.proofs.state.Listed.refused.Reads as state-Listed-refused-reads
-use Rattle.parts.proofs.state.first_byte.Reads as first-byte-reads
-use Rattle.parts.proofs.state.kind_at.Reads as kind-at-reads
+use Rattle.marks.proofs.list.list_end.Reads as list-end-reads
+use Rattle.marks.proofs.list.past_comma.Reads as past-comma-reads
+use Rattle.marks.proofs.state.Kids.none.Reads as state-Kids-none-reads
+use Rattle.marks.proofs.state.Listed.absent.Reads as absent-reads
+use Rattle.marks.proofs.state.Listed.refused.Reads as state-Listed-refused-reads
+use Rattle.marks.proofs.state.first_byte.Reads as first-byte-reads
+use Rattle.marks.proofs.state.kind_at.Reads as kind-at-reads
 use Rattle.readers.proofs.ring.child.Reads as child
 use Rattle.readers.proofs.ring.targs.Reads as targs
 use Rattle.readers.proofs.ring.+child+elem+extends+function+infer+inter+mapped+named+operator+opt+param+params+parens+plist+postfix+pred+primary+ret+suffix+targs+template+tparam+tparams+tuple+ty+union.Lts-targs as lts

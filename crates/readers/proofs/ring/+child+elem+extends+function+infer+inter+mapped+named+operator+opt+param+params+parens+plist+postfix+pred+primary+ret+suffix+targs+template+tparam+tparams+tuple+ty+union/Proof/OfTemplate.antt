@@ -4,25 +4,25 @@ use native.Mathlib.Omega.{arith}
 use borrow.Author.Needs.{needs}
 use mathlib.Core.Path.{_≡_, sym, _∙_}
 use lib.ListN.{length}
-use Rattle.parts.proofs.MarkLaws.{is-not-here}
-use Rattle.parts.proofs.Answers.{says-as, says-same, says-stop}
+use Rattle.marks.proofs.MarkLaws.{is-not-here}
+use Rattle.marks.proofs.Answers.{says-as, says-same, says-stop}
 use Rattle.words.specs.Kind.{TemplateHead}
 use Rattle.words.specs.Cursor.{kindAt}
 use Rattle.rules.specs.State.{spelling}
-use Rattle.parts.specs.State.{view, givenOf, Under, placeOf}
-use Rattle.parts.specs.Laid.{nameRun, Was, was, Laid}
+use Rattle.marks.specs.State.{view, givenOf, Under, placeOf}
+use Rattle.marks.specs.Laid.{nameRun, Was, was, Laid}
 use Rattle.readers.specs.Ring.{below}
 use Rattle.readers.proofs.Kept.{Kept}
 use Rattle.readers.proofs.Fields.{same-mark, same-kids, same-answer}
 use Rattle.readers.proofs.Loops.{PiecesTurn}
 use Rattle.readers.proofs.PieceTurns.{laid-head, pieces-start, template-starts, pieces-refused, pieces-stop, pieces-again, pieces-end}
 use Rattle.readers.proofs.ReadyLaws.{ready}
-use Rattle.parts.proofs.names.spell.Reads as spell-reads
-use Rattle.parts.proofs.node.put_list.Reads as put-list-reads
-use Rattle.parts.proofs.state.Answer.refused.Reads as state-Answer-refused-reads
-use Rattle.parts.proofs.state.Begin.at.Reads as at-reads
-use Rattle.parts.proofs.state.Kids.none.Reads as state-Kids-none-reads
-use Rattle.parts.proofs.state.kind_at.Reads as kind-at-reads
+use Rattle.marks.proofs.names.spell.Reads as spell-reads
+use Rattle.marks.proofs.node.put_list.Reads as put-list-reads
+use Rattle.marks.proofs.state.Answer.refused.Reads as state-Answer-refused-reads
+use Rattle.marks.proofs.state.Begin.at.Reads as at-reads
+use Rattle.marks.proofs.state.Kids.none.Reads as state-Kids-none-reads
+use Rattle.marks.proofs.state.kind_at.Reads as kind-at-reads
 use Rattle.readers.proofs.ring.child.Reads as child
 use Rattle.readers.proofs.ring.template.Reads as template
 use Rattle.readers.proofs.ring.+child+elem+extends+function+infer+inter+mapped+named+operator+opt+param+params+parens+plist+postfix+pred+primary+ret+suffix+targs+template+tparam+tparams+tuple+ty+union.Lts-template as lts

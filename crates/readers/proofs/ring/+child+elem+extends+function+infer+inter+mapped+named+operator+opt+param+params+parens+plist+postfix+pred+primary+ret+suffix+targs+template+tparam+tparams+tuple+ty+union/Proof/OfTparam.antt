@@ -3,18 +3,18 @@ use Prim.Native.Nat.{ℕ, _-_, _*_, _≤_}
 use native.Mathlib.Omega.{arith}
 use borrow.Author.Needs.{needs}
 use mathlib.Core.Path.{_∙_}
-use Rattle.parts.proofs.Answers.{says-as, says-same, says-stop, then-read, then-refused}
+use Rattle.marks.proofs.Answers.{says-as, says-same, says-stop, then-read, then-refused}
 use Rattle.parts.proofs.RingLaws.{type-parameter}
 use Rattle.parts.proofs.ParameterLaws.{shape-typeParameter}
 use Rattle.readers.proofs.Fields.{same-kids, same-answer}
 use Rattle.readers.proofs.ChildLaws.{built-spoken, shape-as, make-first}
 use Rattle.readers.proofs.ReadyLaws.{ready}
 use Rattle.parts.proofs.function.type_param_head.Reads as type-param-head-reads
-use Rattle.parts.proofs.node.opt_bit.Reads as opt-bit-reads
-use Rattle.parts.proofs.node.put.Reads as put-reads
-use Rattle.parts.proofs.state.Answer.refused.Reads as state-Answer-refused-reads
-use Rattle.parts.proofs.state.Begin.at.Reads as at-reads
-use Rattle.parts.proofs.state.Kids.none.Reads as state-Kids-none-reads
+use Rattle.marks.proofs.node.opt_bit.Reads as opt-bit-reads
+use Rattle.marks.proofs.node.put.Reads as put-reads
+use Rattle.marks.proofs.state.Answer.refused.Reads as state-Answer-refused-reads
+use Rattle.marks.proofs.state.Begin.at.Reads as at-reads
+use Rattle.marks.proofs.state.Kids.none.Reads as state-Kids-none-reads
 use Rattle.readers.proofs.ring.opt.Reads as opt
 use Rattle.readers.proofs.ring.tparam.Reads as tparam
 use Rattle.readers.proofs.ring.+child+elem+extends+function+infer+inter+mapped+named+operator+opt+param+params+parens+plist+postfix+pred+primary+ret+suffix+targs+template+tparam+tparams+tuple+ty+union.Lts-tparam as lts

@@ -5,24 +5,24 @@ use borrow.Author.Needs.{needs}
 use mathlib.Core.Path.{_≡_}
 use mathlib.Core.List.{List}
 use lib.ListN.{length}
-use Rattle.parts.proofs.Answers.{says-same, says-as, says-stop}
-use Rattle.parts.proofs.MarkLaws.{is-here, is-not-here}
+use Rattle.marks.proofs.Answers.{says-same, says-as, says-stop}
+use Rattle.marks.proofs.MarkLaws.{is-here, is-not-here}
 use Rattle.words.specs.Kind.{LBrack}
 use Rattle.words.specs.Cursor.{kindAt}
-use Rattle.parts.specs.State.{view, givenOf, Spelt, Under, placeOf}
-use Rattle.parts.specs.Laid.{was}
+use Rattle.marks.specs.State.{view, givenOf, Spelt, Under, placeOf}
+use Rattle.marks.specs.Laid.{was}
 use Rattle.readers.specs.Ring.{below}
 use Rattle.readers.proofs.Kept.{Kept}
 use Rattle.readers.proofs.Fields.{same-kids, same-answer}
 use Rattle.readers.proofs.Loops.{TupleTurn}
 use Rattle.readers.proofs.TupleTurns.{tuple-begins, tuple-refused, tuple-full, tuple-stops, tuple-again, tuple-closed, tuple-listed}
 use Rattle.readers.proofs.ReadyLaws.{ready}
-use Rattle.parts.proofs.list.past_comma.Reads as past-comma-reads
-use Rattle.parts.proofs.node.link.Reads as link-reads
-use Rattle.parts.proofs.state.Answer.refused.Reads as state-Answer-refused-reads
-use Rattle.parts.proofs.state.Begin.at.Reads as at-reads
-use Rattle.parts.proofs.state.Kids.none.Reads as state-Kids-none-reads
-use Rattle.parts.proofs.state.kind_at.Reads as kind-at-reads
+use Rattle.marks.proofs.list.past_comma.Reads as past-comma-reads
+use Rattle.marks.proofs.node.link.Reads as link-reads
+use Rattle.marks.proofs.state.Answer.refused.Reads as state-Answer-refused-reads
+use Rattle.marks.proofs.state.Begin.at.Reads as at-reads
+use Rattle.marks.proofs.state.Kids.none.Reads as state-Kids-none-reads
+use Rattle.marks.proofs.state.kind_at.Reads as kind-at-reads
 use Rattle.parts.proofs.tuple.checked.Reads as checked-reads
 use Rattle.parts.proofs.tuple.tuple_node.Reads as tuple-node-reads
 use Rattle.readers.proofs.ring.elem.Reads as elem

@@ -1,0 +1,12 @@
+pub mod RunLaws
+pub mod LaidLaws
+pub mod BuiltLaws
+pub mod Answers
+pub mod ReportLaws
+pub mod RecordLaws
+pub mod ListLaws
+pub mod MarkLaws
+pub mod NodeLaws
+pub mod NameLaws
+pub mod LeafLaws
+pub mod StepLaws
