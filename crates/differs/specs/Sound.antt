@@ -4,11 +4,13 @@ use mathlib.Core.List.{List}
 use mathlib.Core.Path.{_≡_}
 use Prim.Native.Nat.{ℕ, zero, suc, _+_, _*_, _≤_, _<_, _^_}
 use lib.ListN.{length, drop}
+use denote.Ref.{RefT}
+use denote.Triple.Both.{Both}
 use Rattle.keys.specs.Bits.{Bits, bitsOfBytes, Field, short, field, takeField, Row, cut, row, takeBytes}
 use Rattle.keys.specs.Form.{Value, Form, never, one, word, choose, both, child, Grammar, isNever}
 use Rattle.keys.specs.Key.{Taken, taken, refused, nodeTable}
 use Rattle.keys.specs.Limits.{tooTall, badKey, longestKey, tallest, editionWidth}
-use Rattle.node_table.specs.Forms.{formOf, formBy, grammarOf, entryOf, spellingsThen, spellingIf, nodesThen}
+use Rattle.node_table.specs.Forms.{formOf, formBy, leads, grammarOf, entryOf, spellingsThen, spellingIf, nodesThen}
 use Rattle.node_table.specs.declared.forms.Row.{Row as TableRow}
 use Rattle.differs.specs.Content.{Content, ends, chooses, spells, enters, contentOf}
 use Rattle.differs.specs.Differ.{checked}
@@ -170,3 +172,23 @@ pub record Wholly (T key : List ℕ) (r : Check) : Type 0 where
   pub long : r .why ≡ 0 → editionWidth ≤ length key * 8
   pub end : ℕ
   pub read : r .why ≡ 0 → readNode (bitsOfBytes key) (grammarOf T) tallest 0 editionWidth ≡ reads (contentOf nodeTable (judges .tree)) end
+
+-- ---- The same over what is lent
+
+-- A slice at a function's two moments.
+abbrev pub Lent : Type 0
+Lent = Both (RefT (List ℕ)) (RefT (List ℕ))
+
+-- The bits of a key that is lent.
+abbrev pub bitsIn : Lent → Bits
+bitsIn key = bitsOfBytes (key .entry .now)
+
+-- A choice among the forms that a row leads to, which it lists as `way` says.
+abbrev pub Chooses : (forms key : Lent) (steps : ℕ) (r : TableRow) (way bit : ℕ) (q : Spot) → Type 0
+Chooses forms key steps r way bit q =
+    ChoiceOn (bitsIn key) (forms .entry .now) steps (r .w) (leads (forms .entry .now) (formOf (forms .entry .now) steps) (entryOf r) way) bit q
+
+-- What is left of a node from a form on.
+abbrev pub ReadsRest : (forms key : Lent) (left steps : ℕ) (from : Spot) (r : Check) → Type 0
+ReadsRest forms key left steps from r =
+    ComesTo (length (bitsIn key)) (readForm (bitsIn key) (readNode (bitsIn key) (grammarOf (forms .entry .now)) left) (formOf (forms .entry .now) steps (from .n) (from .form)) (from .bit)) r

@@ -3,6 +3,8 @@ use mathlib.Core.List.{List, [], _∷_, _++_}
 use mathlib.Core.Path.{_≡_}
 use Prim.Native.Nat.{ℕ, _+_, _*_, _^_, _≤_, _<_}
 use lib.ListN.{length, take}
+use denote.Ref.{RefT}
+use denote.Triple.Both.{Both as Moments}
 use Rattle.words.specs.Test.{same}
 use Rattle.keys.specs.Bits.{Bits, bitsOfBytes}
 use Rattle.keys.specs.Limits.{longestKey, widest}
@@ -168,3 +170,36 @@ AsksNodes forms others left right high class w v n p =
     × (class < 2 ^ 32) × (w ≤ widest) × (v ≡ w) × Inside (length left * 8) (length right * 8) p
     × IsRead (readForm (bitsOfBytes left) (readNode (bitsOfBytes left) (grammarOf forms) high) (nodesThen n class w one) (p .left))
     × IsRead (readForm (bitsOfBytes right) (readNode (bitsOfBytes right) (grammarOf forms) high) (nodesThen n class v one) (p .right))
+
+-- ---- What the functions answer over what is lent
+
+-- A slice at a function's two moments.
+abbrev pub Lent : Type 0
+Lent = Moments (RefT (List ℕ)) (RefT (List ℕ))
+
+-- The bits of a key that is lent.
+abbrev pub bitsIn : Lent → Bits
+bitsIn key = bitsOfBytes (key .entry .now)
+
+-- Nodes as they are read from a key by a table, with room for so many one above the other.
+abbrev pub nodesBy : (forms key : Lent) (high : ℕ) → ℕ → ℕ → Scan
+nodesBy forms key high = readNode (bitsIn key) (grammarOf (forms .entry .now)) high
+
+-- The form of a table that a number leads to.
+abbrev pub formAt : Lent → ℕ → Jump → Form
+formAt forms steps j = formOf (forms .entry .now) steps (j .n) (j .form)
+
+abbrev pub Parts : (forms left right list : Lent) (high steps : ℕ) (at : Both) (j k : Jump) (first q : Both) → Type 0
+Parts forms left right list high steps at j k first q =
+    Parted (bitsIn left) (bitsIn right) (nodesBy forms left high) (nodesBy forms right high) (formAt forms steps j) (formAt forms steps k) at first q (list .entry .now) (list .exit .now)
+
+abbrev pub Rests : (forms left right list : Lent) (high steps : ℕ) (from : Jump) (at first q : Both) → Type 0
+Rests forms left right list high steps from at first q =
+    Rested (bitsIn left) (bitsIn right) (nodesBy forms left high) (nodesBy forms right high) (formAt forms steps from) (formAt forms steps from) at first q (list .entry .now) (list .exit .now)
+
+abbrev pub Walks : (forms left right list : Lent) (high class : ℕ) (p q : Both) → Type 0
+Walks forms left right list high class p q = Walked (bitsIn left) (bitsIn right) (grammarOf (forms .entry .now)) high class p q (list .entry .now) (list .exit .now)
+
+abbrev pub WalksAll : (forms left right list : Lent) (high class w v n : ℕ) (p q : Both) → Type 0
+WalksAll forms left right list high class w v n p q =
+    WalkedAll (bitsIn left) (bitsIn right) (grammarOf (forms .entry .now)) high class w v n p q (list .entry .now) (list .exit .now)

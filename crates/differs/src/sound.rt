@@ -5,7 +5,7 @@ ghost use lib.ListN.{length};
 ghost use Rattle.keys.specs.Limits.{longestKey, widest, countWidth};
 ghost use Rattle.keys.specs.Bits.{bitsOfBytes};
 ghost use Rattle.keys.specs.Form.{isNever};
-ghost use Rattle.node_table.specs.Forms.{formOf, leads, grammarOf, entryOf, tableWords, Narrow};
+ghost use Rattle.node_table.specs.Forms.{formOf, grammarOf, tableWords, Narrow};
 ghost use Rattle.key_in.specs.Back.{Ends, Sized};
 ghost use Rattle.differs.specs.Differ.{checked};
 ghost use Rattle.differs.specs.Sound as check;
@@ -131,7 +131,7 @@ fn is_never(forms: &[u16], steps: usize, n: usize, form: usize) -> bool
 // A field that chooses: 10 where it is cut short or leads to no form.
 fn check_choice(forms: &[u16], key: &[u8], steps: usize, r: Row, bit: usize) -> Spot
     requires { ⌜ (length (now key) ≤ longestKey) × (bit ≤ length (now key) * 8) × (r .w ≤ widest) × (r .a < 2 ^ 32) × (r .b < 2 ^ 32) × (5 ≤ r .op) ⌝ }
-    ensures { λ q. ⌜ check.ChoiceOn (bitsOfBytes (now (key .entry))) (now (forms .entry)) steps (r .w) (leads (now (forms .entry)) (formOf (now (forms .entry)) steps) (entryOf r) (r .op - 5)) bit q ⌝ }
+    ensures { λ q. ⌜ check.Chooses forms key steps r (r .op - 5) bit q ⌝ }
 {
     let taken = take::take_field(key, bit, r.w);
     let TakenField::Number(n) = taken else {
@@ -153,7 +153,7 @@ fn check_choice(forms: &[u16], key: &[u8], steps: usize, r: Row, bit: usize) -> 
 // The tag of a class: 10 where it is cut short or there is no such row.
 fn check_tag(forms: &[u16], key: &[u8], steps: usize, tags: Row, bit: usize) -> Spot
     requires { ⌜ (length (now key) ≤ longestKey) × (bit ≤ length (now key) * 8) × (tags .w ≤ widest) × (tags .a < 2 ^ 32) ⌝ }
-    ensures { λ q. ⌜ check.ChoiceOn (bitsOfBytes (now (key .entry))) (now (forms .entry)) steps (tags .w) (leads (now (forms .entry)) (formOf (now (forms .entry)) steps) (entryOf tags) 0) bit q ⌝ }
+    ensures { λ q. ⌜ check.Chooses forms key steps tags 0 bit q ⌝ }
 {
     let taken = take::take_field(key, bit, tags.w);
     let TakenField::Number(n) = taken else {
@@ -234,7 +234,7 @@ fn check_node(forms: &[u16], key: &[u8], class: usize, left: usize, bit: usize) 
 // What is left of a node from a form on.
 pub fn check_rest(forms: &[u16], key: &[u8], left: usize, steps: usize, from: Spot) -> Check
     requires { ⌜ (length (now key) ≤ longestKey) × check.Spotted (length (now key) * 8) from × Narrow (now forms) ⌝ }
-    ensures { λ r. ⌜ check.ComesTo (length (bitsOfBytes (now (key .entry)))) (check.readForm (bitsOfBytes (now (key .entry))) (check.readNode (bitsOfBytes (now (key .entry))) (grammarOf (now (forms .entry))) left) (formOf (now (forms .entry)) steps (from .n) (from .form)) (from .bit)) r ⌝ }
+    ensures { λ r. ⌜ check.ReadsRest forms key left steps from r ⌝ }
 {
     let mut s = from;
     let mut depth = steps;

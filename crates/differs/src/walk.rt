@@ -9,8 +9,6 @@ ghost use Rattle.keys.specs.Form.{one};
 ghost use Rattle.keys.specs.Key.{bytesIn};
 ghost use Rattle.fields.specs.Take.{answered};
 ghost use Rattle.fields.specs.declared.take.TakenField.the-variants.{Number};
-ghost use Rattle.node_table.specs.Forms.{formOf, grammarOf};
-ghost use Rattle.differs.specs.Sound.{readNode};
 ghost use Rattle.differs.specs.Walk as walk;
 use crate::sound;
 use crate::sound::Spot;
@@ -146,7 +144,7 @@ fn apart(
     first: Both,
 ) -> Both
     requires { ⌜ walk.AsksApart (now forms) (now others) (now left) (now right) high steps at j k first ⌝ }
-    ensures { λ q. ⌜ walk.Parted (bitsOfBytes (now (left .entry))) (bitsOfBytes (now (right .entry))) (readNode (bitsOfBytes (now (left .entry))) (grammarOf (now (forms .entry))) high) (readNode (bitsOfBytes (now (right .entry))) (grammarOf (now (forms .entry))) high) (formOf (now (forms .entry)) steps (j .n) (j .form)) (formOf (now (forms .entry)) steps (k .n) (k .form)) at first q (now (list .entry)) (now (list .exit)) ⌝ }
+    ensures { λ q. ⌜ walk.Parts forms left right list high steps at j k first q ⌝ }
 {
     let c = sound::check_rest(
         forms,
@@ -192,7 +190,7 @@ pub fn walk_node(
     p: Both,
 ) -> Both
     requires { ⌜ walk.AsksNode (now forms) (now others) (now left) (now right) class high p ⌝ }
-    ensures { λ q. ⌜ walk.Walked (bitsOfBytes (now (left .entry))) (bitsOfBytes (now (right .entry))) (grammarOf (now (forms .entry))) high class p q (now (list .entry)) (now (list .exit)) ⌝ }
+    ensures { λ q. ⌜ walk.Walks forms left right list high class p q ⌝ }
 {
     let steps = forms::word_at(forms, 1);
     let tags = forms::class_at(forms, class);
@@ -238,7 +236,7 @@ fn walk_rest(
     first: Both,
 ) -> Both
     requires { ⌜ walk.AsksRest (now forms) (now others) (now left) (now right) high steps from at first ⌝ }
-    ensures { λ q. ⌜ walk.Rested (bitsOfBytes (now (left .entry))) (bitsOfBytes (now (right .entry))) (readNode (bitsOfBytes (now (left .entry))) (grammarOf (now (forms .entry))) high) (readNode (bitsOfBytes (now (right .entry))) (grammarOf (now (forms .entry))) high) (formOf (now (forms .entry)) steps (from .n) (from .form)) (formOf (now (forms .entry)) steps (from .n) (from .form)) at first q (now (list .entry)) (now (list .exit)) ⌝ }
+    ensures { λ q. ⌜ walk.Rests forms left right list high steps from at first q ⌝ }
 {
     let mut p = at;
     let mut f = from;
@@ -326,7 +324,7 @@ fn walk_nodes(
     p: Both,
 ) -> Both
     requires { ⌜ walk.AsksNodes (now forms) (now others) (now left) (now right) high class w v n p ⌝ }
-    ensures { λ q. ⌜ walk.WalkedAll (bitsOfBytes (now (left .entry))) (bitsOfBytes (now (right .entry))) (grammarOf (now (forms .entry))) high class w v n p q (now (list .entry)) (now (list .exit)) ⌝ }
+    ensures { λ q. ⌜ walk.WalksAll forms left right list high class w v n p q ⌝ }
 {
     let mut o = p;
     let mut i: usize = 0;

@@ -2,15 +2,17 @@
 use mathlib.Core.Path.{_≡_}
 use mathlib.Core.Bool.{Bool}
 use mathlib.Core.List.{List, [], _∷_, _++_}
-use Prim.Native.Nat.{ℕ, _+_, _-_, _*_, _%_, _^_, _≤_, _<_}
+use Prim.Native.Nat.{ℕ, _+_, _-_, _*_, _/_, _%_, _^_, _≤_, _<_}
 use lib.Dec.{eqb}
 use lib.ListN.{length, take, drop}
-use Rattle.keys.specs.Bits.{Bits}
+use denote.Ref.{RefT}
+use denote.Triple.Both.{Both}
+use Rattle.keys.specs.Bits.{Bits, bitsOfBytes}
 use Rattle.keys.specs.Form.{Value, spelt, nodes, names, letters, Form, never, one, word, choose, both, child, Grammar, State, state, Result, got, stop, takeSpelling, wider}
-use Rattle.keys.specs.Limits.{recordWords, badKey, noSpace, widest, choicesWide}
+use Rattle.keys.specs.Limits.{longestKey, recordWords, badKey, noSpace, widest, choicesWide}
 use Rattle.keys.specs.Placed.{laid}
 use Rattle.keys.specs.Key.{padding, taken, refused, refusalPlace, takeKey}
-use Rattle.keys.specs.Store.{Run, done, chose, name, kid, under, called, packed, firstKid, records, nameOf, namesIn, nodesOf, namesOf, textOf, TakenBack, _⊕_, span}
+use Rattle.keys.specs.Store.{Run, done, chose, name, kid, under, called, packed, firstKid, records, nameOf, namesIn, nodesOf, namesOf, textOf, TakenBack, takeBack, _⊕_, span}
 use Rattle.keys.specs.Store as store
 use Rattle.keys.specs.Words.{firstNodes, firstNames}
 use Rattle.keys.specs.Stored.{Base, base, Stored, Own}
@@ -269,3 +271,82 @@ pub record Answers (d : TakenBack) (r : Answer) (N M X : List ℕ) : Type 0 wher
   pub nodes-are : N ≡ d .nodeWords
   pub names-are : M ≡ d .nameWords
   pub text-is : X ≡ d .text
+
+-- ---- What is asked of a key and of what is lent beside it
+
+-- A place inside a key that is not too long, with spellings whose lengths have w bits.
+abbrev pub AsksSpelling : (key names text : List ℕ) (w : ℕ) (p : Pos) → Type 0
+AsksSpelling key names text w p = (length key ≤ longestKey) × (w ≤ widest) × Inside (bitsOfBytes key) (length names) (length text) p
+
+-- The same of spellings in a row.
+abbrev pub AsksSpellings : (key names text : List ℕ) (w : ℕ) (p : Pos) → Type 0
+AsksSpellings key names text w p = (length key ≤ longestKey) × (w ≤ widest) × (p .why ≡ 0) × Inside (bitsOfBytes key) (length names) (length text) p
+
+-- A place inside a node, whose row is no end and no row of nodes, and whose choices fit.
+abbrev pub AsksPlain : (forms key names text : List ℕ) (steps : ℕ) (r : Row) (s : Fill) → Type 0
+AsksPlain forms key names text steps r s =
+    (length key ≤ longestKey) × Steady (bitsOfBytes key) (length names) (length text) s × Sized r × (r .op ≡ 1 → ⊥) × (r .op ≡ 3 → ⊥)
+    × Spans (formBy forms (formOf forms steps) (s .n) (entryOf r) (r .op)) (choicesWide - s .shift)
+
+-- A node is asked to have room for itself, and its table to fit.
+abbrev pub AsksNode : (forms key nodes names text : List ℕ) (class : ℕ) (p : Pos) → Type 0
+AsksNode forms key nodes names text class p = (length key ≤ longestKey) × Asks (bitsOfBytes key) (length nodes) (length names) (length text) forms class p
+
+-- The same of nodes in a row, inside a node.
+abbrev pub AsksNodes : (forms key nodes names text : List ℕ) (r : Row) (s : Fill) → Type 0
+AsksNodes forms key nodes names text r s =
+    (length key ≤ longestKey) × Steady (bitsOfBytes key) (length names) (length text) s × Housed (length nodes) s × Sized r × Slim forms
+
+-- ---- What is answered over what is lent
+
+-- A slice at a function's two moments.
+abbrev pub Lent : Type 0
+Lent = Both (RefT (List ℕ)) (RefT (List ℕ))
+
+-- The bits of a key that is lent.
+abbrev pub bitsIn : Lent → Bits
+bitsIn key = bitsOfBytes (key .entry .now)
+
+-- How long a slice is.
+abbrev pub long : Lent → ℕ
+long s = length (s .entry .now)
+
+abbrev pub TakesSpelling : (key names text : Lent) (w : ℕ) (p q : Pos) → Type 0
+TakesSpelling key names text w p q =
+    SpellingIn (bitsIn key) (long names) (long text) w p (names .entry .now) (text .entry .now) q (names .exit .now) (text .exit .now)
+
+abbrev pub TakesSpellings : (key names text : Lent) (w n : ℕ) (p q : Pos) → Type 0
+TakesSpellings key names text w n p q =
+    SpellingsIn (bitsIn key) (long names) (long text) w n p (names .entry .now) (text .entry .now) q (names .exit .now) (text .exit .now)
+
+-- A choice among the forms that a row leads to, which it lists as `way` says.
+abbrev pub TakesChoice : (forms key : Lent) (steps : ℕ) (r : Row) (way bit : ℕ) (c : Pick) → Type 0
+TakesChoice forms key steps r way bit c =
+    Picked (bitsIn key) (forms .entry .now) steps (r .w) (leads (forms .entry .now) (formOf (forms .entry .now) steps) (entryOf r) way) bit c
+
+abbrev pub TakesPlain : (forms key names text : Lent) (steps : ℕ) (r : Row) (s q : Fill) → Type 0
+TakesPlain forms key names text steps r s q =
+    PlainIn (bitsIn key) (long names) (long text) (forms .entry .now) steps r s (names .entry .now) (text .entry .now) q (names .exit .now) (text .exit .now)
+
+abbrev pub TakesAfter : (key names text : Lent) (w : ℕ) (s q : Fill) → Type 0
+TakesAfter key names text w s q =
+    AfterIn (bitsIn key) (long names) (long text) w s (names .entry .now) (text .entry .now) q (names .exit .now) (text .exit .now)
+
+abbrev pub TakesNode : (forms key nodes names text : Lent) (left class : ℕ) (p q : Pos) → Type 0
+TakesNode forms key nodes names text left class p q =
+    NodeIn (bitsIn key) (long names) (long text) (grammarOf (forms .entry .now)) left class p
+    (nodes .entry .now) (names .entry .now) (text .entry .now) q (nodes .exit .now) (names .exit .now) (text .exit .now)
+
+abbrev pub TakesNodes : (forms key nodes names text : Lent) (left : ℕ) (r : Row) (s q : Fill) → Type 0
+TakesNodes forms key nodes names text left r s q =
+    NodesIn (bitsIn key) (long names) (long text) (grammarOf (forms .entry .now)) left r s
+    (nodes .entry .now) (names .entry .now) (text .entry .now) q (nodes .exit .now) (names .exit .now) (text .exit .now)
+
+abbrev pub TakesWhole : (key nodes names text : Lent) (q : Pos) → Type 0
+TakesWhole key nodes names text q =
+    WholeIn (key .entry .now) (long nodes / recordWords) (long names) (long text) q (nodes .exit .now) (names .exit .now) (text .exit .now)
+
+-- The whole call.
+abbrev pub GivesBack : (key nodes names text : Lent) (r : Answer) → Type 0
+GivesBack key nodes names text r =
+    Answers (takeBack (key .entry .now) (long nodes) (long names) (long text)) r (nodes .exit .now) (names .exit .now) (text .exit .now)

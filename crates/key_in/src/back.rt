@@ -1,15 +1,14 @@
 // Taking a key back: from its bytes to nodes, names and text, by the table of forms.
 ghost use mathlib.Core.Path.{_≡_};
 ghost use mathlib.Core.Bool.{Bool};
-ghost use Prim.Native.Nat.{ℕ, _+_, _-_, _*_, _/_, _^_, _<_, _≤_};
+ghost use Prim.Native.Nat.{ℕ, _+_, _-_, _*_, _^_, _<_, _≤_};
 ghost use lib.Dec.{eqb};
 ghost use lib.ListN.{length};
 ghost use Rattle.keys.specs.Limits.{longestKey, recordWords, noSpace, widest, choicesWide};
 ghost use Rattle.keys.specs.Bits.{bitsOfBytes};
 ghost use Rattle.keys.specs.Form.{isNever};
 ghost use Rattle.keys.specs.Key.{refusalPlace};
-ghost use Rattle.keys.specs.Store.{takeBack};
-ghost use Rattle.node_table.specs.Forms.{formBy, formOf, leads, grammarOf, entryOf, tableMost};
+ghost use Rattle.node_table.specs.Forms.{formOf, tableMost};
 ghost use Rattle.key_in.specs.Back as back;
 use crate::refusal::Refusal;
 use fields::take;
@@ -73,8 +72,8 @@ fn refused(why: u32, bit: usize) -> Pos
 
 // A spelling: 10 where it is cut short or has no byte, 11 where there is no room for its bytes or its name.
 fn take_spelling(key: &[u8], names: &mut [u64], text: &mut [u8], w: usize, p: Pos) -> Pos
-    requires { ⌜ (length (now key) ≤ longestKey) × (w ≤ widest) × back.Inside (bitsOfBytes (now key)) (length (now names)) (length (now text)) p ⌝ }
-    ensures { λ r. ⌜ back.SpellingIn (bitsOfBytes (now (key .entry))) (length (now (names .entry))) (length (now (text .entry))) w p (now (names .entry)) (now (text .entry)) r (now (names .exit)) (now (text .exit)) ⌝ }
+    requires { ⌜ back.AsksSpelling (now key) (now names) (now text) w p ⌝ }
+    ensures { λ r. ⌜ back.TakesSpelling key names text w p r ⌝ }
 {
     let bit = p.bit;
     let taken = take::take_field(key, bit, w);
@@ -111,8 +110,8 @@ fn take_spelling(key: &[u8], names: &mut [u64], text: &mut [u8], w: usize, p: Po
 
 // n spellings.
 fn take_spellings(key: &[u8], names: &mut [u64], text: &mut [u8], w: usize, n: usize, p: Pos) -> Pos
-    requires { ⌜ (length (now key) ≤ longestKey) × (w ≤ widest) × (p .why ≡ 0) × back.Inside (bitsOfBytes (now key)) (length (now names)) (length (now text)) p ⌝ }
-    ensures { λ r. ⌜ back.SpellingsIn (bitsOfBytes (now (key .entry))) (length (now (names .entry))) (length (now (text .entry))) w n p (now (names .entry)) (now (text .entry)) r (now (names .exit)) (now (text .exit)) ⌝ }
+    requires { ⌜ back.AsksSpellings (now key) (now names) (now text) w p ⌝ }
+    ensures { λ r. ⌜ back.TakesSpellings key names text w n p r ⌝ }
 {
     let mut q = Pos {
         why: p.why,
@@ -183,7 +182,7 @@ fn no_pick(bit: usize) -> Pick
 // A field that chooses: 10 where it is cut short or leads to no form.
 fn take_choice(forms: &[u16], key: &[u8], steps: usize, r: Row, bit: usize) -> Pick
     requires { ⌜ (length (now key) ≤ longestKey) × (bit ≤ length (now key) * 8) × (r .w ≤ widest) × (r .a < tableMost) × (r .b < tableMost) × (5 ≤ r .op) ⌝ }
-    ensures { λ c. ⌜ back.Picked (bitsOfBytes (now (key .entry))) (now (forms .entry)) steps (r .w) (leads (now (forms .entry)) (formOf (now (forms .entry)) steps) (entryOf r) (r .op - 5)) bit c ⌝ }
+    ensures { λ c. ⌜ back.TakesChoice forms key steps r (r .op - 5) bit c ⌝ }
 {
     let taken = take::take_field(key, bit, r.w);
     let TakenField::Number(n) = taken else {
@@ -206,7 +205,7 @@ fn take_choice(forms: &[u16], key: &[u8], steps: usize, r: Row, bit: usize) -> P
 // The tag of a class: 10 where it is cut short or there is no such row.
 fn take_tag(forms: &[u16], key: &[u8], steps: usize, tags: Row, bit: usize) -> Pick
     requires { ⌜ (length (now key) ≤ longestKey) × (bit ≤ length (now key) * 8) × (tags .w ≤ widest) × (tags .a < tableMost) ⌝ }
-    ensures { λ c. ⌜ back.Picked (bitsOfBytes (now (key .entry))) (now (forms .entry)) steps (tags .w) (leads (now (forms .entry)) (formOf (now (forms .entry)) steps) (entryOf tags) 0) bit c ⌝ }
+    ensures { λ c. ⌜ back.TakesChoice forms key steps tags 0 bit c ⌝ }
 {
     let taken = take::take_field(key, bit, tags.w);
     let TakenField::Number(n) = taken else {
@@ -288,8 +287,8 @@ fn take_plain(
     r: Row,
     s: Fill,
 ) -> Fill
-    requires { ⌜ (length (now key) ≤ longestKey) × back.Steady (bitsOfBytes (now key)) (length (now names)) (length (now text)) s × back.Sized r × (r .op ≡ 1 → ⊥) × (r .op ≡ 3 → ⊥) × back.Spans (formBy (now forms) (formOf (now forms) steps) (s .n) (entryOf r) (r .op)) (choicesWide - s .shift) ⌝ }
-    ensures { λ q. ⌜ back.PlainIn (bitsOfBytes (now (key .entry))) (length (now (names .entry))) (length (now (text .entry))) (now (forms .entry)) steps r s (now (names .entry)) (now (text .entry)) q (now (names .exit)) (now (text .exit)) ⌝ }
+    requires { ⌜ back.AsksPlain (now forms) (now key) (now names) (now text) steps r s ⌝ }
+    ensures { λ q. ⌜ back.TakesPlain forms key names text steps r s q ⌝ }
 {
     let op = r.op;
     if forms::CHOICE <= op {
@@ -358,8 +357,8 @@ fn link_child(nodes: &mut [u64], s: Fill, at: Pos) -> Fill
 
 // The spelling after a child, if its length has any bits.
 fn take_after(key: &[u8], names: &mut [u64], text: &mut [u8], w: usize, s: Fill) -> Fill
-    requires { ⌜ (length (now key) ≤ longestKey) × (w ≤ widest) × (s .at .why ≡ 0) × back.Inside (bitsOfBytes (now key)) (length (now names)) (length (now text)) (s .at) ⌝ }
-    ensures { λ q. ⌜ back.AfterIn (bitsOfBytes (now (key .entry))) (length (now (names .entry))) (length (now (text .entry))) w s (now (names .entry)) (now (text .entry)) q (now (names .exit)) (now (text .exit)) ⌝ }
+    requires { ⌜ back.AsksSpellings (now key) (now names) (now text) w (s .at) ⌝ }
+    ensures { λ q. ⌜ back.TakesAfter key names text w s q ⌝ }
 {
     if w == 0 {
         return s;
@@ -380,8 +379,8 @@ fn take_node(
     left: usize,
     p: Pos,
 ) -> Pos
-    requires { ⌜ (length (now key) ≤ longestKey) × back.Asks (bitsOfBytes (now key)) (length (now nodes)) (length (now names)) (length (now text)) (now forms) class p ⌝ }
-    ensures { λ q. ⌜ back.NodeIn (bitsOfBytes (now (key .entry))) (length (now (names .entry))) (length (now (text .entry))) (grammarOf (now (forms .entry))) left class p (now (nodes .entry)) (now (names .entry)) (now (text .entry)) q (now (nodes .exit)) (now (names .exit)) (now (text .exit)) ⌝ }
+    requires { ⌜ back.AsksNode (now forms) (now key) (now nodes) (now names) (now text) class p ⌝ }
+    ensures { λ q. ⌜ back.TakesNode forms key nodes names text left class p q ⌝ }
 {
     let bit = p.bit;
     let steps = forms::word_at(forms, 1);
@@ -459,8 +458,8 @@ fn take_nodes(
     r: Row,
     s: Fill,
 ) -> Fill
-    requires { ⌜ (length (now key) ≤ longestKey) × back.Steady (bitsOfBytes (now key)) (length (now names)) (length (now text)) s × back.Housed (length (now nodes)) s × back.Sized r × back.Slim (now forms) ⌝ }
-    ensures { λ q. ⌜ back.NodesIn (bitsOfBytes (now (key .entry))) (length (now (names .entry))) (length (now (text .entry))) (grammarOf (now (forms .entry))) left r s (now (nodes .entry)) (now (names .entry)) (now (text .entry)) q (now (nodes .exit)) (now (names .exit)) (now (text .exit)) ⌝ }
+    requires { ⌜ back.AsksNodes (now forms) (now key) (now nodes) (now names) (now text) r s ⌝ }
+    ensures { λ q. ⌜ back.TakesNodes forms key nodes names text left r s q ⌝ }
 {
     let n = s.n;
     let mut q = s;
@@ -508,7 +507,7 @@ fn pad_end(key: &[u8], bit: usize) -> usize
 
 // A whole key: not too long, its edition, its tree, zero bits to the byte and no byte more.
 fn take_whole(key: &[u8], nodes: &mut [u64], names: &mut [u64], text: &mut [u8]) -> Pos
-    ensures { λ q. ⌜ back.WholeIn (now (key .entry)) (length (now (nodes .entry)) / recordWords) (length (now (names .entry))) (length (now (text .entry))) q (now (nodes .exit)) (now (names .exit)) (now (text .exit)) ⌝ }
+    ensures { λ q. ⌜ back.TakesWhole key nodes names text q ⌝ }
 {
     if Key::MOST < key.len() {
         return refused(Refusal::BAD_KEY, 0);
@@ -567,7 +566,7 @@ fn place_of(why: u32, bit: usize) -> usize
 
 // Takes a key back: its tree, its names and its spellings, then zeros; all zeros on a refusal.
 pub fn take_back(key: &[u8], nodes: &mut [u64], names: &mut [u64], text: &mut [u8]) -> Answer
-    ensures { λ r. ⌜ back.Answers (takeBack (now (key .entry)) (length (now (nodes .entry))) (length (now (names .entry))) (length (now (text .entry)))) r (now (nodes .exit)) (now (names .exit)) (now (text .exit)) ⌝ }
+    ensures { λ r. ⌜ back.GivesBack key nodes names text r ⌝ }
 {
     let q = take_whole(key, nodes, names, text);
     if q.why != 0 {
