@@ -30,6 +30,7 @@ use crate::node::opt_bit;
 use crate::node::opt_list;
 use crate::node::put;
 use crate::notes::Note;
+use crate::notes::Noting;
 use crate::notes::report_if;
 use crate::refusal::Refusal;
 use crate::state::Answer;
@@ -429,14 +430,14 @@ fn too_long(count: usize, params: usize) -> bool
 pub fn function_node(
     words: &[u64],
     nodes: &mut [u64],
-    notes: &mut [u64],
+    notes: &mut [u64; Noting::WORDS],
     given: Given,
     h: FunctionHead,
     there: bool,
     count: usize,
     p: Params,
 ) -> Answer
-    requires { ⌜ MayPutFunction (now words) (now nodes) (now notes) given h p ⌝ }
+    requires { ⌜ MayPutFunction (now words) (now nodes) given h p ⌝ }
     ensures { λ r. ⌜ MakesFunction (now (words .entry)) given h there count p (now (nodes .entry)) (now (notes .entry)) r (now (nodes .exit)) (now (notes .exit)) ⌝ }
     ensures { λ r. ⌜ Reached (length (now (words .entry))) given (placeOf (p .m)) (p .m .used + 1) (r .high) (r .why) (r .m) ⌝ }
 {
@@ -455,14 +456,14 @@ pub fn function_node(
 fn constructor_node(
     words: &[u64],
     nodes: &mut [u64],
-    notes: &mut [u64],
+    notes: &mut [u64; Noting::WORDS],
     given: Given,
     h: FunctionHead,
     there: bool,
     count: usize,
     p: Params,
 ) -> Answer
-    requires { ⌜ MayPutConstructor (now words) (now nodes) (now notes) given h p ⌝ }
+    requires { ⌜ MayPutConstructor (now words) (now nodes) given h p ⌝ }
     ensures { λ r. ⌜ (h .«is_new» ≡ true → MakesFunction (now (words .entry)) given h there count p (now (nodes .entry)) (now (notes .entry)) r (now (nodes .exit)) (now (notes .exit))) ⌝ }
     ensures { λ r. ⌜ Reached (length (now (words .entry))) given (placeOf (p .m)) (p .m .used + 1) (r .high) (r .why) (r .m) ⌝ }
 {
