@@ -4,7 +4,7 @@ use mathlib.Core.List.{List, [], _∷_, _++_}
 use Prim.Native.Nat.{ℕ, zero, suc, _+_, _*_, _≤_}
 use lib.Dec.{eqb}
 use lib.ListN.{length, getD}
-use Rattle.words.specs.Limits.{mostTokens, mostText, mostNotes, tallest}
+use Rattle.words.specs.Limits.{mostTokens, mostText, tallest}
 use Rattle.words.specs.Test.{test}
 use Rattle.words.specs.Word.{size, end}
 use Rattle.words.specs.Cursor.{wordAt, kindAt}
@@ -26,10 +26,6 @@ tallies = 8
 -- Where the record of diagnostic n begins.
 abbrev pub noteAt : ℕ → ℕ
 noteAt n = tallies + n * noteWidth
-
--- The words of the tallies and of as many diagnostics as there may be.
-abbrev pub notingWords : ℕ
-notingWords = noteAt mostNotes
 
 -- The first n diagnostics of their words.
 unfoldable pub notesOf : List ℕ → ℕ → List Note
@@ -87,10 +83,9 @@ pub record Spelt (text W : List ℕ) : Type 0 where
 
 -- ---- Numbers
 
--- The room for nodes is that of the words lent, and there are words for every diagnostic that there may be.
-pub record Room (nodes notes : ℕ) (g : Given) : Type 0 where
+-- The room for nodes is that of the words lent.
+pub record Room (nodes : ℕ) (g : Given) : Type 0 where
   pub forNodes : g .room * recordWords ≤ nodes
-  pub forNotes : notingWords ≤ notes
 
 -- A cursor within the list.
 pub record Inside (len : ℕ) (m : Mark) : Type 0 where

@@ -1,8 +1,9 @@
 // Lists: what stands between entries, and their end.
 ghost use Prim.Native.Nat.{_*_, _≤_, _<_};
 ghost use lib.ListN.{length};
-ghost use Rattle.marks.specs.State.{notingWords, Sound, Inside, Fine, Moved, Under};
+ghost use Rattle.marks.specs.State.{Sound, Inside, Fine, Moved, Under};
 ghost use Rattle.marks.specs.List.{Follows, Ends, EndsAt};
+use crate::notes::Noting;
 use crate::notes::report_if;
 use crate::refusal::Refusal;
 use crate::state::Answer;
@@ -34,14 +35,14 @@ pub fn past_comma(words: &[u64], close: usize, m: Mark) -> Answer
 // At the closing mark: a diagnostic from byte `first` on if nothing is in the list.
 pub fn list_end(
     words: &[u64],
-    notes: &mut [u64],
+    notes: &mut [u64; Noting::WORDS],
     given: Given,
     number: usize,
     first: usize,
     k: Kids,
     m: Mark,
 ) -> Listed
-    requires { ⌜ Sound (now words) × (notingWords ≤ length (now notes)) × Fine (length (now words)) given m × (m .at < length (now words)) × Under (m .used) k ⌝ }
+    requires { ⌜ Sound (now words) × Fine (length (now words)) given m × (m .at < length (now words)) × Under (m .used) k ⌝ }
     ensures { λ r. ⌜ Ends (now (words .entry)) given number first k m (now (notes .entry)) r (now (notes .exit)) ⌝ }
     ensures { λ r. ⌜ EndsAt given m r ⌝ }
 {

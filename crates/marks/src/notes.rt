@@ -4,9 +4,10 @@ ghost use mathlib.Core.Bool.{true};
 ghost use mathlib.Core.List.{[], _∷_, _++_};
 ghost use Prim.Native.Nat.{_+_, _*_, _≤_, _<_};
 ghost use lib.ListN.{length};
+ghost use Rattle.words.specs.Limits.{mostNotes};
 ghost use Rattle.keys.specs.Store.{filled};
 ghost use Rattle.rules.specs.Notes.{note, noteWidth, noteWords};
-ghost use Rattle.marks.specs.State.{noteAt, notingWords, notesOf};
+ghost use Rattle.marks.specs.State.{noteAt, notesOf};
 ghost use Rattle.marks.specs.Notes.{Reports, Noted};
 use crate::refusal::Refusal;
 use crate::state::Answer;
@@ -46,7 +47,7 @@ impl Noting {
     pub const WORDS: usize = 104;
 }
 
-// The three words of a record.
+// The three words of a record. The array comes as a slice: lending it so is what tells the proof how long it is.
 fn append_note(notes: &mut [u64], at: usize, number: usize, first: usize, end: usize)
     requires { ⌜ noteAt (at + 1) ≤ length (now notes) ⌝ }
     ensures { λ _. ⌜ notesOf (now (notes .exit)) (at + 1) ≡ notesOf (now (notes .entry)) at ++ (note number first end ∷ []) ⌝ }
@@ -59,14 +60,14 @@ fn append_note(notes: &mut [u64], at: usize, number: usize, first: usize, end: u
 
 // A diagnostic; 9 where it would be one too many or has no record.
 pub fn report(
-    notes: &mut [u64],
+    notes: &mut [u64; Noting::WORDS],
     given: Given,
     number: usize,
     first: usize,
     end: usize,
     m: Mark,
 ) -> Answer
-    requires { ⌜ (notingWords ≤ length (now notes)) × (m .noted ≤ given .records) ⌝ }
+    requires { ⌜ m .noted ≤ given .records ⌝ }
     ensures { λ r. ⌜ Reports true given (note number first end) m (now (notes .entry)) r (now (notes .exit)) ⌝ }
     ensures { λ r. ⌜ Noted given m r ⌝ }
 {
@@ -90,14 +91,14 @@ pub fn report(
 // A diagnostic where a test holds.
 pub fn report_if(
     holds: bool,
-    notes: &mut [u64],
+    notes: &mut [u64; Noting::WORDS],
     given: Given,
     number: usize,
     first: usize,
     end: usize,
     m: Mark,
 ) -> Answer
-    requires { ⌜ (notingWords ≤ length (now notes)) × (m .noted ≤ given .records) ⌝ }
+    requires { ⌜ m .noted ≤ given .records ⌝ }
     ensures { λ r. ⌜ Reports holds given (note number first end) m (now (notes .entry)) r (now (notes .exit)) ⌝ }
     ensures { λ r. ⌜ Noted given m r ⌝ }
 {
@@ -108,8 +109,8 @@ pub fn report_if(
 }
 
 // The first diagnostics of a reading as records in words lent, then zeros.
-pub fn copy_notes(noting: &[u64], count: usize, notes: &mut [u64])
-    requires { ⌜ (noteAt count ≤ length (now noting)) × (count * noteWidth ≤ length (now notes)) ⌝ }
+pub fn copy_notes(noting: &[u64; Noting::WORDS], count: usize, notes: &mut [u64])
+    requires { ⌜ (count ≤ mostNotes) × (count * noteWidth ≤ length (now notes)) ⌝ }
     ensures { λ _. ⌜ now (notes .exit) ≡ filled (length (now (notes .entry))) (noteWords (notesOf (now (noting .entry)) count)) ⌝ }
 {
     let words = count * Noting::RECORD;

@@ -19,7 +19,7 @@ use Rattle.rules.specs.List.{count}
 use Rattle.rules.specs.TypeParameters as types
 use Rattle.rules.specs.Function as function
 use Rattle.rules.specs.Function.{ThisParameter, Parameters}
-use Rattle.marks.specs.State.{notingWords, view, givenOf, nextMark, pastMark, Sound, Spelt, Fine, Under}
+use Rattle.marks.specs.State.{view, givenOf, nextMark, pastMark, Sound, Spelt, Fine, Under}
 use Rattle.marks.specs.Laid.{runIn, runOpt, runs, runsOpt, IsNode, IsOpt, AllNodes, AllOpt, Was, BuiltAt}
 use Rattle.marks.specs.Says.{Says, SaysNames, one, isThere}
 use Rattle.marks.specs.Node.{Links, optList}
@@ -161,15 +161,15 @@ abbrev pub constructorChoices : (isAbstract there : Bool) (many params : ℕ) �
 constructorChoices isAbstract there many params = 13 + 64 * (unit isAbstract + 2 * (optList there many + listScale there * params))
 
 -- The node of a constructor type may be put, or a diagnostic be recorded before it.
-abbrev pub MayPutConstructor : (W N O : List ℕ) (given : Given) (h : FunctionHead) (p : Params) → Type 0
-MayPutConstructor W N O given h p =
-    Sound W × (given .room * recordWords ≤ length N) × (notingWords ≤ length O) × Fine (length W) given (p .m) × Under (p .m .used) (p .kids)
+abbrev pub MayPutConstructor : (W N : List ℕ) (given : Given) (h : FunctionHead) (p : Params) → Type 0
+MayPutConstructor W N given h p =
+    Sound W × (given .room * recordWords ≤ length N) × Fine (length W) given (p .m) × Under (p .m .used) (p .kids)
     × (h .b .first < 2 ^ 32) × (h .b .name ≤ mostTokens)
 
 -- The same of any function type, whose `this` has two bits.
-abbrev pub MayPutFunction : (W N O : List ℕ) (given : Given) (h : FunctionHead) (p : Params) → Type 0
-MayPutFunction W N O given h p =
-    Sound W × (given .room * recordWords ≤ length N) × (notingWords ≤ length O) × Fine (length W) given (p .m) × Under (p .m .used) (p .kids)
+abbrev pub MayPutFunction : (W N : List ℕ) (given : Given) (h : FunctionHead) (p : Params) → Type 0
+MayPutFunction W N given h p =
+    Sound W × (given .room * recordWords ≤ length N) × Fine (length W) given (p .m) × Under (p .m .used) (p .kids)
     × (p .this .bits ≤ 3) × (h .b .first < 2 ^ 32) × (h .b .name ≤ mostTokens)
 
 -- All parts of a function type that stand since B, and the node that the rules make of them.

@@ -19,7 +19,7 @@ use Rattle.rules.specs.Notes.{note, requiredAfterOptional, restAfterLabel, aske
 use Rattle.rules.specs.State as rule
 use Rattle.rules.specs.State.{State, Result, Reader, read, then, next, stands, first, end, spelling, past, make, reportIf}
 use Rattle.rules.specs.Tuple as tuple
-use Rattle.marks.specs.State.{notingWords, view, givenOf, nextMark, pastMark, namedMark, Sound, Spelt, Fine, Under}
+use Rattle.marks.specs.State.{view, givenOf, nextMark, pastMark, namedMark, Sound, Spelt, Fine, Under}
 use Rattle.marks.specs.Laid.{heights, runIn, namesRun, IsNode, Was, Laid, Stands, Spoken}
 use Rattle.marks.specs.Says.{Says}
 use Rattle.marks.specs.List.{here}
@@ -123,21 +123,15 @@ memberChoices asked = 22 + 64 * unit asked
 
 -- ---- What is asked before a node is put
 
--- A member may be put about its type, which was read last.
+-- A member may be put about its type, which was read last, or a rest about it.
 abbrev pub MayPutMember : (W N : List ℕ) (given : Given) (l : Label) (high : ℕ) (m : Mark) → Type 0
 MayPutMember W N given l high m =
     Sound W × (given .room * recordWords ≤ length N) × Fine (length W) given m × (1 ≤ m .used) × (high ≤ tallest) × LabelSmall l × (l .b .name ≤ mostTokens)
 
--- The same of a member, and of a rest about it, where a diagnostic may be recorded.
-abbrev pub MayPutRest : (W N O : List ℕ) (given : Given) (l : Label) (high : ℕ) (m : Mark) → Type 0
-MayPutRest W N O given l high m =
-    Sound W × (given .room * recordWords ≤ length N) × (notingWords ≤ length O) × Fine (length W) given m × (1 ≤ m .used) × (high ≤ tallest)
-    × LabelSmall l × (l .b .name ≤ mostTokens)
-
 -- The same of any element whose type was read.
-abbrev pub MayPutElement : (W N O : List ℕ) (given : Given) (l : Label) (a : Answer) → Type 0
-MayPutElement W N O given l a =
-    Sound W × (given .room * recordWords ≤ length N) × (notingWords ≤ length O) × Fine (length W) given (a .m) × (1 ≤ a .m .used) × (a .high ≤ tallest)
+abbrev pub MayPutElement : (W N : List ℕ) (given : Given) (l : Label) (a : Answer) → Type 0
+MayPutElement W N given l a =
+    Sound W × (given .room * recordWords ≤ length N) × Fine (length W) given (a .m) × (1 ≤ a .m .used) × (a .high ≤ tallest)
     × (a .why ≡ 0) × LabelSmall l × (l .b .name ≤ mostTokens)
 
 -- A tuple may be put over its elements, at the mark that closes it.

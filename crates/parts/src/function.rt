@@ -30,6 +30,7 @@ use marks::node::opt_bit;
 use marks::node::opt_list;
 use marks::node::put;
 use marks::notes::Note;
+use marks::notes::Noting;
 use marks::notes::report_if;
 use marks::refusal::Refusal;
 use marks::state::Answer;
@@ -429,14 +430,14 @@ fn too_long(count: usize, params: usize) -> bool
 pub fn function_node(
     words: &[u64],
     nodes: &mut [u64],
-    notes: &mut [u64],
+    notes: &mut [u64; Noting::WORDS],
     given: Given,
     h: FunctionHead,
     there: bool,
     count: usize,
     p: Params,
 ) -> Answer
-    requires { ⌜ MayPutFunction (now words) (now nodes) (now notes) given h p ⌝ }
+    requires { ⌜ MayPutFunction (now words) (now nodes) given h p ⌝ }
     ensures { λ r. ⌜ MakesFunction (now (words .entry)) given h there count p (now (nodes .entry)) (now (notes .entry)) r (now (nodes .exit)) (now (notes .exit)) ⌝ }
     ensures { λ r. ⌜ Reached (length (now (words .entry))) given (placeOf (p .m)) (p .m .used + 1) (r .high) (r .why) (r .m) ⌝ }
 {
@@ -455,14 +456,14 @@ pub fn function_node(
 fn constructor_node(
     words: &[u64],
     nodes: &mut [u64],
-    notes: &mut [u64],
+    notes: &mut [u64; Noting::WORDS],
     given: Given,
     h: FunctionHead,
     there: bool,
     count: usize,
     p: Params,
 ) -> Answer
-    requires { ⌜ MayPutConstructor (now words) (now nodes) (now notes) given h p ⌝ }
+    requires { ⌜ MayPutConstructor (now words) (now nodes) given h p ⌝ }
     ensures { λ r. ⌜ (h .«is_new» ≡ true → MakesFunction (now (words .entry)) given h there count p (now (nodes .entry)) (now (notes .entry)) r (now (nodes .exit)) (now (notes .exit))) ⌝ }
     ensures { λ r. ⌜ Reached (length (now (words .entry))) given (placeOf (p .m)) (p .m .used + 1) (r .high) (r .why) (r .m) ⌝ }
 {

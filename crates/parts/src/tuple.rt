@@ -5,15 +5,16 @@ ghost use Prim.Native.Nat.{_*_, _%_, _≤_, _<_, _^_};
 ghost use lib.ListN.{length};
 ghost use Rattle.words.specs.Class.{classWords};
 ghost use Rattle.keys.specs.Limits.{recordWords};
-ghost use Rattle.marks.specs.State.{notingWords, nextMark, Sound, Inside, Along, Reached, placeOf};
+ghost use Rattle.marks.specs.State.{nextMark, Sound, Inside, Along, Reached, placeOf};
 ghost use Rattle.marks.specs.Node.{Put, MakesList, MakesAbout};
 ghost use Rattle.marks.specs.Names.{Speaks, MayName};
-ghost use Rattle.parts.specs.Tuple.{LabelIs, LabelSmall, labelledAt, labelAt, memberChoices, Converts, MakesMember, MakesRest, MakesElement, optionalWord, lastWord, Checks, SeenAt, MayPutElement, MayPutMember, MayPutRest, MayPutTuple, StartsElement};
+ghost use Rattle.parts.specs.Tuple.{LabelIs, LabelSmall, labelledAt, labelAt, memberChoices, Converts, MakesMember, MakesRest, MakesElement, optionalWord, lastWord, Checks, SeenAt, MayPutElement, MayPutMember, MayPutTuple, StartsElement};
 use marks::names::spell;
 use marks::node::Tag;
 use marks::node::put_about;
 use marks::node::put_list;
 use marks::notes::Note;
+use marks::notes::Noting;
 use marks::notes::report_if;
 use marks::state::Answer;
 use marks::state::Begin;
@@ -134,12 +135,12 @@ fn convert_type_to_tuple_element(nodes: &mut [u64], used: usize) -> bool
 pub fn element_node(
     words: &[u64],
     nodes: &mut [u64],
-    notes: &mut [u64],
+    notes: &mut [u64; Noting::WORDS],
     given: Given,
     l: Label,
     a: Answer,
 ) -> Answer
-    requires { ⌜ MayPutElement (now words) (now nodes) (now notes) given l a ⌝ }
+    requires { ⌜ MayPutElement (now words) (now nodes) given l a ⌝ }
     ensures { λ r. ⌜ MakesElement (now (words .entry)) given l a (now (nodes .entry)) (now (notes .entry)) r (now (nodes .exit)) (now (notes .exit)) ⌝ }
     ensures { λ r. ⌜ Reached (length (now (words .entry))) given (placeOf (a .m)) (a .m .used) (r .high) (r .why) (r .m) ⌝ }
 {
@@ -158,12 +159,12 @@ pub fn element_node(
 fn member(
     words: &[u64],
     nodes: &mut [u64],
-    notes: &mut [u64],
+    notes: &mut [u64; Noting::WORDS],
     given: Given,
     l: Label,
     a: Answer,
 ) -> Answer
-    requires { ⌜ MayPutRest (now words) (now nodes) (now notes) given l (a .high) (a .m) ⌝ }
+    requires { ⌜ MayPutMember (now words) (now nodes) given l (a .high) (a .m) ⌝ }
     ensures { λ r. ⌜ MakesMember (now (words .entry)) given l a (now (nodes .entry)) (now (notes .entry)) r (now (nodes .exit)) (now (notes .exit)) ⌝ }
     ensures { λ r. ⌜ Reached (length (now (words .entry))) given (placeOf (a .m)) (a .m .used) (r .high) (r .why) (r .m) ⌝ }
 {
@@ -215,13 +216,13 @@ fn member_node(
 fn rest_of(
     words: &[u64],
     nodes: &mut [u64],
-    notes: &mut [u64],
+    notes: &mut [u64; Noting::WORDS],
     given: Given,
     l: Label,
     high: usize,
     m: Mark,
 ) -> Answer
-    requires { ⌜ MayPutRest (now words) (now nodes) (now notes) given l high m ⌝ }
+    requires { ⌜ MayPutMember (now words) (now nodes) given l high m ⌝ }
     ensures { λ r. ⌜ MakesRest (now (words .entry)) given l high m (now (nodes .entry)) (now (notes .entry)) r (now (nodes .exit)) (now (notes .exit)) ⌝ }
     ensures { λ r. ⌜ Reached (length (now (words .entry))) given (placeOf m) (m .used) (r .high) (r .why) (r .m) ⌝ }
 {
@@ -270,8 +271,14 @@ fn is_optional(nodes: &[u64], used: usize) -> bool
 }
 
 // The element read last, after others: diagnostic 4 for one that is neither optional nor a rest, if an optional one was seen.
-pub fn checked(nodes: &[u64], notes: &mut [u64], given: Given, seen: bool, m: Mark) -> Seen
-    requires { ⌜ (notingWords ≤ length (now notes)) × (m .noted ≤ given .records) × (1 ≤ m .used) × (m .used * recordWords ≤ length (now nodes)) ⌝ }
+pub fn checked(
+    nodes: &[u64],
+    notes: &mut [u64; Noting::WORDS],
+    given: Given,
+    seen: bool,
+    m: Mark,
+) -> Seen
+    requires { ⌜ (m .noted ≤ given .records) × (1 ≤ m .used) × (m .used * recordWords ≤ length (now nodes)) ⌝ }
     ensures { λ r. ⌜ Checks given seen m (now (nodes .entry)) (now (notes .entry)) r (now (notes .exit)) ⌝ }
     ensures { λ r. ⌜ SeenAt given m r ⌝ }
 {

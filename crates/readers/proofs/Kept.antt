@@ -8,10 +8,9 @@ use Rattle.marks.specs.declared.state.Given.{Given}
 use Rattle.marks.specs.declared.state.Mark.{Mark}
 
 -- The slices are as long as they were, and the mark went on from p₀ within what there is.
-pub record Kept (len : ℕ) (given : Given) (N₀ M₀ O₀ : List ℕ) (p₀ : Mark) (N M O : List ℕ) (p : Mark) : Type 0 where
+pub record Kept (len : ℕ) (given : Given) (N₀ M₀ : List ℕ) (p₀ : Mark) (N M : List ℕ) (p : Mark) : Type 0 where
   pub nodes : length N ≡ length N₀
   pub names : length M ≡ length M₀
-  pub notes : length O ≡ length O₀
   pub onward : placeOf p₀ ≤ placeOf p
   pub more : p₀ .used ≤ p .used
   pub fine : Fine len given p

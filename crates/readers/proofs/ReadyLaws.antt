@@ -8,6 +8,6 @@ use Rattle.marks.specs.declared.state.Mark.{Mark}
 use Rattle.readers.specs.Ring.{Ready}
 
 -- The tokens, their text and the classes stay as they are.
-pub ready : {text words classes N O N' O' : List ℕ} {given given' : Given} {m q : Mark} → Ready text words classes N O given m
-    → Room (length N') (length O') given' → Fine (length words) given' q → Ready text words classes N' O' given' q
+pub ready : {text words classes N N' : List ℕ} {given given' : Given} {m q : Mark} → Ready text words classes N given m
+    → Room (length N') given' → Fine (length words) given' q → Ready text words classes N' given' q
 ready r a b = record { classes-are = r .classes-are; sound = r .sound; spelt = r .spelt; room = a; fine = b }

@@ -60,11 +60,11 @@ pub record SaysRest (B : Was) (t : Run) (th : Opt ThisParameter) (x : Result Par
 -- ---- What is asked
 
 -- The table of classes, a sound list that the text spells, room as told, and a mark within what there is.
-pub record Ready (text words classes nodes notes : List ℕ) (given : Given) (m : Mark) : Type 0 where
+pub record Ready (text words classes nodes : List ℕ) (given : Given) (m : Mark) : Type 0 where
   pub classes-are : classes ≡ classWords
   pub sound : Sound words
   pub spelt : Spelt text words
-  pub room : Room (length nodes) (length notes) given
+  pub room : Room (length nodes) given
   pub fine : Fine (length words) given m
 
 -- A node begins within the text, and its names within the tokens.

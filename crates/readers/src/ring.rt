@@ -33,6 +33,7 @@ use marks::node::put;
 use marks::node::put_about;
 use marks::node::put_list;
 use marks::notes::Note;
+use marks::notes::Noting;
 use marks::refusal::Refusal;
 use marks::state::Answer;
 use marks::state::Begin;
@@ -97,12 +98,12 @@ pub fn ty(
     classes: &[u16; 256],
     nodes: &mut [u64],
     names: &mut [u64],
-    notes: &mut [u64],
+    notes: &mut [u64; Noting::WORDS],
     given: Given,
     on: bool,
     m: Mark,
 ) -> Answer
-    requires { ⌜ Ready (now text) (now words) (now classes) (now nodes) (now notes) given m ⌝ }
+    requires { ⌜ Ready (now text) (now words) (now classes) (now nodes) given m ⌝ }
     ensures { λ r. ⌜ Reads 0 (λ g. readType g (given .left) on) text words given m nodes names notes r ⌝ }
     ensures { λ r. ⌜ Within words given r ⌝ }
     ensures { λ r. ⌜ Onward m r ⌝ }
@@ -155,13 +156,13 @@ fn extends(
     classes: &[u16; 256],
     nodes: &mut [u64],
     names: &mut [u64],
-    notes: &mut [u64],
+    notes: &mut [u64; Noting::WORDS],
     given: Given,
     b: Begin,
     high: usize,
     m: Mark,
 ) -> Answer
-    requires { ⌜ Ready (now text) (now words) (now classes) (now nodes) (now notes) given m × (m .at < length (now words)) × (1 ≤ m .used) × (high ≤ tallest) × Begun b ⌝ }
+    requires { ⌜ Ready (now text) (now words) (now classes) (now nodes) given m × (m .at < length (now words)) × (1 ≤ m .used) × (high ≤ tallest) × Begun b ⌝ }
     ensures { λ r. ⌜ Behind (λ u g. type.conditional g (below given g) (b .first) u) text words given b high m nodes names notes r ⌝ }
     ensures { λ r. ⌜ Within words given r ⌝ }
     ensures { λ r. ⌜ Onward m r ⌝ }
@@ -250,13 +251,13 @@ fn child(
     classes: &[u16; 256],
     nodes: &mut [u64],
     names: &mut [u64],
-    notes: &mut [u64],
+    notes: &mut [u64; Noting::WORDS],
     given: Given,
     on: bool,
     kids: Kids,
     m: Mark,
 ) -> Listed
-    requires { ⌜ Ready (now text) (now words) (now classes) (now nodes) (now notes) given m × Under (m .used) kids ⌝ }
+    requires { ⌜ Ready (now text) (now words) (now classes) (now nodes) given m × Under (m .used) kids ⌝ }
     ensures { λ r. ⌜ Child (λ g. below given g on) text words given kids m nodes names notes r ⌝ }
     ensures { λ r. ⌜ WithinList words given r ⌝ }
     ensures { λ r. ⌜ OnwardChild kids m r ⌝ }
@@ -282,14 +283,14 @@ fn opt(
     classes: &[u16; 256],
     nodes: &mut [u64],
     names: &mut [u64],
-    notes: &mut [u64],
+    notes: &mut [u64; Noting::WORDS],
     given: Given,
     mark: usize,
     on: bool,
     kids: Kids,
     m: Mark,
 ) -> Listed
-    requires { ⌜ Ready (now text) (now words) (now classes) (now nodes) (now notes) given m × (0 < mark) × Under (m .used) kids ⌝ }
+    requires { ⌜ Ready (now text) (now words) (now classes) (now nodes) given m × (0 < mark) × Under (m .used) kids ⌝ }
     ensures { λ r. ⌜ Option (λ g. optional g mark (below given g on)) text words given kids m nodes names notes r ⌝ }
     ensures { λ r. ⌜ WithinList words given r ⌝ }
     ensures { λ r. ⌜ (r .why ≡ 0 → Past (placeOf m) (m .used) (r .m)) ⌝ }
@@ -330,12 +331,12 @@ fn function(
     classes: &[u16; 256],
     nodes: &mut [u64],
     names: &mut [u64],
-    notes: &mut [u64],
+    notes: &mut [u64; Noting::WORDS],
     given: Given,
     on: bool,
     m: Mark,
 ) -> Answer
-    requires { ⌜ Ready (now text) (now words) (now classes) (now nodes) (now notes) given m ⌝ }
+    requires { ⌜ Ready (now text) (now words) (now classes) (now nodes) given m ⌝ }
     ensures { λ r. ⌜ Reads 0 (λ g. function.function g (below given g) on) text words given m nodes names notes r ⌝ }
     ensures { λ r. ⌜ Within words given r ⌝ }
     ensures { λ r. ⌜ Onward m r ⌝ }
@@ -387,12 +388,12 @@ fn tparams(
     classes: &[u16; 256],
     nodes: &mut [u64],
     names: &mut [u64],
-    notes: &mut [u64],
+    notes: &mut [u64; Noting::WORDS],
     given: Given,
     on: bool,
     m: Mark,
 ) -> Listed
-    requires { ⌜ Ready (now text) (now words) (now classes) (now nodes) (now notes) given m ⌝ }
+    requires { ⌜ Ready (now text) (now words) (now classes) (now nodes) given m ⌝ }
     ensures { λ r. ⌜ ReadsList 4 (λ g. types.typeParameters g (below given g) on) text words given m nodes names notes r ⌝ }
     ensures { λ r. ⌜ WithinList words given r ⌝ }
     ensures { λ r. ⌜ (r .why ≡ 0 → Past (placeOf m) (m .used) (r .m)) ⌝ }
@@ -433,12 +434,12 @@ fn tparam(
     classes: &[u16; 256],
     nodes: &mut [u64],
     names: &mut [u64],
-    notes: &mut [u64],
+    notes: &mut [u64; Noting::WORDS],
     given: Given,
     on: bool,
     m: Mark,
 ) -> Answer
-    requires { ⌜ Ready (now text) (now words) (now classes) (now nodes) (now notes) given m ⌝ }
+    requires { ⌜ Ready (now text) (now words) (now classes) (now nodes) given m ⌝ }
     ensures { λ r. ⌜ Reads 4 (λ g. types.typeParameter g (below given g) on) text words given m nodes names notes r ⌝ }
     ensures { λ r. ⌜ Within words given r ⌝ }
     ensures { λ r. ⌜ Onward m r ⌝ }
@@ -499,13 +500,13 @@ fn params(
     classes: &[u16; 256],
     nodes: &mut [u64],
     names: &mut [u64],
-    notes: &mut [u64],
+    notes: &mut [u64; Noting::WORDS],
     given: Given,
     is_new: bool,
     kids: Kids,
     m: Mark,
 ) -> Params
-    requires { ⌜ Ready (now text) (now words) (now classes) (now nodes) (now notes) given m × Under (m .used) kids ⌝ }
+    requires { ⌜ Ready (now text) (now words) (now classes) (now nodes) given m × Under (m .used) kids ⌝ }
     ensures { λ r. ⌜ ReadsParams text words given «is_new» kids m nodes names notes r ⌝ }
     ensures { λ r. ⌜ WithinParams words given r ⌝ }
     ensures { λ r. ⌜ (r .why ≡ 0 → Past (placeOf m + 1) (m .used) (r .m)) ⌝ }
@@ -561,13 +562,13 @@ fn plist(
     classes: &[u16; 256],
     nodes: &mut [u64],
     names: &mut [u64],
-    notes: &mut [u64],
+    notes: &mut [u64; Noting::WORDS],
     given: Given,
     this: This,
     kids: Kids,
     m: Mark,
 ) -> Params
-    requires { ⌜ Ready (now text) (now words) (now classes) (now nodes) (now notes) given m × Under (m .used) kids × (this .bits ≤ 3) ⌝ }
+    requires { ⌜ Ready (now text) (now words) (now classes) (now nodes) given m × Under (m .used) kids × (this .bits ≤ 3) ⌝ }
     ensures { λ r. ⌜ ReadsOthers text words given this kids m nodes names notes r ⌝ }
     ensures { λ r. ⌜ WithinParams words given r ⌝ }
     ensures { λ r. ⌜ (r .why ≡ 0 → Past (placeOf m + 1) (m .used) (r .m)) ⌝ }
@@ -603,11 +604,11 @@ fn param(
     classes: &[u16; 256],
     nodes: &mut [u64],
     names: &mut [u64],
-    notes: &mut [u64],
+    notes: &mut [u64; Noting::WORDS],
     given: Given,
     m: Mark,
 ) -> Answer
-    requires { ⌜ Ready (now text) (now words) (now classes) (now nodes) (now notes) given m ⌝ }
+    requires { ⌜ Ready (now text) (now words) (now classes) (now nodes) given m ⌝ }
     ensures { λ r. ⌜ Reads 5 (λ g. function.parameter g (below given g)) text words given m nodes names notes r ⌝ }
     ensures { λ r. ⌜ Within words given r ⌝ }
     ensures { λ r. ⌜ Onward m r ⌝ }
@@ -652,11 +653,11 @@ fn ret(
     classes: &[u16; 256],
     nodes: &mut [u64],
     names: &mut [u64],
-    notes: &mut [u64],
+    notes: &mut [u64; Noting::WORDS],
     given: Given,
     m: Mark,
 ) -> Answer
-    requires { ⌜ Ready (now text) (now words) (now classes) (now nodes) (now notes) given m ⌝ }
+    requires { ⌜ Ready (now text) (now words) (now classes) (now nodes) given m ⌝ }
     ensures { λ r. ⌜ Reads 0 (λ g. function.returnType g (below given g)) text words given m nodes names notes r ⌝ }
     ensures { λ r. ⌜ Within words given r ⌝ }
     ensures { λ r. ⌜ Onward m r ⌝ }
@@ -675,12 +676,12 @@ fn pred(
     classes: &[u16; 256],
     nodes: &mut [u64],
     names: &mut [u64],
-    notes: &mut [u64],
+    notes: &mut [u64; Noting::WORDS],
     given: Given,
     asserts: bool,
     m: Mark,
 ) -> Answer
-    requires { ⌜ Ready (now text) (now words) (now classes) (now nodes) (now notes) given m × (m .at + unit asserts < length (now words)) ⌝ }
+    requires { ⌜ Ready (now text) (now words) (now classes) (now nodes) given m × (m .at + unit asserts < length (now words)) ⌝ }
     ensures { λ r. ⌜ Reads 0 (λ g. onward.predicate g (below given g) asserts) text words given m nodes names notes r ⌝ }
     ensures { λ r. ⌜ Within words given r ⌝ }
     ensures { λ r. ⌜ Onward m r ⌝ }
@@ -721,12 +722,12 @@ fn union(
     classes: &[u16; 256],
     nodes: &mut [u64],
     names: &mut [u64],
-    notes: &mut [u64],
+    notes: &mut [u64; Noting::WORDS],
     given: Given,
     on: bool,
     m: Mark,
 ) -> Answer
-    requires { ⌜ Ready (now text) (now words) (now classes) (now nodes) (now notes) given m ⌝ }
+    requires { ⌜ Ready (now text) (now words) (now classes) (now nodes) given m ⌝ }
     ensures { λ r. ⌜ Reads 0 (λ g. union.union g (below given g) on) text words given m nodes names notes r ⌝ }
     ensures { λ r. ⌜ Within words given r ⌝ }
     ensures { λ r. ⌜ Onward m r ⌝ }
@@ -760,12 +761,12 @@ fn inter(
     classes: &[u16; 256],
     nodes: &mut [u64],
     names: &mut [u64],
-    notes: &mut [u64],
+    notes: &mut [u64; Noting::WORDS],
     given: Given,
     on: bool,
     m: Mark,
 ) -> Answer
-    requires { ⌜ Ready (now text) (now words) (now classes) (now nodes) (now notes) given m ⌝ }
+    requires { ⌜ Ready (now text) (now words) (now classes) (now nodes) given m ⌝ }
     ensures { λ r. ⌜ Reads 0 (λ g. union.intersection g (below given g) on) text words given m nodes names notes r ⌝ }
     ensures { λ r. ⌜ Within words given r ⌝ }
     ensures { λ r. ⌜ Onward m r ⌝ }
@@ -809,12 +810,12 @@ fn operator(
     classes: &[u16; 256],
     nodes: &mut [u64],
     names: &mut [u64],
-    notes: &mut [u64],
+    notes: &mut [u64; Noting::WORDS],
     given: Given,
     on: bool,
     m: Mark,
 ) -> Answer
-    requires { ⌜ Ready (now text) (now words) (now classes) (now nodes) (now notes) given m ⌝ }
+    requires { ⌜ Ready (now text) (now words) (now classes) (now nodes) given m ⌝ }
     ensures { λ r. ⌜ Reads 0 (λ g. operator.operator g (below given g) on) text words given m nodes names notes r ⌝ }
     ensures { λ r. ⌜ Within words given r ⌝ }
     ensures { λ r. ⌜ Onward m r ⌝ }
@@ -841,12 +842,12 @@ fn infer(
     classes: &[u16; 256],
     nodes: &mut [u64],
     names: &mut [u64],
-    notes: &mut [u64],
+    notes: &mut [u64; Noting::WORDS],
     given: Given,
     on: bool,
     m: Mark,
 ) -> Answer
-    requires { ⌜ Ready (now text) (now words) (now classes) (now nodes) (now notes) given m × (m .at < length (now words)) ⌝ }
+    requires { ⌜ Ready (now text) (now words) (now classes) (now nodes) given m × (m .at < length (now words)) ⌝ }
     ensures { λ r. ⌜ Reads 0 (λ g. infer.infer g (below given g) on) text words given m nodes names notes r ⌝ }
     ensures { λ r. ⌜ Within words given r ⌝ }
     ensures { λ r. ⌜ Onward m r ⌝ }
@@ -883,11 +884,11 @@ fn postfix(
     classes: &[u16; 256],
     nodes: &mut [u64],
     names: &mut [u64],
-    notes: &mut [u64],
+    notes: &mut [u64; Noting::WORDS],
     given: Given,
     m: Mark,
 ) -> Answer
-    requires { ⌜ Ready (now text) (now words) (now classes) (now nodes) (now notes) given m ⌝ }
+    requires { ⌜ Ready (now text) (now words) (now classes) (now nodes) given m ⌝ }
     ensures { λ r. ⌜ Reads 0 (λ g. postfix.postfix g (below given g)) text words given m nodes names notes r ⌝ }
     ensures { λ r. ⌜ Within words given r ⌝ }
     ensures { λ r. ⌜ Onward m r ⌝ }
@@ -917,13 +918,13 @@ fn suffix(
     classes: &[u16; 256],
     nodes: &mut [u64],
     names: &mut [u64],
-    notes: &mut [u64],
+    notes: &mut [u64; Noting::WORDS],
     given: Given,
     b: Begin,
     high: usize,
     m: Mark,
 ) -> Answer
-    requires { ⌜ Ready (now text) (now words) (now classes) (now nodes) (now notes) given m × (m .at < length (now words)) × (1 ≤ m .used) × (high ≤ tallest) × Begun b ⌝ }
+    requires { ⌜ Ready (now text) (now words) (now classes) (now nodes) given m × (m .at < length (now words)) × (1 ≤ m .used) × (high ≤ tallest) × Begun b ⌝ }
     ensures { λ r. ⌜ Behind (λ u g. postfix.suffix g (below given g) (b .first) u) text words given b high m nodes names notes r ⌝ }
     ensures { λ r. ⌜ Within words given r ⌝ }
     ensures { λ r. ⌜ (r .why ≡ 0 → Past (m .at * 2 + 2) (m .used + 1) (r .m)) ⌝ }
@@ -970,11 +971,11 @@ fn primary(
     classes: &[u16; 256],
     nodes: &mut [u64],
     names: &mut [u64],
-    notes: &mut [u64],
+    notes: &mut [u64; Noting::WORDS],
     given: Given,
     m: Mark,
 ) -> Answer
-    requires { ⌜ Ready (now text) (now words) (now classes) (now nodes) (now notes) given m ⌝ }
+    requires { ⌜ Ready (now text) (now words) (now classes) (now nodes) given m ⌝ }
     ensures { λ r. ⌜ Reads 0 (λ g. primary.primary g (below given g)) text words given m nodes names notes r ⌝ }
     ensures { λ r. ⌜ Within words given r ⌝ }
     ensures { λ r. ⌜ Onward m r ⌝ }
@@ -1001,11 +1002,11 @@ fn named(
     classes: &[u16; 256],
     nodes: &mut [u64],
     names: &mut [u64],
-    notes: &mut [u64],
+    notes: &mut [u64; Noting::WORDS],
     given: Given,
     m: Mark,
 ) -> Answer
-    requires { ⌜ Ready (now text) (now words) (now classes) (now nodes) (now notes) given m ⌝ }
+    requires { ⌜ Ready (now text) (now words) (now classes) (now nodes) given m ⌝ }
     ensures { λ r. ⌜ Reads 0 (λ g. onward.nameAt g (below given g)) text words given m nodes names notes r ⌝ }
     ensures { λ r. ⌜ Within words given r ⌝ }
     ensures { λ r. ⌜ Onward m r ⌝ }
@@ -1028,11 +1029,11 @@ fn targs(
     classes: &[u16; 256],
     nodes: &mut [u64],
     names: &mut [u64],
-    notes: &mut [u64],
+    notes: &mut [u64; Noting::WORDS],
     given: Given,
     m: Mark,
 ) -> Listed
-    requires { ⌜ Ready (now text) (now words) (now classes) (now nodes) (now notes) given m ⌝ }
+    requires { ⌜ Ready (now text) (now words) (now classes) (now nodes) given m ⌝ }
     ensures { λ r. ⌜ ReadsList 0 (λ g. arguments.arguments g (below given g)) text words given m nodes names notes r ⌝ }
     ensures { λ r. ⌜ WithinList words given r ⌝ }
     ensures { λ r. ⌜ (r .why ≡ 0 → Past (placeOf m) (m .used) (r .m)) ⌝ }
@@ -1066,11 +1067,11 @@ fn parens(
     classes: &[u16; 256],
     nodes: &mut [u64],
     names: &mut [u64],
-    notes: &mut [u64],
+    notes: &mut [u64; Noting::WORDS],
     given: Given,
     m: Mark,
 ) -> Answer
-    requires { ⌜ Ready (now text) (now words) (now classes) (now nodes) (now notes) given m × (m .at < length (now words)) ⌝ }
+    requires { ⌜ Ready (now text) (now words) (now classes) (now nodes) given m × (m .at < length (now words)) ⌝ }
     ensures { λ r. ⌜ Reads 0 (λ g. primary.brackets g (below given g)) text words given m nodes names notes r ⌝ }
     ensures { λ r. ⌜ Within words given r ⌝ }
     ensures { λ r. ⌜ Onward m r ⌝ }
@@ -1097,11 +1098,11 @@ fn mapped(
     classes: &[u16; 256],
     nodes: &mut [u64],
     names: &mut [u64],
-    notes: &mut [u64],
+    notes: &mut [u64; Noting::WORDS],
     given: Given,
     m: Mark,
 ) -> Answer
-    requires { ⌜ Ready (now text) (now words) (now classes) (now nodes) (now notes) given m × (m .at < length (now words)) ⌝ }
+    requires { ⌜ Ready (now text) (now words) (now classes) (now nodes) given m × (m .at < length (now words)) ⌝ }
     ensures { λ r. ⌜ (kindAt (now (words .entry)) (m .at) (m .half) ≡ LCurly → Reads 0 (λ g. mapped.mapped g (below given g)) text words given m nodes names notes r) ⌝ }
     ensures { λ r. ⌜ Within words given r ⌝ }
     ensures { λ r. ⌜ Onward m r ⌝ }
@@ -1173,11 +1174,11 @@ fn tuple(
     classes: &[u16; 256],
     nodes: &mut [u64],
     names: &mut [u64],
-    notes: &mut [u64],
+    notes: &mut [u64; Noting::WORDS],
     given: Given,
     m: Mark,
 ) -> Answer
-    requires { ⌜ Ready (now text) (now words) (now classes) (now nodes) (now notes) given m × (m .at < length (now words)) ⌝ }
+    requires { ⌜ Ready (now text) (now words) (now classes) (now nodes) given m × (m .at < length (now words)) ⌝ }
     ensures { λ r. ⌜ (kindAt (now (words .entry)) (m .at) (m .half) ≡ LBrack → Reads 0 (λ g. tuple.tuple g (below given g)) text words given m nodes names notes r) ⌝ }
     ensures { λ r. ⌜ Within words given r ⌝ }
     ensures { λ r. ⌜ Onward m r ⌝ }
@@ -1219,11 +1220,11 @@ fn elem(
     classes: &[u16; 256],
     nodes: &mut [u64],
     names: &mut [u64],
-    notes: &mut [u64],
+    notes: &mut [u64; Noting::WORDS],
     given: Given,
     m: Mark,
 ) -> Answer
-    requires { ⌜ Ready (now text) (now words) (now classes) (now nodes) (now notes) given m ⌝ }
+    requires { ⌜ Ready (now text) (now words) (now classes) (now nodes) given m ⌝ }
     ensures { λ r. ⌜ Reads 1 (λ g. tuple.element g (below given g)) text words given m nodes names notes r ⌝ }
     ensures { λ r. ⌜ Within words given r ⌝ }
     ensures { λ r. ⌜ Onward m r ⌝ }
@@ -1243,11 +1244,11 @@ fn template(
     classes: &[u16; 256],
     nodes: &mut [u64],
     names: &mut [u64],
-    notes: &mut [u64],
+    notes: &mut [u64; Noting::WORDS],
     given: Given,
     m: Mark,
 ) -> Answer
-    requires { ⌜ Ready (now text) (now words) (now classes) (now nodes) (now notes) given m × (m .at < length (now words)) ⌝ }
+    requires { ⌜ Ready (now text) (now words) (now classes) (now nodes) given m × (m .at < length (now words)) ⌝ }
     ensures { λ r. ⌜ (kindAt (now (words .entry)) (m .at) (m .half) ≡ TemplateHead → Reads 0 (λ g. template.template g (below given g)) text words given m nodes names notes r) ⌝ }
     ensures { λ r. ⌜ Within words given r ⌝ }
     ensures { λ r. ⌜ Onward m r ⌝ }

@@ -26,8 +26,8 @@ add-notes c = omega arith
 mul-notes : tie.Need-mul-notes Inv-loop μ-loop
 mul-notes c = omega arith
 
-shared-slice-read-notes : tie.Need-shared-slice-read-notes Inv-loop μ-loop
-shared-slice-read-notes c = omega arith
+element-copy-out-notes : tie.Need-element-copy-out-notes Inv-loop μ-loop
+element-copy-out-notes c = omega arith
 
 mul-notes-2 : tie.Need-mul-notes-2 Inv-loop μ-loop
 mul-notes-2 c = omega arith
@@ -45,9 +45,9 @@ loop-less c = omega arith
 
 loop-again : tie.Need-loop-again Inv-loop μ-loop
 loop-again c =
-    let pre = c .before .before .before .before .before .pre in
+    let pre = c .before .before .before .before .pre in
     let loop = c .before .before .loop in
-    (omega arith, copying-more (omega (arith, pre)) (omega (arith, pre)) (loop .inv .1))
+    (omega arith, copying-more (omega (arith, pre)) (loop .inv .1))
 
 clear-words-requires : tie.Need-clear-words-requires Inv-loop μ-loop
 clear-words-requires c κs = tt
@@ -60,12 +60,12 @@ same-length c =
 
 returns : tie.Need-returns Inv-loop μ-loop
 returns c =
-    let pre = c .before .before .before .before .before .before .before .before .pre in
-    let args = c .before .before .before .before .before .before .before .before .args in
+    let pre = c .before .before .before .before .before .before .before .pre in
+    let args = c .before .before .before .before .before .before .before .args in
     let loop = c .before .before .before .before .before .loop in
     let loop-test = c .before .before .before .before .loop-test in
     let clear-words = c .before .before .clear-words in
-    clear-words .ensures ∙ copying-all (args .count) (omega (arith, loop-test .left, loop .inv .0)) (pre .0) (loop .inv .1)
+    clear-words .ensures ∙ copying-all (args .count) (omega (arith, loop-test .left, loop .inv .0, pre)) (loop .inv .1)
 
 pub copy-notes-spec : {M : Type 1} → statement M
 copy-notes-spec =
@@ -77,7 +77,7 @@ copy-notes-spec =
     loop-holds
     add-notes
     mul-notes
-    shared-slice-read-notes
+    element-copy-out-notes
     mul-notes-2
     slice-write-notes
     add-i

@@ -12,22 +12,22 @@ refused-requires c κs = search needs
 
 returns : tie.Need-returns
 returns c =
-    let pre = c .before .before .before .before .pre in
-    let args = c .before .before .before .before .args in
+    let pre = c .before .before .before .pre in
+    let args = c .before .before .before .args in
     let if1 = c .before .if1 in
     let refused = c .refused in
-    (full refl (full-most (args .given) (args .m) (if1 .taken)) (refused .ensures) refl, noted-same _ (refused .ensures) (pre .1))
+    (full refl (full-most (args .given) (args .m) (if1 .taken)) (refused .ensures) refl, noted-same _ (refused .ensures) pre)
 
 refused-requires-2 : tie.Need-refused-requires-2
 refused-requires-2 c κs = search needs
 
 returns-2 : tie.Need-returns-2
 returns-2 c =
-    let pre = c .before .before .before .before .before .before .before .pre in
-    let args = c .before .before .before .before .before .before .before .args in
+    let pre = c .before .before .before .before .before .before .pre in
+    let args = c .before .before .before .before .before .before .args in
     let if2 = c .before .if2 in
     let refused2 = c .refused2 in
-    (full refl (full-records (args .given) (args .m) (omega arith) (if2 .taken)) (refused2 .ensures) refl, noted-same _ (refused2 .ensures) (pre .1))
+    (full refl (full-records (args .given) (args .m) (omega arith) (if2 .taken)) (refused2 .ensures) refl, noted-same _ (refused2 .ensures) pre)
 
 append-note-requires : tie.Need-append-note-requires
 append-note-requires c κs = search needs
@@ -38,13 +38,10 @@ add-t12 c = search needs
 taken-requires : tie.Need-taken-requires
 taken-requires c κs = search needs
 
-same-length : tie.Need-same-length
-same-length c = search needs
-
 returns-3 : tie.Need-returns-3
 returns-3 c =
-    let args = c .before .before .before .before .before .before .before .before .before .before .before .before .args in
-    let append-note = c .before .before .before .before .append-note in
+    let args = c .before .before .before .before .before .before .before .before .before .args in
+    let append-note = c .before .before .append-note in
     let taken = c .taken in
     (noted refl (full-not (args .given) (args .m) (omega arith) (omega arith)) (taken .ensures) (append-note .ensures), noted-one (taken .ensures) (omega arith))
 
@@ -59,5 +56,4 @@ report-spec =
     append-note-requires
     add-t12
     taken-requires
-    same-length
     returns-3)

@@ -9,14 +9,10 @@ use Rattle.marks.proofs.notes.report_if.Tie as tie
 report-requires : tie.Need-report-requires
 report-requires c κs = search needs
 
-same-length : tie.Need-same-length
-same-length c = search needs
-
 returns : tie.Need-returns
 returns c =
-    let args = c .before .before .before .before .before .before .args in
-    let if1 = c .before .before .before .before .if1 in
-    let report = c .before .before .report in
+    let if1 = c .before .before .if1 in
+    let report = c .report in
     (reports-when (if1 .taken) (report .ensures .0), report .ensures .1)
 
 taken-requires : tie.Need-taken-requires
@@ -24,10 +20,10 @@ taken-requires c κs = search needs
 
 returns-2 : tie.Need-returns-2
 returns-2 c =
-    let pre = c .before .before .before .pre in
+    let pre = c .before .before .pre in
     let if1 = c .before .if1 in
     let taken = c .taken in
-    (silent (if1 .left) (taken .ensures) refl, noted-same 0 (taken .ensures) (pre .1))
+    (silent (if1 .left) (taken .ensures) refl, noted-same 0 (taken .ensures) pre)
 
 pub report-if-spec : {M : Type 1} → statement M
-report-if-spec = tie.close (tie.spec report-requires same-length returns taken-requires returns-2)
+report-if-spec = tie.close (tie.spec report-requires returns taken-requires returns-2)

@@ -11,12 +11,12 @@ is-optional-requires c κs = search needs
 
 returns : tie.Need-returns
 returns c =
-    let pre = c .before .before .before .before .pre in
-    let args = c .before .before .before .before .args in
+    let pre = c .before .before .before .pre in
+    let args = c .before .before .before .args in
     let is-optional = c .before .is-optional in
     let if1 = c .if1 in (
-      checks-optional (args .given) (args .seen) (args .m) (args .nodes .now) (args .notes .now) (pre .3) (pre .2) (sym (is-optional .ensures) ∙ if1 .taken),
-      record { at-is = refl; half-is = refl; used-is = refl; named-is = refl; more = omega arith; recorded = pre .1 },
+      checks-optional (args .given) (args .seen) (args .m) (args .nodes .now) (args .notes .now) (pre .2) (pre .1) (sym (is-optional .ensures) ∙ if1 .taken),
+      record { at-is = refl; half-is = refl; used-is = refl; named-is = refl; more = omega arith; recorded = pre .0 },
     )
 
 last-tag-requires : tie.Need-last-tag-requires
@@ -24,14 +24,14 @@ last-tag-requires c κs = search needs
 
 returns-2 : tie.Need-returns-2
 returns-2 c =
-    let pre = c .before .before .before .before .before .before .pre in
-    let args = c .before .before .before .before .before .before .args in
+    let pre = c .before .before .before .before .before .pre in
+    let args = c .before .before .before .before .before .args in
     let is-optional = c .before .before .before .is-optional in
     let if1 = c .before .before .if1 in
     let last-tag = c .before .last-tag in
     let if2 = c .if2 in (
-      checks-rest (args .given) (args .seen) (args .m) (args .nodes .now) (args .notes .now) (pre .3) (pre .2) (sym (is-optional .ensures) ∙ if1 .left) (sym (last-tag .ensures) ∙ if2 .taken),
-      record { at-is = refl; half-is = refl; used-is = refl; named-is = refl; more = omega arith; recorded = pre .1 },
+      checks-rest (args .given) (args .seen) (args .m) (args .nodes .now) (args .notes .now) (pre .2) (pre .1) (sym (is-optional .ensures) ∙ if1 .left) (sym (last-tag .ensures) ∙ if2 .taken),
+      record { at-is = refl; half-is = refl; used-is = refl; named-is = refl; more = omega arith; recorded = pre .0 },
     )
 
 mul-i : tie.Need-mul-i
@@ -49,19 +49,16 @@ shared-slice-read-place c = search needs
 report-if-requires : tie.Need-report-if-requires
 report-if-requires c κs = search needs
 
-same-length : tie.Need-same-length
-same-length c = search needs
-
 returns-3 : tie.Need-returns-3
 returns-3 c =
-    let pre = c .before .before .before .before .before .before .before .before .before .before .before .before .before .pre in
-    let args = c .before .before .before .before .before .before .before .before .before .before .before .before .before .args in
-    let is-optional = c .before .before .before .before .before .before .before .before .before .before .is-optional in
-    let if1 = c .before .before .before .before .before .before .before .before .before .if1 in
-    let last-tag = c .before .before .before .before .before .before .before .before .last-tag in
-    let if2 = c .before .before .before .before .before .before .before .if2 in
-    let report-if = c .before .before .before .report-if in (
-      checks-other (args .given) (args .seen) (args .m) (args .nodes .now) (args .notes .now) (pre .3) (pre .2) _ _ (report-if .result) _ (sym (is-optional .ensures) ∙ if1 .left) (λ z. if2 .left (last-tag .ensures ∙ z)) refl refl
+    let pre = c .before .before .before .before .before .before .before .before .before .before .pre in
+    let args = c .before .before .before .before .before .before .before .before .before .before .args in
+    let is-optional = c .before .before .before .before .before .before .before .before .is-optional in
+    let if1 = c .before .before .before .before .before .before .before .if1 in
+    let last-tag = c .before .before .before .before .before .before .last-tag in
+    let if2 = c .before .before .before .before .before .if2 in
+    let report-if = c .before .report-if in (
+      checks-other (args .given) (args .seen) (args .m) (args .nodes .now) (args .notes .now) (pre .2) (pre .1) _ _ (report-if .result) _ (sym (is-optional .ensures) ∙ if1 .left) (λ z. if2 .left (last-tag .ensures ∙ z)) refl refl
           (report-if .ensures .0),
       record {
         at-is = report-if .ensures .1 .at-is;
@@ -86,5 +83,4 @@ checked-spec =
     mul-place
     shared-slice-read-place
     report-if-requires
-    same-length
     returns-3)

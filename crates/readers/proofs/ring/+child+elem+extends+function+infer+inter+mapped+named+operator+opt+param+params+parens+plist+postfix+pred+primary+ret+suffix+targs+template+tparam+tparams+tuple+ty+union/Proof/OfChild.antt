@@ -20,68 +20,56 @@ R t = (ty-below t, ty.Post, state-Listed-refused-reads.Asked, state-Listed-refus
 module _ (t : ℕ) where
   pub ty-requires : lts.Need-ty-requires (R t) (child-at t) child.Post
   ty-requires c κs =
-      let pre = c .before .before .before .before .before .before .before .before .pre in
+      let pre = c .before .before .before .before .before .before .before .pre in
       (omega (arith, pre), ready (pre .1 .0) (omega (arith, pre)) (omega (arith, pre)))
 
   pub refused-requires : lts.Need-refused-requires (R t) (child-at t) child.Post
   refused-requires c κs =
-      let pre = c .before .before .before .before .before .before .before .before .before .before .before .before .before .before .before .before .before .pre in
-      let ty = c .before .before .before .before .before .before .before .before .ty in
+      let pre = c .before .before .before .before .before .before .before .before .before .before .before .before .before .before .pre in
+      let ty = c .before .before .before .before .before .before .ty in
       omega (arith, pre, ty .ensures .1 .0, ty .kept)
 
   pub same-length : lts.Need-same-length (R t) (child-at t) child.Post
   same-length c =
-      let ty = c .before .before .before .before .before .before .before .before .before .ty in
-      omega (arith, ty .kept)
+      let ty = c .before .before .before .before .before .before .before .ty in
+      ty .kept .1 .1 .1 .0
 
   pub same-length-2 : lts.Need-same-length-2 (R t) (child-at t) child.Post
   same-length-2 c =
-      let ty = c .before .before .before .before .before .before .before .before .before .ty in
-      omega (arith, ty .kept)
-
-  pub same-length-3 : lts.Need-same-length-3 (R t) (child-at t) child.Post
-  same-length-3 c =
-      let ty = c .before .before .before .before .before .before .before .before .before .ty in
-      omega (arith, ty .kept)
+      let ty = c .before .before .before .before .before .before .before .ty in
+      ty .kept .1 .1 .1 .1 .0
 
   pub returns : lts.Need-returns (R t) (child-at t) child.Post
   returns c =
-      let pre = c .before .before .before .before .before .before .before .before .before .before .before .before .before .before .before .before .before .before .pre in
-      let ty = c .before .before .before .before .before .before .before .before .before .ty in
+      let pre = c .before .before .before .before .before .before .before .before .before .before .before .before .before .before .before .pre in
+      let ty = c .before .before .before .before .before .before .before .ty in
       let if1 = c .before .if1 in
       let refused = c .refused in
       (λ B t b. child-refused (refused .ensures) (if1 .taken) (ty .ensures .0 .refused (if1 .taken)), (omega (arith, same-listed (refused .ensures), pre, ty .ensures .1 .0), λ z. absurd (if1 .taken (sym (ap (λ (x : Listed). x .why) (refused .ensures)) ∙ z))))
 
   pub link-requires : lts.Need-link-requires (R t) (child-at t) child.Post
   link-requires c κs =
-      let pre = c .before .before .before .before .before .before .before .before .before .before .before .before .before .before .before .before .before .before .before .pre in
-      let ty = c .before .before .before .before .before .before .before .before .before .before .ty in
+      let pre = c .before .before .before .before .before .before .before .before .before .before .before .before .before .before .before .before .pre in
+      let ty = c .before .before .before .before .before .before .before .before .ty in
       let if1 = c .before .before .if1 in
       (omega (arith, pre, ty .ensures .1 .0, ty .ensures .1 .1 (if1 .left), ty .kept), omega (arith, pre, ty .ensures .1 .0, ty .ensures .1 .1 (if1 .left), ty .kept), omega (arith, pre, ty .ensures .1 .0, ty .ensures .1 .1 (if1 .left), ty .kept), omega (arith, pre, ty .ensures .1 .0, ty .ensures .1 .1 (if1 .left), ty .kept))
 
+  pub same-length-3 : lts.Need-same-length-3 (R t) (child-at t) child.Post
+  same-length-3 c =
+      let ty = c .before .before .before .before .before .before .before .before .before .before .before .ty in
+      let link = c .before .before .link in
+      link .kept .0 ∙ ty .kept .1 .1 .1 .0
+
   pub same-length-4 : lts.Need-same-length-4 (R t) (child-at t) child.Post
   same-length-4 c =
-      let ty = c .before .before .before .before .before .before .before .before .before .before .before .before .before .ty in
-      let link = c .before .before .link in
-      omega (arith, ty .kept, link .kept)
-
-  pub same-length-5 : lts.Need-same-length-5 (R t) (child-at t) child.Post
-  same-length-5 c =
-      let ty = c .before .before .before .before .before .before .before .before .before .before .before .before .before .ty in
-      let link = c .before .before .link in
-      omega (arith, ty .kept, link .kept)
-
-  pub same-length-6 : lts.Need-same-length-6 (R t) (child-at t) child.Post
-  same-length-6 c =
-      let ty = c .before .before .before .before .before .before .before .before .before .before .before .before .before .ty in
-      let link = c .before .before .link in
-      omega (arith, ty .kept, link .kept)
+      let ty = c .before .before .before .before .before .before .before .before .before .before .before .ty in
+      ty .kept .1 .1 .1 .1 .0
 
   pub returns-2 : lts.Need-returns-2 (R t) (child-at t) child.Post
   returns-2 c =
-      let pre = c .before .before .before .before .before .before .before .before .before .before .before .before .before .before .before .before .before .before .before .before .before .before .pre in
-      let args = c .before .before .before .before .before .before .before .before .before .before .before .before .before .before .before .before .before .before .before .before .before .before .args in
-      let ty = c .before .before .before .before .before .before .before .before .before .before .before .before .before .ty in
+      let pre = c .before .before .before .before .before .before .before .before .before .before .before .before .before .before .before .before .before .before .before .pre in
+      let args = c .before .before .before .before .before .before .before .before .before .before .before .before .before .before .before .before .before .before .before .args in
+      let ty = c .before .before .before .before .before .before .before .before .before .before .before .ty in
       let if1 = c .before .before .before .before .before .if1 in
       let link = c .before .before .link in
       (λ B t b. child-read (args .m) b (ty .ensures .0) (if1 .left) (omega (arith, ty .kept)) (link .ensures .0), (omega (arith, pre, ty .ensures .1 .0, ty .ensures .1 .1 (if1 .left), link .ensures .1), λ z. (omega (arith, pre, ty .ensures .1 .0, ty .ensures .1 .1 (if1 .left), link .ensures .1), link .ensures .1 .1, refl)))

@@ -1,5 +1,6 @@
 -- The needs of `elem`.
 use Prim.Native.Nat.{ℕ}
+use mathlib.Core.Path.{_∙_}
 use native.Mathlib.Omega.{arith}
 use Rattle.parts.proofs.MemberLaws.{element-refused, element-says}
 use Rattle.readers.proofs.ReadyLaws.{ready}
@@ -16,32 +17,31 @@ R t = (element-head-reads.Asked, element-head-reads.Learnt, ty-below t, ty.Post,
 module _ (t : ℕ) where
   pub element-head-requires : lts.Need-element-head-requires (R t) (elem-at t) elem.Post
   element-head-requires c κs =
-      let pre = c .before .before .before .before .before .before .pre in
+      let pre = c .before .before .before .before .before .pre in
       (pre .1 .classes-are, pre .1 .sound, omega arith, omega arith)
 
   pub ty-requires : lts.Need-ty-requires (R t) (elem-at t) elem.Post
   ty-requires c κs =
-      let pre = c .before .before .before .before .before .before .before .before .before .before .before .before .pre in
+      let pre = c .before .before .before .before .before .before .before .before .before .before .before .pre in
       (omega arith, ready (pre .1) (omega arith) (omega arith))
 
   pub same-length : lts.Need-same-length (R t) (elem-at t) elem.Post
   same-length c =
-      omega arith
+      let ty = c .before .before .before .before .before .before .ty in
+      ty .kept .1 .1 .1 .0
 
   pub same-length-2 : lts.Need-same-length-2 (R t) (elem-at t) elem.Post
   same-length-2 c =
-      omega arith
-
-  pub same-length-3 : lts.Need-same-length-3 (R t) (elem-at t) elem.Post
-  same-length-3 c =
-      omega arith
+      let element-head = c .before .before .before .before .before .before .before .before .before .before .before .before .element-head in
+      let ty = c .before .before .before .before .before .before .ty in
+      ty .kept .1 .1 .1 .1 .0 ∙ element-head .kept .1 .1 .0
 
   pub returns : lts.Need-returns (R t) (elem-at t) elem.Post
   returns c =
-      let pre = c .before .before .before .before .before .before .before .before .before .before .before .before .before .before .before .before .before .before .before .before .before .pre in
-      let args = c .before .before .before .before .before .before .before .before .before .before .before .before .before .before .before .before .before .before .before .before .before .args in
-      let element-head = c .before .before .before .before .before .before .before .before .before .before .before .before .before .before .element-head in
-      let ty = c .before .before .before .before .before .before .before .before .ty in
+      let pre = c .before .before .before .before .before .before .before .before .before .before .before .before .before .before .before .before .before .before .pre in
+      let args = c .before .before .before .before .before .before .before .before .before .before .before .before .before .before .before .before .before .before .args in
+      let element-head = c .before .before .before .before .before .before .before .before .before .before .before .before .element-head in
+      let ty = c .before .before .before .before .before .before .ty in
       let if1 = c .if1 in (
         let text = args .text .now in let s = pre .1 .spelt in
             element-refused _ _ (args .given) _ _ _ _ _ _ _ _ _ _ _ s (element-head .ensures .0) (element-head .ensures .1 .0)
@@ -51,12 +51,11 @@ module _ (t : ℕ) where
 
   pub element-node-requires : lts.Need-element-node-requires (R t) (elem-at t) elem.Post
   element-node-requires c κs =
-      let pre = c .before .before .before .before .before .before .before .before .before .before .before .before .before .before .before .before .before .before .before .before .before .before .before .pre in
-      let element-head = c .before .before .before .before .before .before .before .before .before .before .before .before .before .before .before .before .element-head in
-      let ty = c .before .before .before .before .before .before .before .before .before .before .ty in
+      let pre = c .before .before .before .before .before .before .before .before .before .before .before .before .before .before .before .before .before .before .before .before .pre in
+      let element-head = c .before .before .before .before .before .before .before .before .before .before .before .before .before .before .element-head in
+      let ty = c .before .before .before .before .before .before .before .before .ty in
       let if1 = c .before .before .if1 in (
         pre .1 .sound,
-        omega arith,
         omega arith,
         omega arith,
         omega (arith, ty .ensures .1 .1 (if1 .left)),
@@ -66,27 +65,26 @@ module _ (t : ℕ) where
         omega (arith, element-head .ensures .1 .1),
       )
 
+  pub same-length-3 : lts.Need-same-length-3 (R t) (elem-at t) elem.Post
+  same-length-3 c =
+      let ty = c .before .before .before .before .before .before .before .before .before .before .before .ty in
+      let element-node = c .before .before .element-node in
+      element-node .kept .1 .0 ∙ ty .kept .1 .1 .1 .0
+
   pub same-length-4 : lts.Need-same-length-4 (R t) (elem-at t) elem.Post
   same-length-4 c =
-      omega arith
-
-  pub same-length-5 : lts.Need-same-length-5 (R t) (elem-at t) elem.Post
-  same-length-5 c =
-      let element-head = c .before .before .before .before .before .before .before .before .before .before .before .before .before .before .before .before .before .before .before .before .before .element-head in
-      omega (arith, element-head .kept)
-
-  pub same-length-6 : lts.Need-same-length-6 (R t) (elem-at t) elem.Post
-  same-length-6 c =
-      omega arith
+      let element-head = c .before .before .before .before .before .before .before .before .before .before .before .before .before .before .before .before .before .element-head in
+      let ty = c .before .before .before .before .before .before .before .before .before .before .before .ty in
+      ty .kept .1 .1 .1 .1 .0 ∙ element-head .kept .1 .1 .0
 
   pub returns-2 : lts.Need-returns-2 (R t) (elem-at t) elem.Post
   returns-2 c =
-      let pre = c .before .before .before .before .before .before .before .before .before .before .before .before .before .before .before .before .before .before .before .before .before .before .before .before .before .before .before .before .pre in
-      let args = c .before .before .before .before .before .before .before .before .before .before .before .before .before .before .before .before .before .before .before .before .before .before .before .before .before .before .before .before .args in
-      let element-head = c .before .before .before .before .before .before .before .before .before .before .before .before .before .before .before .before .before .before .before .before .before .element-head in
-      let ty = c .before .before .before .before .before .before .before .before .before .before .before .before .before .before .before .ty in
-      let if1 = c .before .before .before .before .before .before .before .if1 in
-      let element-node = c .before .before .before .before .element-node in (
+      let pre = c .before .before .before .before .before .before .before .before .before .before .before .before .before .before .before .before .before .before .before .before .before .before .before .pre in
+      let args = c .before .before .before .before .before .before .before .before .before .before .before .before .before .before .before .before .before .before .before .before .before .before .before .args in
+      let element-head = c .before .before .before .before .before .before .before .before .before .before .before .before .before .before .before .before .before .element-head in
+      let ty = c .before .before .before .before .before .before .before .before .before .before .before .ty in
+      let if1 = c .before .before .before .before .before .if1 in
+      let element-node = c .before .before .element-node in (
         let text = args .text .now in let s = pre .1 .spelt in
             element-says _ _ (args .given) _ _ _ _ _ _ _ _ _ _ _ s (element-head .ensures .0) (element-head .ensures .1 .0)
             (ty .ensures .0) _ _ _ (if1 .left) (element-node .ensures .0),

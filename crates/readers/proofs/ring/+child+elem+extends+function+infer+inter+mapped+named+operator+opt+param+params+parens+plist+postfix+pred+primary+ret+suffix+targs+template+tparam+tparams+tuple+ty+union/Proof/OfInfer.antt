@@ -1,5 +1,6 @@
 -- The needs of `infer`.
 use Prim.Native.Nat.{ℕ}
+use mathlib.Core.Path.{_∙_}
 use native.Mathlib.Omega.{arith}
 use borrow.Author.Needs.{needs}
 use Rattle.marks.specs.State.{view, givenOf}
@@ -29,7 +30,7 @@ R t = (infer-head-reads.Asked, infer-head-reads.Learnt, state-Answer-refused-rea
 module _ (t : ℕ) where
   pub infer-head-requires : lts.Need-infer-head-requires (R t) (infer-at t) infer.Post
   infer-head-requires c κs =
-      let pre = c .before .before .before .before .before .before .pre in
+      let pre = c .before .before .before .before .before .pre in
       (pre .1 .0 .classes-are, pre .1 .0 .sound, omega arith, omega arith)
 
   pub refused-requires : lts.Need-refused-requires (R t) (infer-at t) infer.Post
@@ -38,12 +39,13 @@ module _ (t : ℕ) where
 
   pub same-length : lts.Need-same-length (R t) (infer-at t) infer.Post
   same-length c =
-      omega arith
+      let infer-head = c .before .before .before .before .before .infer-head in
+      infer-head .kept .1 .1 .0
 
   pub returns : lts.Need-returns (R t) (infer-at t) infer.Post
   returns c =
-      let args = c .before .before .before .before .before .before .before .before .before .before .before .before .args in
-      let pre = c .before .before .before .before .before .before .before .before .before .before .before .before .pre in
+      let args = c .before .before .before .before .before .before .before .before .before .before .before .args in
+      let pre = c .before .before .before .before .before .before .before .before .before .before .before .pre in
       let infer-head = c .before .before .before .before .before .infer-head in
       let if1 = c .before .if1 in
       let refused = c .refused in (
@@ -70,22 +72,24 @@ module _ (t : ℕ) where
 
   pub put-requires : lts.Need-put-requires (R t) (infer-at t) infer.Post
   put-requires c κs =
-      let pre = c .before .before .before .before .before .before .before .before .before .before .before .before .before .before .before .before .before .pre in
+      let pre = c .before .before .before .before .before .before .before .before .before .before .before .before .before .before .before .before .pre in
       let none = c .none in
       (pre .1 .0 .sound, omega arith, omega arith, omega (arith, same-kids (none .ensures)), omega arith, omega arith)
 
   pub same-length-2 : lts.Need-same-length-2 (R t) (infer-at t) infer.Post
   same-length-2 c =
-      omega arith
+      let put = c .before .before .put in
+      put .kept .1 .0
 
   pub same-length-3 : lts.Need-same-length-3 (R t) (infer-at t) infer.Post
   same-length-3 c =
-      omega arith
+      let infer-head = c .before .before .before .before .before .before .before .before .before .before .before .before .before .infer-head in
+      infer-head .kept .1 .1 .0
 
   pub returns-2 : lts.Need-returns-2 (R t) (infer-at t) infer.Post
   returns-2 c =
-      let args = c .before .before .before .before .before .before .before .before .before .before .before .before .before .before .before .before .before .before .before .before .args in
-      let pre = c .before .before .before .before .before .before .before .before .before .before .before .before .before .before .before .before .before .before .before .before .pre in
+      let args = c .before .before .before .before .before .before .before .before .before .before .before .before .before .before .before .before .before .before .before .args in
+      let pre = c .before .before .before .before .before .before .before .before .before .before .before .before .before .before .before .before .before .before .before .pre in
       let infer-head = c .before .before .before .before .before .before .before .before .before .before .before .before .before .infer-head in
       let if1 = c .before .before .before .before .before .before .before .before .before .if1 in
       let at = c .before .before .before .before .before .before .before .at in
@@ -105,37 +109,35 @@ module _ (t : ℕ) where
 
   pub add-t20 : lts.Need-add-t20 (R t) (infer-at t) infer.Post
   add-t20 c =
-      let pre = c .before .before .before .before .before .before .before .before .before .before .before .before .before .before .before .before .pre in
+      let pre = c .before .before .before .before .before .before .before .before .before .before .before .before .before .before .before .pre in
       omega (arith, pre)
 
   pub ty-requires : lts.Need-ty-requires (R t) (infer-at t) infer.Post
   ty-requires c κs =
-      let pre = c .before .before .before .before .before .before .before .before .before .before .before .before .before .before .before .before .before .before .before .pre in
+      let pre = c .before .before .before .before .before .before .before .before .before .before .before .before .before .before .before .before .before .before .pre in
       (omega arith, ready (pre .1 .0) (omega arith) (omega arith))
 
   pub same-length-4 : lts.Need-same-length-4 (R t) (infer-at t) infer.Post
   same-length-4 c =
-      omega arith
+      let ty = c .before .before .before .before .before .before .ty in
+      ty .kept .1 .1 .1 .0
 
   pub same-length-5 : lts.Need-same-length-5 (R t) (infer-at t) infer.Post
   same-length-5 c =
-      let infer-head = c .before .before .before .before .before .before .before .before .before .before .before .before .before .before .before .before .before .before .before .before .before .infer-head in
-      omega (arith, infer-head .kept)
-
-  pub same-length-6 : lts.Need-same-length-6 (R t) (infer-at t) infer.Post
-  same-length-6 c =
-      omega arith
+      let infer-head = c .before .before .before .before .before .before .before .before .before .before .before .before .before .before .before .before .before .before .before .infer-head in
+      let ty = c .before .before .before .before .before .before .ty in
+      ty .kept .1 .1 .1 .1 .0 ∙ infer-head .kept .1 .1 .0
 
   pub returns-3 : lts.Need-returns-3 (R t) (infer-at t) infer.Post
   returns-3 c =
-      let pre = c .before .before .before .before .before .before .before .before .before .before .before .before .before .before .before .before .before .before .before .before .before .before .before .before .before .before .before .before .pre in
-      let args = c .before .before .before .before .before .before .before .before .before .before .before .before .before .before .before .before .before .before .before .before .before .before .before .before .before .before .before .before .args in
-      let infer-head = c .before .before .before .before .before .before .before .before .before .before .before .before .before .before .before .before .before .before .before .before .before .infer-head in
-      let if1 = c .before .before .before .before .before .before .before .before .before .before .before .before .before .before .before .before .before .if1 in
-      let at = c .before .before .before .before .before .before .before .before .before .before .before .before .before .before .before .at in
-      let kind-at = c .before .before .before .before .before .before .before .before .before .before .before .before .before .before .kind-at in
-      let if2 = c .before .before .before .before .before .before .before .before .before .before .before .before .before .if2 in
-      let ty = c .before .before .before .before .before .before .before .before .ty in
+      let pre = c .before .before .before .before .before .before .before .before .before .before .before .before .before .before .before .before .before .before .before .before .before .before .before .before .before .pre in
+      let args = c .before .before .before .before .before .before .before .before .before .before .before .before .before .before .before .before .before .before .before .before .before .before .before .before .before .args in
+      let infer-head = c .before .before .before .before .before .before .before .before .before .before .before .before .before .before .before .before .before .before .before .infer-head in
+      let if1 = c .before .before .before .before .before .before .before .before .before .before .before .before .before .before .before .if1 in
+      let at = c .before .before .before .before .before .before .before .before .before .before .before .before .before .at in
+      let kind-at = c .before .before .before .before .before .before .before .before .before .before .before .before .kind-at in
+      let if2 = c .before .before .before .before .before .before .before .before .before .before .before .if2 in
+      let ty = c .before .before .before .before .before .before .ty in
       let if3 = c .if3 in (
         let text = args .text .now in let s = pre .1 .0 .spelt in
             let g = givenOf text (args .words .now) (args .given) in
@@ -153,10 +155,10 @@ module _ (t : ℕ) where
 
   pub infer-node-requires : lts.Need-infer-node-requires (R t) (infer-at t) infer.Post
   infer-node-requires c κs =
-      let pre = c .before .before .before .before .before .before .before .before .before .before .before .before .before .before .before .before .before .before .before .before .before .before .before .before .before .before .before .before .before .before .before .pre in
-      let infer-head = c .before .before .before .before .before .before .before .before .before .before .before .before .before .before .before .before .before .before .before .before .before .before .before .before .infer-head in
-      let at = c .before .before .before .before .before .before .before .before .before .before .before .before .before .before .before .before .before .before .at in
-      let ty = c .before .before .before .before .before .before .before .before .before .before .before .ty in
+      let pre = c .before .before .before .before .before .before .before .before .before .before .before .before .before .before .before .before .before .before .before .before .before .before .before .before .before .before .before .before .pre in
+      let infer-head = c .before .before .before .before .before .before .before .before .before .before .before .before .before .before .before .before .before .before .before .before .before .before .infer-head in
+      let at = c .before .before .before .before .before .before .before .before .before .before .before .before .before .before .before .before .at in
+      let ty = c .before .before .before .before .before .before .before .before .before .ty in
       let if3 = c .before .before .before .if3 in (
         pre .1 .0 .sound,
         omega arith,
@@ -169,29 +171,28 @@ module _ (t : ℕ) where
         omega (arith, ty .ensures .1 .1 (if3 .left)),
       )
 
+  pub same-length-6 : lts.Need-same-length-6 (R t) (infer-at t) infer.Post
+  same-length-6 c =
+      let ty = c .before .before .before .before .before .before .before .before .before .before .before .before .ty in
+      let infer-node = c .before .before .infer-node in
+      infer-node .kept .1 .0 ∙ ty .kept .1 .1 .1 .0
+
   pub same-length-7 : lts.Need-same-length-7 (R t) (infer-at t) infer.Post
   same-length-7 c =
-      omega arith
-
-  pub same-length-8 : lts.Need-same-length-8 (R t) (infer-at t) infer.Post
-  same-length-8 c =
-      let infer-head = c .before .before .before .before .before .before .before .before .before .before .before .before .before .before .before .before .before .before .before .before .before .before .before .before .before .before .before .infer-head in
-      omega (arith, infer-head .kept)
-
-  pub same-length-9 : lts.Need-same-length-9 (R t) (infer-at t) infer.Post
-  same-length-9 c =
-      omega arith
+      let infer-head = c .before .before .before .before .before .before .before .before .before .before .before .before .before .before .before .before .before .before .before .before .before .before .before .before .before .infer-head in
+      let ty = c .before .before .before .before .before .before .before .before .before .before .before .before .ty in
+      ty .kept .1 .1 .1 .1 .0 ∙ infer-head .kept .1 .1 .0
 
   pub returns-4 : lts.Need-returns-4 (R t) (infer-at t) infer.Post
   returns-4 c =
-      let args = c .before .before .before .before .before .before .before .before .before .before .before .before .before .before .before .before .before .before .before .before .before .before .before .before .before .before .before .before .before .before .before .before .before .before .args in
-      let pre = c .before .before .before .before .before .before .before .before .before .before .before .before .before .before .before .before .before .before .before .before .before .before .before .before .before .before .before .before .before .before .before .before .before .before .pre in
-      let infer-head = c .before .before .before .before .before .before .before .before .before .before .before .before .before .before .before .before .before .before .before .before .before .before .before .before .before .before .before .infer-head in
-      let if1 = c .before .before .before .before .before .before .before .before .before .before .before .before .before .before .before .before .before .before .before .before .before .before .before .if1 in
-      let at = c .before .before .before .before .before .before .before .before .before .before .before .before .before .before .before .before .before .before .before .before .before .at in
-      let kind-at = c .before .before .before .before .before .before .before .before .before .before .before .before .before .before .before .before .before .before .before .before .kind-at in
-      let if2 = c .before .before .before .before .before .before .before .before .before .before .before .before .before .before .before .before .before .before .before .if2 in
-      let ty = c .before .before .before .before .before .before .before .before .before .before .before .before .before .before .ty in
+      let args = c .before .before .before .before .before .before .before .before .before .before .before .before .before .before .before .before .before .before .before .before .before .before .before .before .before .before .before .before .before .before .before .args in
+      let pre = c .before .before .before .before .before .before .before .before .before .before .before .before .before .before .before .before .before .before .before .before .before .before .before .before .before .before .before .before .before .before .before .pre in
+      let infer-head = c .before .before .before .before .before .before .before .before .before .before .before .before .before .before .before .before .before .before .before .before .before .before .before .before .before .infer-head in
+      let if1 = c .before .before .before .before .before .before .before .before .before .before .before .before .before .before .before .before .before .before .before .before .before .if1 in
+      let at = c .before .before .before .before .before .before .before .before .before .before .before .before .before .before .before .before .before .before .before .at in
+      let kind-at = c .before .before .before .before .before .before .before .before .before .before .before .before .before .before .before .before .before .before .kind-at in
+      let if2 = c .before .before .before .before .before .before .before .before .before .before .before .before .before .before .before .before .before .if2 in
+      let ty = c .before .before .before .before .before .before .before .before .before .before .before .before .ty in
       let if3 = c .before .before .before .before .before .before .if3 in
       let dropped = c .before .before .before .before .dropped in
       let infer-node = c .before .before .infer-node in (

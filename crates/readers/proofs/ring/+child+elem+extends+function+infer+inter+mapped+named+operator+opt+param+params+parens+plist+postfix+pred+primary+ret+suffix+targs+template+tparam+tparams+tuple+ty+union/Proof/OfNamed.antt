@@ -26,7 +26,7 @@ R t = (named-head-reads.Asked, named-head-reads.Learnt, state-Answer-refused-rea
 module _ (t : ℕ) where
   pub named-head-requires : lts.Need-named-head-requires (R t) (named-at t) named.Post
   named-head-requires c κs =
-      let pre = c .before .before .before .before .before .before .pre in
+      let pre = c .before .before .before .before .before .pre in
       (pre .1 .classes-are, pre .1 .sound, omega arith, omega arith)
 
   pub refused-requires : lts.Need-refused-requires (R t) (named-at t) named.Post
@@ -35,12 +35,13 @@ module _ (t : ℕ) where
 
   pub same-length : lts.Need-same-length (R t) (named-at t) named.Post
   same-length c =
-      omega arith
+      let named-head = c .before .before .before .before .before .named-head in
+      named-head .kept .1 .1 .0
 
   pub returns : lts.Need-returns (R t) (named-at t) named.Post
   returns c =
-      let args = c .before .before .before .before .before .before .before .before .before .before .before .before .args in
-      let pre = c .before .before .before .before .before .before .before .before .before .before .before .before .pre in
+      let args = c .before .before .before .before .before .before .before .before .before .before .before .args in
+      let pre = c .before .before .before .before .before .before .before .before .before .before .before .pre in
       let named-head = c .before .before .before .before .before .named-head in
       let if1 = c .before .if1 in
       let refused = c .refused in (
@@ -52,7 +53,7 @@ module _ (t : ℕ) where
 
   pub targs-requires : lts.Need-targs-requires (R t) (named-at t) named.Post
   targs-requires c κs =
-      let pre = c .before .before .before .before .before .before .before .before .before .before .before .before .before .before .pre in
+      let pre = c .before .before .before .before .before .before .before .before .before .before .before .before .before .pre in
       (omega arith, ready (pre .1) (omega arith) (omega arith))
 
   pub refused-requires-2 : lts.Need-refused-requires-2 (R t) (named-at t) named.Post
@@ -61,27 +62,22 @@ module _ (t : ℕ) where
 
   pub same-length-2 : lts.Need-same-length-2 (R t) (named-at t) named.Post
   same-length-2 c =
-      omega arith
+      let targs = c .before .before .before .before .before .before .before .targs in
+      targs .kept .1 .1 .1 .0
 
   pub same-length-3 : lts.Need-same-length-3 (R t) (named-at t) named.Post
   same-length-3 c =
-      let named-head = c .before .before .before .before .before .before .before .before .before .before .before .before .before .before .before .before .before .named-head in
-      let targs = c .before .before .before .before .before .before .before .before .before .targs in
-      omega (arith, targs .kept, named-head .kept)
-
-  pub same-length-4 : lts.Need-same-length-4 (R t) (named-at t) named.Post
-  same-length-4 c =
-      let named-head = c .before .before .before .before .before .before .before .before .before .before .before .before .before .before .before .before .before .named-head in
-      let targs = c .before .before .before .before .before .before .before .before .before .targs in
-      omega (arith, targs .kept, named-head .kept)
+      let named-head = c .before .before .before .before .before .before .before .before .before .before .before .before .before .before .before .named-head in
+      let targs = c .before .before .before .before .before .before .before .targs in
+      targs .kept .1 .1 .1 .1 .0 ∙ named-head .kept .1 .1 .0
 
   pub returns-2 : lts.Need-returns-2 (R t) (named-at t) named.Post
   returns-2 c =
-      let pre = c .before .before .before .before .before .before .before .before .before .before .before .before .before .before .before .before .before .before .before .before .before .before .before .before .pre in
-      let args = c .before .before .before .before .before .before .before .before .before .before .before .before .before .before .before .before .before .before .before .before .before .before .before .before .args in
-      let named-head = c .before .before .before .before .before .before .before .before .before .before .before .before .before .before .before .before .before .named-head in
-      let if1 = c .before .before .before .before .before .before .before .before .before .before .before .before .before .if1 in
-      let targs = c .before .before .before .before .before .before .before .before .before .targs in
+      let pre = c .before .before .before .before .before .before .before .before .before .before .before .before .before .before .before .before .before .before .before .before .before .pre in
+      let args = c .before .before .before .before .before .before .before .before .before .before .before .before .before .before .before .before .before .before .before .before .before .args in
+      let named-head = c .before .before .before .before .before .before .before .before .before .before .before .before .before .before .before .named-head in
+      let if1 = c .before .before .before .before .before .before .before .before .before .before .before .if1 in
+      let targs = c .before .before .before .before .before .before .before .targs in
       let if2 = c .before .if2 in
       let refused2 = c .refused2 in (
         let text = args .text .now in let s = pre .1 .spelt in
@@ -94,14 +90,14 @@ module _ (t : ℕ) where
 
   pub at-requires : lts.Need-at-requires (R t) (named-at t) named.Post
   at-requires c κs =
-      let pre = c .before .before .before .before .before .before .before .before .before .before .before .before .before .before .before .before .before .before .before .before .before .before .before .before .pre in
+      let pre = c .before .before .before .before .before .before .before .before .before .before .before .before .before .before .before .before .before .before .before .before .before .pre in
       (pre .1 .sound, omega arith)
 
   pub named-node-requires : lts.Need-named-node-requires (R t) (named-at t) named.Post
   named-node-requires c κs =
-      let pre = c .before .before .before .before .before .before .before .before .before .before .before .before .before .before .before .before .before .before .before .before .before .before .before .before .before .pre in
-      let named-head = c .before .before .before .before .before .before .before .before .before .before .before .before .before .before .before .before .before .before .named-head in
-      let targs = c .before .before .before .before .before .before .before .before .before .before .targs in
+      let pre = c .before .before .before .before .before .before .before .before .before .before .before .before .before .before .before .before .before .before .before .before .before .before .pre in
+      let named-head = c .before .before .before .before .before .before .before .before .before .before .before .before .before .before .before .before .named-head in
+      let targs = c .before .before .before .before .before .before .before .before .targs in
       let if2 = c .before .before .if2 in (
         pre .1 .sound,
         omega arith,
@@ -112,26 +108,25 @@ module _ (t : ℕ) where
         omega (arith, targs .ensures .1 .1 (if2 .left), named-head .ensures .1),
       )
 
+  pub same-length-4 : lts.Need-same-length-4 (R t) (named-at t) named.Post
+  same-length-4 c =
+      let targs = c .before .before .before .before .before .before .before .before .before .before .before .targs in
+      let named-node = c .before .before .named-node in
+      named-node .kept .1 .0 ∙ targs .kept .1 .1 .1 .0
+
   pub same-length-5 : lts.Need-same-length-5 (R t) (named-at t) named.Post
   same-length-5 c =
-      omega arith
-
-  pub same-length-6 : lts.Need-same-length-6 (R t) (named-at t) named.Post
-  same-length-6 c =
-      let named-head = c .before .before .before .before .before .before .before .before .before .before .before .before .before .before .before .before .before .before .before .before .before .named-head in
-      omega (arith, named-head .kept)
-
-  pub same-length-7 : lts.Need-same-length-7 (R t) (named-at t) named.Post
-  same-length-7 c =
-      omega arith
+      let named-head = c .before .before .before .before .before .before .before .before .before .before .before .before .before .before .before .before .before .before .before .named-head in
+      let targs = c .before .before .before .before .before .before .before .before .before .before .before .targs in
+      targs .kept .1 .1 .1 .1 .0 ∙ named-head .kept .1 .1 .0
 
   pub returns-3 : lts.Need-returns-3 (R t) (named-at t) named.Post
   returns-3 c =
-      let args = c .before .before .before .before .before .before .before .before .before .before .before .before .before .before .before .before .before .before .before .before .before .before .before .before .before .before .before .before .args in
-      let pre = c .before .before .before .before .before .before .before .before .before .before .before .before .before .before .before .before .before .before .before .before .before .before .before .before .before .before .before .before .pre in
-      let named-head = c .before .before .before .before .before .before .before .before .before .before .before .before .before .before .before .before .before .before .before .before .before .named-head in
-      let if1 = c .before .before .before .before .before .before .before .before .before .before .before .before .before .before .before .before .before .if1 in
-      let targs = c .before .before .before .before .before .before .before .before .before .before .before .before .before .targs in
+      let args = c .before .before .before .before .before .before .before .before .before .before .before .before .before .before .before .before .before .before .before .before .before .before .before .before .before .args in
+      let pre = c .before .before .before .before .before .before .before .before .before .before .before .before .before .before .before .before .before .before .before .before .before .before .before .before .before .pre in
+      let named-head = c .before .before .before .before .before .before .before .before .before .before .before .before .before .before .before .before .before .before .before .named-head in
+      let if1 = c .before .before .before .before .before .before .before .before .before .before .before .before .before .before .before .if1 in
+      let targs = c .before .before .before .before .before .before .before .before .before .before .before .targs in
       let if2 = c .before .before .before .before .before .if2 in
       let at = c .before .before .before .at in
       let named-node = c .before .before .named-node in (

@@ -1,5 +1,6 @@
 -- The needs of `operator`.
 use Prim.Native.Nat.{ℕ}
+use mathlib.Core.Path.{_∙_}
 use native.Mathlib.Omega.{arith}
 use borrow.Author.Needs.{needs}
 use Rattle.marks.specs.State.{view, givenOf}
@@ -23,7 +24,7 @@ R t = (past-operators-reads.Asked, past-operators-reads.Learnt, kind-at-reads.As
 module _ (t : ℕ) where
   pub past-operators-requires : lts.Need-past-operators-requires (R t) (operator-at t) operator.Post
   past-operators-requires c κs =
-      let pre = c .before .before .before .before .before .pre in
+      let pre = c .before .before .before .before .pre in
       (pre .1 .sound, omega arith)
 
   pub kind-at-requires : lts.Need-kind-at-requires (R t) (operator-at t) operator.Post
@@ -32,29 +33,27 @@ module _ (t : ℕ) where
 
   pub infer-requires : lts.Need-infer-requires (R t) (operator-at t) operator.Post
   infer-requires c κs =
-      let pre = c .before .before .before .before .before .before .before .before .before .before .before .pre in
+      let pre = c .before .before .before .before .before .before .before .before .before .before .pre in
       (omega arith, (ready (pre .1) (omega arith) (omega arith), omega arith))
 
   pub same-length : lts.Need-same-length (R t) (operator-at t) operator.Post
   same-length c =
-      omega arith
+      let infer = c .before .before .before .before .before .before .infer in
+      infer .kept .1 .1 .1 .0
 
   pub same-length-2 : lts.Need-same-length-2 (R t) (operator-at t) operator.Post
   same-length-2 c =
-      omega arith
-
-  pub same-length-3 : lts.Need-same-length-3 (R t) (operator-at t) operator.Post
-  same-length-3 c =
-      omega arith
+      let infer = c .before .before .before .before .before .before .infer in
+      infer .kept .1 .1 .1 .1 .0
 
   pub returns : lts.Need-returns (R t) (operator-at t) operator.Post
   returns c =
-      let pre = c .before .before .before .before .before .before .before .before .before .before .before .before .before .before .before .before .before .before .before .before .pre in
-      let args = c .before .before .before .before .before .before .before .before .before .before .before .before .before .before .before .before .before .before .before .before .args in
-      let past-operators = c .before .before .before .before .before .before .before .before .before .before .before .before .before .before .past-operators in
-      let kind-at = c .before .before .before .before .before .before .before .before .before .before .before .before .before .kind-at in
-      let if1 = c .before .before .before .before .before .before .before .before .before .before .before .before .if1 in
-      let infer = c .before .before .before .before .before .before .before .before .infer in
+      let pre = c .before .before .before .before .before .before .before .before .before .before .before .before .before .before .before .before .before .pre in
+      let args = c .before .before .before .before .before .before .before .before .before .before .before .before .before .before .before .before .before .args in
+      let past-operators = c .before .before .before .before .before .before .before .before .before .before .before .before .past-operators in
+      let kind-at = c .before .before .before .before .before .before .before .before .before .before .before .kind-at in
+      let if1 = c .before .before .before .before .before .before .before .before .before .before .if1 in
+      let infer = c .before .before .before .before .before .before .infer in
       let if2 = c .if2 in (
         let text = args .text .now in let s = pre .1 .spelt in
             let g = givenOf text (args .words .now) (args .given) in
@@ -69,9 +68,9 @@ module _ (t : ℕ) where
 
   pub put-operators-requires : lts.Need-put-operators-requires (R t) (operator-at t) operator.Post
   put-operators-requires c κs =
-      let pre = c .before .before .before .before .before .before .before .before .before .before .before .before .before .before .before .before .before .before .before .before .before .pre in
-      let past-operators = c .before .before .before .before .before .before .before .before .before .before .before .before .before .before .before .past-operators in
-      let infer = c .before .before .before .before .before .before .before .before .before .infer in
+      let pre = c .before .before .before .before .before .before .before .before .before .before .before .before .before .before .before .before .before .before .pre in
+      let past-operators = c .before .before .before .before .before .before .before .before .before .before .before .before .before .past-operators in
+      let infer = c .before .before .before .before .before .before .before .infer in
       let if2 = c .before .if2 in (
         pre .1 .sound,
         omega arith,
@@ -83,26 +82,25 @@ module _ (t : ℕ) where
         omega arith,
       )
 
+  pub same-length-3 : lts.Need-same-length-3 (R t) (operator-at t) operator.Post
+  same-length-3 c =
+      let infer = c .before .before .before .before .before .before .before .before .before .before .infer in
+      let put-operators = c .before .before .put-operators in
+      put-operators .kept .1 .0 ∙ infer .kept .1 .1 .1 .0
+
   pub same-length-4 : lts.Need-same-length-4 (R t) (operator-at t) operator.Post
   same-length-4 c =
-      omega arith
-
-  pub same-length-5 : lts.Need-same-length-5 (R t) (operator-at t) operator.Post
-  same-length-5 c =
-      omega arith
-
-  pub same-length-6 : lts.Need-same-length-6 (R t) (operator-at t) operator.Post
-  same-length-6 c =
-      omega arith
+      let infer = c .before .before .before .before .before .before .before .before .before .before .infer in
+      infer .kept .1 .1 .1 .1 .0
 
   pub returns-2 : lts.Need-returns-2 (R t) (operator-at t) operator.Post
   returns-2 c =
-      let pre = c .before .before .before .before .before .before .before .before .before .before .before .before .before .before .before .before .before .before .before .before .before .before .before .before .pre in
-      let args = c .before .before .before .before .before .before .before .before .before .before .before .before .before .before .before .before .before .before .before .before .before .before .before .before .args in
-      let past-operators = c .before .before .before .before .before .before .before .before .before .before .before .before .before .before .before .before .before .before .past-operators in
-      let kind-at = c .before .before .before .before .before .before .before .before .before .before .before .before .before .before .before .before .before .kind-at in
-      let if1 = c .before .before .before .before .before .before .before .before .before .before .before .before .before .before .before .before .if1 in
-      let infer = c .before .before .before .before .before .before .before .before .before .before .before .before .infer in
+      let pre = c .before .before .before .before .before .before .before .before .before .before .before .before .before .before .before .before .before .before .before .before .before .pre in
+      let args = c .before .before .before .before .before .before .before .before .before .before .before .before .before .before .before .before .before .before .before .before .before .args in
+      let past-operators = c .before .before .before .before .before .before .before .before .before .before .before .before .before .before .before .before .past-operators in
+      let kind-at = c .before .before .before .before .before .before .before .before .before .before .before .before .before .before .before .kind-at in
+      let if1 = c .before .before .before .before .before .before .before .before .before .before .before .before .before .before .if1 in
+      let infer = c .before .before .before .before .before .before .before .before .before .before .infer in
       let if2 = c .before .before .before .before .if2 in
       let put-operators = c .before .before .put-operators in (
         let text = args .text .now in let s = pre .1 .spelt in
@@ -119,29 +117,27 @@ module _ (t : ℕ) where
 
   pub postfix-requires : lts.Need-postfix-requires (R t) (operator-at t) operator.Post
   postfix-requires c κs =
-      let pre = c .before .before .before .before .before .before .before .before .before .before .before .pre in
+      let pre = c .before .before .before .before .before .before .before .before .before .before .pre in
       (omega arith, ready (pre .1) (omega arith) (omega arith))
 
-  pub same-length-7 : lts.Need-same-length-7 (R t) (operator-at t) operator.Post
-  same-length-7 c =
-      omega arith
+  pub same-length-5 : lts.Need-same-length-5 (R t) (operator-at t) operator.Post
+  same-length-5 c =
+      let postfix = c .before .before .before .before .before .before .postfix in
+      postfix .kept .1 .1 .1 .0
 
-  pub same-length-8 : lts.Need-same-length-8 (R t) (operator-at t) operator.Post
-  same-length-8 c =
-      omega arith
-
-  pub same-length-9 : lts.Need-same-length-9 (R t) (operator-at t) operator.Post
-  same-length-9 c =
-      omega arith
+  pub same-length-6 : lts.Need-same-length-6 (R t) (operator-at t) operator.Post
+  same-length-6 c =
+      let postfix = c .before .before .before .before .before .before .postfix in
+      postfix .kept .1 .1 .1 .1 .0
 
   pub returns-3 : lts.Need-returns-3 (R t) (operator-at t) operator.Post
   returns-3 c =
-      let pre = c .before .before .before .before .before .before .before .before .before .before .before .before .before .before .before .before .before .before .before .before .pre in
-      let args = c .before .before .before .before .before .before .before .before .before .before .before .before .before .before .before .before .before .before .before .before .args in
-      let past-operators = c .before .before .before .before .before .before .before .before .before .before .before .before .before .before .past-operators in
-      let kind-at = c .before .before .before .before .before .before .before .before .before .before .before .before .before .kind-at in
-      let if1 = c .before .before .before .before .before .before .before .before .before .before .before .before .if1 in
-      let postfix = c .before .before .before .before .before .before .before .before .postfix in
+      let pre = c .before .before .before .before .before .before .before .before .before .before .before .before .before .before .before .before .before .pre in
+      let args = c .before .before .before .before .before .before .before .before .before .before .before .before .before .before .before .before .before .args in
+      let past-operators = c .before .before .before .before .before .before .before .before .before .before .before .before .past-operators in
+      let kind-at = c .before .before .before .before .before .before .before .before .before .before .before .kind-at in
+      let if1 = c .before .before .before .before .before .before .before .before .before .before .if1 in
+      let postfix = c .before .before .before .before .before .before .postfix in
       let if3 = c .if3 in (
         let text = args .text .now in let s = pre .1 .spelt in
             let g = givenOf text (args .words .now) (args .given) in
@@ -156,9 +152,9 @@ module _ (t : ℕ) where
 
   pub put-operators-requires-2 : lts.Need-put-operators-requires-2 (R t) (operator-at t) operator.Post
   put-operators-requires-2 c κs =
-      let pre = c .before .before .before .before .before .before .before .before .before .before .before .before .before .before .before .before .before .before .before .before .before .pre in
-      let past-operators = c .before .before .before .before .before .before .before .before .before .before .before .before .before .before .before .past-operators in
-      let postfix = c .before .before .before .before .before .before .before .before .before .postfix in
+      let pre = c .before .before .before .before .before .before .before .before .before .before .before .before .before .before .before .before .before .before .pre in
+      let past-operators = c .before .before .before .before .before .before .before .before .before .before .before .before .before .past-operators in
+      let postfix = c .before .before .before .before .before .before .before .postfix in
       let if3 = c .before .if3 in (
         pre .1 .sound,
         omega arith,
@@ -170,26 +166,25 @@ module _ (t : ℕ) where
         omega arith,
       )
 
-  pub same-length-10 : lts.Need-same-length-10 (R t) (operator-at t) operator.Post
-  same-length-10 c =
-      omega arith
+  pub same-length-7 : lts.Need-same-length-7 (R t) (operator-at t) operator.Post
+  same-length-7 c =
+      let postfix = c .before .before .before .before .before .before .before .before .before .before .postfix in
+      let put-operators2 = c .before .before .put-operators2 in
+      put-operators2 .kept .1 .0 ∙ postfix .kept .1 .1 .1 .0
 
-  pub same-length-11 : lts.Need-same-length-11 (R t) (operator-at t) operator.Post
-  same-length-11 c =
-      omega arith
-
-  pub same-length-12 : lts.Need-same-length-12 (R t) (operator-at t) operator.Post
-  same-length-12 c =
-      omega arith
+  pub same-length-8 : lts.Need-same-length-8 (R t) (operator-at t) operator.Post
+  same-length-8 c =
+      let postfix = c .before .before .before .before .before .before .before .before .before .before .postfix in
+      postfix .kept .1 .1 .1 .1 .0
 
   pub returns-4 : lts.Need-returns-4 (R t) (operator-at t) operator.Post
   returns-4 c =
-      let pre = c .before .before .before .before .before .before .before .before .before .before .before .before .before .before .before .before .before .before .before .before .before .before .before .before .pre in
-      let args = c .before .before .before .before .before .before .before .before .before .before .before .before .before .before .before .before .before .before .before .before .before .before .before .before .args in
-      let past-operators = c .before .before .before .before .before .before .before .before .before .before .before .before .before .before .before .before .before .before .past-operators in
-      let kind-at = c .before .before .before .before .before .before .before .before .before .before .before .before .before .before .before .before .before .kind-at in
-      let if1 = c .before .before .before .before .before .before .before .before .before .before .before .before .before .before .before .before .if1 in
-      let postfix = c .before .before .before .before .before .before .before .before .before .before .before .before .postfix in
+      let pre = c .before .before .before .before .before .before .before .before .before .before .before .before .before .before .before .before .before .before .before .before .before .pre in
+      let args = c .before .before .before .before .before .before .before .before .before .before .before .before .before .before .before .before .before .before .before .before .before .args in
+      let past-operators = c .before .before .before .before .before .before .before .before .before .before .before .before .before .before .before .before .past-operators in
+      let kind-at = c .before .before .before .before .before .before .before .before .before .before .before .before .before .before .before .kind-at in
+      let if1 = c .before .before .before .before .before .before .before .before .before .before .before .before .before .before .if1 in
+      let postfix = c .before .before .before .before .before .before .before .before .before .before .postfix in
       let if3 = c .before .before .before .before .if3 in
       let put-operators2 = c .before .before .put-operators2 in (
         let text = args .text .now in let s = pre .1 .spelt in

@@ -23,44 +23,39 @@ module _ (t : ℕ) where
 
   pub returns : lts.Need-returns (R t) (opt-at t) opt.Post
   returns c =
-      let pre = c .before .before .before .before .before .before .before .pre in
-      let args = c .before .before .before .before .before .before .before .args in
+      let pre = c .before .before .before .before .before .before .pre in
+      let args = c .before .before .before .before .before .before .args in
       let kind-at = c .before .kind-at in
       let if1 = c .if1 in
       (λ B t b. option-absent (givenOf (args .text .now) (args .words .now) (args .given)) (args .mark) ((below (args .given) (givenOf (args .text .now) (args .words .now) (args .given))) (args .on)) (args .m) (is-not-here (args .words .now) (args .m) (kind-at .ensures .0) (if1 .taken)) b, (omega (arith, pre, kind-at .ensures .1), λ z. omega (arith, pre, kind-at .ensures .1)))
 
   pub add-t13 : lts.Need-add-t13 (R t) (opt-at t) opt.Post
   add-t13 c =
-      let pre = c .before .before .before .before .before .before .before .before .pre in
+      let pre = c .before .before .before .before .before .before .before .pre in
       let kind-at = c .before .before .kind-at in
       omega (arith, pre, kind-at .ensures .1)
 
   pub child-requires : lts.Need-child-requires (R t) (opt-at t) opt.Post
   child-requires c κs =
-      let pre = c .before .before .before .before .before .before .before .before .before .before .before .pre in
+      let pre = c .before .before .before .before .before .before .before .before .before .before .pre in
       let kind-at = c .before .before .before .before .before .kind-at in
       (omega (arith, pre, kind-at .ensures .1), (ready (pre .1 .0) (omega (arith, pre, kind-at .ensures .1)) (omega (arith, pre, kind-at .ensures .1)), omega (arith, pre, kind-at .ensures .1)))
 
   pub same-length : lts.Need-same-length (R t) (opt-at t) opt.Post
   same-length c =
-      let child = c .before .before .before .before .before .before .child in
-      omega (arith, child .kept)
+      let child = c .before .before .before .before .child in
+      child .kept .1 .1 .1 .0
 
   pub same-length-2 : lts.Need-same-length-2 (R t) (opt-at t) opt.Post
   same-length-2 c =
-      let child = c .before .before .before .before .before .before .child in
-      omega (arith, child .kept)
-
-  pub same-length-3 : lts.Need-same-length-3 (R t) (opt-at t) opt.Post
-  same-length-3 c =
-      let child = c .before .before .before .before .before .before .child in
-      omega (arith, child .kept)
+      let child = c .before .before .before .before .child in
+      child .kept .1 .1 .1 .1 .0
 
   pub returns-2 : lts.Need-returns-2 (R t) (opt-at t) opt.Post
   returns-2 c =
-      let pre = c .before .before .before .before .before .before .before .before .before .before .before .before .before .before .before .before .before .before .pre in
-      let args = c .before .before .before .before .before .before .before .before .before .before .before .before .before .before .before .before .before .before .args in
-      let kind-at = c .before .before .before .before .before .before .before .before .before .before .before .before .kind-at in
-      let if1 = c .before .before .before .before .before .before .before .before .before .before .before .if1 in
-      let child = c .before .before .before .before .before .before .child in
+      let pre = c .before .before .before .before .before .before .before .before .before .before .before .before .before .before .before .pre in
+      let args = c .before .before .before .before .before .before .before .before .before .before .before .before .before .before .before .args in
+      let kind-at = c .before .before .before .before .before .before .before .before .before .before .kind-at in
+      let if1 = c .before .before .before .before .before .before .before .before .before .if1 in
+      let child = c .before .before .before .before .child in
       (λ B t b. option-there (givenOf (args .text .now) (args .words .now) (args .given)) (args .mark) ((below (args .given) (givenOf (args .text .now) (args .words .now) (args .given))) (args .on)) (args .m) (args .notes .now) (is-here (args .words .now) (args .m) (kind-at .ensures .0) (if1 .left)) (λ z. child .ensures .1 .1 z .2) (child .ensures .0 B t b), (omega (arith, pre, kind-at .ensures .1, child .ensures .1 .0), λ z. omega (arith, pre, kind-at .ensures .1, child .ensures .1 .0, child .ensures .1 .1 z .0)))

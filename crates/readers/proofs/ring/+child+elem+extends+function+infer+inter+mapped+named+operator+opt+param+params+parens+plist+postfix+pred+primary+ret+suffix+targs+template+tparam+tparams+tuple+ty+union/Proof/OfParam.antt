@@ -28,24 +28,24 @@ R t = (param-head-reads.Asked, param-head-reads.Learnt, state-Answer-refused-rea
 module _ (t : ℕ) where
   pub param-head-requires : lts.Need-param-head-requires (R t) (param-at t) param.Post
   param-head-requires c κs =
-      let pre = c .before .before .before .before .before .before .pre in
+      let pre = c .before .before .before .before .before .pre in
       (pre .1 .classes-are, pre .1 .sound, omega (arith, pre), omega (arith, pre))
 
   pub refused-requires : lts.Need-refused-requires (R t) (param-at t) param.Post
   refused-requires c κs =
-      let pre = c .before .before .before .before .before .before .before .before .before .before .before .pre in
+      let pre = c .before .before .before .before .before .before .before .before .before .before .pre in
       let param-head = c .before .before .before .before .param-head in
       omega (arith, pre, param-head .ensures .1, param-head .kept)
 
   pub same-length : lts.Need-same-length (R t) (param-at t) param.Post
   same-length c =
       let param-head = c .before .before .before .before .before .param-head in
-      omega (arith, param-head .kept)
+      param-head .kept .1 .1 .0
 
   pub returns : lts.Need-returns (R t) (param-at t) param.Post
   returns c =
-      let pre = c .before .before .before .before .before .before .before .before .before .before .before .before .pre in
-      let args = c .before .before .before .before .before .before .before .before .before .before .before .before .args in
+      let pre = c .before .before .before .before .before .before .before .before .before .before .before .pre in
+      let args = c .before .before .before .before .before .before .before .before .before .before .before .args in
       let param-head = c .before .before .before .before .before .param-head in
       let if1 = c .before .if1 in
       let refused = c .refused in
@@ -57,45 +57,38 @@ module _ (t : ℕ) where
 
   pub opt-requires : lts.Need-opt-requires (R t) (param-at t) param.Post
   opt-requires c κs =
-      let pre = c .before .before .before .before .before .before .before .before .before .before .before .before .before .before .before .pre in
+      let pre = c .before .before .before .before .before .before .before .before .before .before .before .before .before .before .pre in
       let param-head = c .before .before .before .before .before .before .before .before .param-head in
       let none = c .none in
       (omega (arith, pre, param-head .ensures .1, same-kids (none .ensures)), (ready (pre .1) (omega (arith, pre, param-head .ensures .1, param-head .kept, same-kids (none .ensures))) (omega (arith, pre, param-head .ensures .1, same-kids (none .ensures))), omega (arith, pre, param-head .ensures .1, same-kids (none .ensures)), omega (arith, pre, param-head .ensures .1, same-kids (none .ensures))))
 
   pub refused-requires-2 : lts.Need-refused-requires-2 (R t) (param-at t) param.Post
   refused-requires-2 c κs =
-      let pre = c .before .before .before .before .before .before .before .before .before .before .before .before .before .before .before .before .before .before .before .before .before .before .before .before .pre in
-      let param-head = c .before .before .before .before .before .before .before .before .before .before .before .before .before .before .before .before .before .param-head in
-      let none = c .before .before .before .before .before .before .before .before .before .none in
-      let opt = c .before .before .before .before .before .before .before .before .opt in
+      let pre = c .before .before .before .before .before .before .before .before .before .before .before .before .before .before .before .before .before .before .before .before .before .pre in
+      let param-head = c .before .before .before .before .before .before .before .before .before .before .before .before .before .before .before .param-head in
+      let none = c .before .before .before .before .before .before .before .none in
+      let opt = c .before .before .before .before .before .before .opt in
       omega (arith, pre, param-head .ensures .1, param-head .kept, same-kids (none .ensures), opt .ensures .1 .0, opt .kept)
 
   pub same-length-2 : lts.Need-same-length-2 (R t) (param-at t) param.Post
   same-length-2 c =
-      let param-head = c .before .before .before .before .before .before .before .before .before .before .before .before .before .before .before .before .before .before .param-head in
-      let opt = c .before .before .before .before .before .before .before .before .before .opt in
-      omega (arith, param-head .kept, opt .kept)
+      let opt = c .before .before .before .before .before .before .before .opt in
+      opt .kept .1 .1 .1 .0
 
   pub same-length-3 : lts.Need-same-length-3 (R t) (param-at t) param.Post
   same-length-3 c =
-      let param-head = c .before .before .before .before .before .before .before .before .before .before .before .before .before .before .before .before .before .before .param-head in
-      let opt = c .before .before .before .before .before .before .before .before .before .opt in
-      omega (arith, param-head .kept, opt .kept)
-
-  pub same-length-4 : lts.Need-same-length-4 (R t) (param-at t) param.Post
-  same-length-4 c =
-      let param-head = c .before .before .before .before .before .before .before .before .before .before .before .before .before .before .before .before .before .before .param-head in
-      let opt = c .before .before .before .before .before .before .before .before .before .opt in
-      omega (arith, param-head .kept, opt .kept)
+      let param-head = c .before .before .before .before .before .before .before .before .before .before .before .before .before .before .before .before .param-head in
+      let opt = c .before .before .before .before .before .before .before .opt in
+      opt .kept .1 .1 .1 .1 .0 ∙ param-head .kept .1 .1 .0
 
   pub returns-2 : lts.Need-returns-2 (R t) (param-at t) param.Post
   returns-2 c =
-      let pre = c .before .before .before .before .before .before .before .before .before .before .before .before .before .before .before .before .before .before .before .before .before .before .before .before .before .pre in
-      let args = c .before .before .before .before .before .before .before .before .before .before .before .before .before .before .before .before .before .before .before .before .before .before .before .before .before .args in
-      let param-head = c .before .before .before .before .before .before .before .before .before .before .before .before .before .before .before .before .before .before .param-head in
-      let if1 = c .before .before .before .before .before .before .before .before .before .before .before .before .before .before .if1 in
-      let none = c .before .before .before .before .before .before .before .before .before .before .none in
-      let opt = c .before .before .before .before .before .before .before .before .before .opt in
+      let pre = c .before .before .before .before .before .before .before .before .before .before .before .before .before .before .before .before .before .before .before .before .before .before .pre in
+      let args = c .before .before .before .before .before .before .before .before .before .before .before .before .before .before .before .before .before .before .before .before .before .before .args in
+      let param-head = c .before .before .before .before .before .before .before .before .before .before .before .before .before .before .before .before .param-head in
+      let if1 = c .before .before .before .before .before .before .before .before .before .before .before .before .if1 in
+      let none = c .before .before .before .before .before .before .before .before .none in
+      let opt = c .before .before .before .before .before .before .before .opt in
       let if2 = c .before .if2 in
       let refused2 = c .refused2 in
       (let head = param-head .ensures .0 (args .text .now) (args .notes .now) (args .given) (pre .1 .spelt) .done (if1 .left) in says-as (refused2 .ensures) (says-stop (if2 .taken) (parameter-is _ _ _ ∙ then-read _ (head .is) ∙ then-refused _ (opt .ensures .0 _ _ (built-spoken (none .ensures) (head .spoken)) .refused (if2 .taken)))), (omega (arith, same-answer (refused2 .ensures), pre, param-head .ensures .1, same-kids (none .ensures), opt .ensures .1 .0), λ z. omega (arith, same-answer (refused2 .ensures), pre, param-head .ensures .1, same-kids (none .ensures), opt .ensures .1 .0, z)))
@@ -106,74 +99,65 @@ module _ (t : ℕ) where
 
   pub mul-choices : lts.Need-mul-choices (R t) (param-at t) param.Post
   mul-choices c =
-      let pre = c .before .before .before .before .before .before .before .before .before .before .before .before .before .before .before .before .before .before .before .before .before .before .before .before .before .pre in
-      let param-head = c .before .before .before .before .before .before .before .before .before .before .before .before .before .before .before .before .before .before .param-head in
-      let none = c .before .before .before .before .before .before .before .before .before .before .none in
-      let opt = c .before .before .before .before .before .before .before .before .before .opt in
+      let pre = c .before .before .before .before .before .before .before .before .before .before .before .before .before .before .before .before .before .before .before .before .before .before .pre in
+      let param-head = c .before .before .before .before .before .before .before .before .before .before .before .before .before .before .before .before .param-head in
+      let none = c .before .before .before .before .before .before .before .before .none in
+      let opt = c .before .before .before .before .before .before .before .opt in
       let if2 = c .before .if2 in
       let opt-bit = c .opt-bit in
       omega (arith, pre, param-head .ensures .1, same-kids (none .ensures), opt .ensures .1 .0, opt .ensures .1 .1 (if2 .left), opt-bit .ensures .1)
 
   pub add-choices : lts.Need-add-choices (R t) (param-at t) param.Post
   add-choices c =
-      let pre = c .before .before .before .before .before .before .before .before .before .before .before .before .before .before .before .before .before .before .before .before .before .before .before .before .before .before .pre in
-      let param-head = c .before .before .before .before .before .before .before .before .before .before .before .before .before .before .before .before .before .before .before .param-head in
-      let none = c .before .before .before .before .before .before .before .before .before .before .before .none in
-      let opt = c .before .before .before .before .before .before .before .before .before .before .opt in
+      let pre = c .before .before .before .before .before .before .before .before .before .before .before .before .before .before .before .before .before .before .before .before .before .before .before .pre in
+      let param-head = c .before .before .before .before .before .before .before .before .before .before .before .before .before .before .before .before .before .param-head in
+      let none = c .before .before .before .before .before .before .before .before .before .none in
+      let opt = c .before .before .before .before .before .before .before .before .opt in
       let if2 = c .before .before .if2 in
       let opt-bit = c .before .opt-bit in
       omega (arith, pre, param-head .ensures .1, same-kids (none .ensures), opt .ensures .1 .0, opt .ensures .1 .1 (if2 .left), opt-bit .ensures .1)
 
   pub at-requires : lts.Need-at-requires (R t) (param-at t) param.Post
   at-requires c κs =
-      let pre = c .before .before .before .before .before .before .before .before .before .before .before .before .before .before .before .before .before .before .before .before .before .before .before .before .before .before .before .pre in
-      let param-head = c .before .before .before .before .before .before .before .before .before .before .before .before .before .before .before .before .before .before .before .before .param-head in
-      let none = c .before .before .before .before .before .before .before .before .before .before .before .before .none in
-      let opt = c .before .before .before .before .before .before .before .before .before .before .before .opt in
+      let pre = c .before .before .before .before .before .before .before .before .before .before .before .before .before .before .before .before .before .before .before .before .before .before .before .before .pre in
+      let param-head = c .before .before .before .before .before .before .before .before .before .before .before .before .before .before .before .before .before .before .param-head in
+      let none = c .before .before .before .before .before .before .before .before .before .before .none in
+      let opt = c .before .before .before .before .before .before .before .before .before .opt in
       let if2 = c .before .before .before .if2 in
       let opt-bit = c .before .before .opt-bit in
       (pre .1 .sound, omega (arith, pre, param-head .ensures .1, same-kids (none .ensures), opt .ensures .1 .0, opt .ensures .1 .1 (if2 .left), opt-bit .ensures .1))
 
   pub put-requires : lts.Need-put-requires (R t) (param-at t) param.Post
   put-requires c κs =
-      let pre = c .before .before .before .before .before .before .before .before .before .before .before .before .before .before .before .before .before .before .before .before .before .before .before .before .before .before .before .before .pre in
-      let param-head = c .before .before .before .before .before .before .before .before .before .before .before .before .before .before .before .before .before .before .before .before .before .param-head in
-      let none = c .before .before .before .before .before .before .before .before .before .before .before .before .before .none in
-      let opt = c .before .before .before .before .before .before .before .before .before .before .before .before .opt in
+      let pre = c .before .before .before .before .before .before .before .before .before .before .before .before .before .before .before .before .before .before .before .before .before .before .before .before .before .pre in
+      let param-head = c .before .before .before .before .before .before .before .before .before .before .before .before .before .before .before .before .before .before .before .param-head in
+      let none = c .before .before .before .before .before .before .before .before .before .before .before .none in
+      let opt = c .before .before .before .before .before .before .before .before .before .before .opt in
       let if2 = c .before .before .before .before .if2 in
       let opt-bit = c .before .before .before .opt-bit in
       let at = c .at in
       (pre .1 .sound, omega (arith, pre, param-head .ensures .1, param-head .kept, same-kids (none .ensures), opt .ensures .1 .0, opt .ensures .1 .1 (if2 .left), opt .kept, opt-bit .ensures .1, at .ensures .0, at .ensures .1), omega (arith, pre, param-head .ensures .1, param-head .kept, same-kids (none .ensures), opt .ensures .1 .0, opt .ensures .1 .1 (if2 .left), opt .kept, opt-bit .ensures .1, at .ensures .0, at .ensures .1), omega (arith, pre, param-head .ensures .1, param-head .kept, same-kids (none .ensures), opt .ensures .1 .0, opt .ensures .1 .1 (if2 .left), opt .kept, opt-bit .ensures .1, at .ensures .0, at .ensures .1), omega (arith, pre, param-head .ensures .1, param-head .kept, same-kids (none .ensures), opt .ensures .1 .0, opt .ensures .1 .1 (if2 .left), opt .kept, opt-bit .ensures .1, at .ensures .0, at .ensures .1), omega (arith, pre, param-head .ensures .1, param-head .kept, same-kids (none .ensures), opt .ensures .1 .0, opt .ensures .1 .1 (if2 .left), opt .kept, opt-bit .ensures .1, at .ensures .0, at .ensures .1))
 
+  pub same-length-4 : lts.Need-same-length-4 (R t) (param-at t) param.Post
+  same-length-4 c =
+      let opt = c .before .before .before .before .before .before .before .before .before .before .before .before .before .opt in
+      let put = c .before .before .put in
+      put .kept .1 .0 ∙ opt .kept .1 .1 .1 .0
+
   pub same-length-5 : lts.Need-same-length-5 (R t) (param-at t) param.Post
   same-length-5 c =
-      let param-head = c .before .before .before .before .before .before .before .before .before .before .before .before .before .before .before .before .before .before .before .before .before .before .before .before .param-head in
-      let opt = c .before .before .before .before .before .before .before .before .before .before .before .before .before .before .before .opt in
-      let put = c .before .before .put in
-      omega (arith, param-head .kept, opt .kept, put .kept)
-
-  pub same-length-6 : lts.Need-same-length-6 (R t) (param-at t) param.Post
-  same-length-6 c =
-      let param-head = c .before .before .before .before .before .before .before .before .before .before .before .before .before .before .before .before .before .before .before .before .before .before .before .before .param-head in
-      let opt = c .before .before .before .before .before .before .before .before .before .before .before .before .before .before .before .opt in
-      let put = c .before .before .put in
-      omega (arith, param-head .kept, opt .kept, put .kept)
-
-  pub same-length-7 : lts.Need-same-length-7 (R t) (param-at t) param.Post
-  same-length-7 c =
-      let param-head = c .before .before .before .before .before .before .before .before .before .before .before .before .before .before .before .before .before .before .before .before .before .before .before .before .param-head in
-      let opt = c .before .before .before .before .before .before .before .before .before .before .before .before .before .before .before .opt in
-      let put = c .before .before .put in
-      omega (arith, param-head .kept, opt .kept, put .kept)
+      let param-head = c .before .before .before .before .before .before .before .before .before .before .before .before .before .before .before .before .before .before .before .before .before .before .param-head in
+      let opt = c .before .before .before .before .before .before .before .before .before .before .before .before .before .opt in
+      opt .kept .1 .1 .1 .1 .0 ∙ param-head .kept .1 .1 .0
 
   pub returns-3 : lts.Need-returns-3 (R t) (param-at t) param.Post
   returns-3 c =
-      let pre = c .before .before .before .before .before .before .before .before .before .before .before .before .before .before .before .before .before .before .before .before .before .before .before .before .before .before .before .before .before .before .before .pre in
-      let args = c .before .before .before .before .before .before .before .before .before .before .before .before .before .before .before .before .before .before .before .before .before .before .before .before .before .before .before .before .before .before .before .args in
-      let param-head = c .before .before .before .before .before .before .before .before .before .before .before .before .before .before .before .before .before .before .before .before .before .before .before .before .param-head in
-      let if1 = c .before .before .before .before .before .before .before .before .before .before .before .before .before .before .before .before .before .before .before .before .if1 in
-      let none = c .before .before .before .before .before .before .before .before .before .before .before .before .before .before .before .before .none in
-      let opt = c .before .before .before .before .before .before .before .before .before .before .before .before .before .before .before .opt in
+      let pre = c .before .before .before .before .before .before .before .before .before .before .before .before .before .before .before .before .before .before .before .before .before .before .before .before .before .before .before .before .pre in
+      let args = c .before .before .before .before .before .before .before .before .before .before .before .before .before .before .before .before .before .before .before .before .before .before .before .before .before .before .before .before .args in
+      let param-head = c .before .before .before .before .before .before .before .before .before .before .before .before .before .before .before .before .before .before .before .before .before .before .param-head in
+      let if1 = c .before .before .before .before .before .before .before .before .before .before .before .before .before .before .before .before .before .before .if1 in
+      let none = c .before .before .before .before .before .before .before .before .before .before .before .before .before .before .none in
+      let opt = c .before .before .before .before .before .before .before .before .before .before .before .before .before .opt in
       let if2 = c .before .before .before .before .before .before .before .if2 in
       let opt-bit = c .before .before .before .before .before .before .opt-bit in
       let at = c .before .before .before .at in

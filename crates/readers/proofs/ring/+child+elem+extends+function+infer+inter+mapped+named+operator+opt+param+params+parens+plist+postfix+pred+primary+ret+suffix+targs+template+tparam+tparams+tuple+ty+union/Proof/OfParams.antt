@@ -2,7 +2,7 @@
 use Prim.Native.Nat.{ℕ, _-_, _*_, _≤_}
 use native.Mathlib.Omega.{arith}
 use borrow.Author.Needs.{needs}
-use mathlib.Core.Path.{ap, subst, sym}
+use mathlib.Core.Path.{ap, subst, sym, _∙_}
 use Rattle.keys.specs.Placed.{absent}
 use Rattle.marks.specs.State.{givenOf, Under}
 use Rattle.parts.specs.Function.{freedUsed}
@@ -34,18 +34,18 @@ R t = (params-head-reads.Asked, params-head-reads.Learnt, function-Params-refuse
 module _ (t : ℕ) where
   pub params-head-requires : lts.Need-params-head-requires (R t) (params-at t) params.Post
   params-head-requires c κs =
-      let pre = c .before .before .before .before .before .pre in
+      let pre = c .before .before .before .before .pre in
       (pre .1 .0 .sound, omega (arith, pre))
 
   pub refused-requires : lts.Need-refused-requires (R t) (params-at t) params.Post
   refused-requires c κs =
-      let pre = c .before .before .before .before .before .before .before .before .pre in
+      let pre = c .before .before .before .before .before .before .before .pre in
       let params-head = c .before .before .params-head in
       omega (arith, pre, params-head .ensures .1)
 
   pub returns : lts.Need-returns (R t) (params-at t) params.Post
   returns c =
-      let pre = c .before .before .before .before .before .before .before .before .before .pre in
+      let pre = c .before .before .before .before .before .before .before .before .pre in
       let params-head = c .before .before .before .params-head in
       let if1 = c .before .if1 in
       let refused = c .refused in
@@ -57,34 +57,29 @@ module _ (t : ℕ) where
 
   pub plist-requires : lts.Need-plist-requires (R t) (params-at t) params.Post
   plist-requires c κs =
-      let pre = c .before .before .before .before .before .before .before .before .before .before .before .before .before .before .pre in
+      let pre = c .before .before .before .before .before .before .before .before .before .before .before .before .before .pre in
       let params-head = c .before .before .before .before .before .before .before .before .params-head in
       let none = c .before .before .before .none in
       (omega (arith, params-head .ensures .1, pre), (ready (pre .1 .0) (omega (arith, pre)) (omega (arith, params-head .ensures .1, pre)), omega (arith, params-head .ensures .1, pre), omega (arith, ap (λ (x : This). x .bits) (none .ensures))))
 
   pub same-length : lts.Need-same-length (R t) (params-at t) params.Post
   same-length c =
-      let plist = c .before .before .before .before .before .before .plist in
-      omega (arith, plist .kept)
+      let plist = c .before .before .before .before .plist in
+      plist .kept .1 .1 .1 .0
 
   pub same-length-2 : lts.Need-same-length-2 (R t) (params-at t) params.Post
   same-length-2 c =
-      let plist = c .before .before .before .before .before .before .plist in
-      omega (arith, plist .kept)
-
-  pub same-length-3 : lts.Need-same-length-3 (R t) (params-at t) params.Post
-  same-length-3 c =
-      let plist = c .before .before .before .before .before .before .plist in
-      omega (arith, plist .kept)
+      let plist = c .before .before .before .before .plist in
+      plist .kept .1 .1 .1 .1 .0
 
   pub returns-2 : lts.Need-returns-2 (R t) (params-at t) params.Post
   returns-2 c =
-      let args = c .before .before .before .before .before .before .before .before .before .before .before .before .before .before .before .before .before .before .before .before .before .args in
-      let params-head = c .before .before .before .before .before .before .before .before .before .before .before .before .before .before .before .params-head in
-      let if1 = c .before .before .before .before .before .before .before .before .before .before .before .before .before .if1 in
-      let if2 = c .before .before .before .before .before .before .before .before .before .before .before .if2 in
-      let none = c .before .before .before .before .before .before .before .before .before .before .none in
-      let plist = c .before .before .before .before .before .before .plist in
+      let args = c .before .before .before .before .before .before .before .before .before .before .before .before .before .before .before .before .before .before .args in
+      let params-head = c .before .before .before .before .before .before .before .before .before .before .before .before .before .params-head in
+      let if1 = c .before .before .before .before .before .before .before .before .before .before .before .if1 in
+      let if2 = c .before .before .before .before .before .before .before .before .before .if2 in
+      let none = c .before .before .before .before .before .before .before .before .none in
+      let plist = c .before .before .before .before .plist in
       (λ B r b. params-plain (args .is-new) (opens-plain _ _ _ _ _ (params-head .ensures .0) (if1 .left) (if2 .taken)) (plist .ensures .0 B r absent (built-moved (params-head .ensures .1 .0) b) (this-none (none .ensures))), (omega (arith, plist .ensures .1 .0), λ z. omega (arith, params-head .ensures .1, plist .ensures .1 .1 z)))
 
   pub before-this-requires : lts.Need-before-this-requires (R t) (params-at t) params.Post
@@ -93,43 +88,38 @@ module _ (t : ℕ) where
 
   pub opt-requires : lts.Need-opt-requires (R t) (params-at t) params.Post
   opt-requires c κs =
-      let pre = c .before .before .before .before .before .before .before .before .before .before .before .before .before .before .pre in
+      let pre = c .before .before .before .before .before .before .before .before .before .before .before .before .before .pre in
       let params-head = c .before .before .before .before .before .before .before .before .params-head in
       let before-this = c .before-this in
       (omega (arith, pre, params-head .ensures .1, before-this .ensures .1), (ready (pre .1 .0) (omega (arith, pre, params-head .ensures .1, before-this .ensures .1)) (omega (arith, pre, params-head .ensures .1, before-this .ensures .1)), omega (arith, pre, params-head .ensures .1, before-this .ensures .1), omega (arith, pre, params-head .ensures .1, before-this .ensures .1)))
 
   pub refused-requires-2 : lts.Need-refused-requires-2 (R t) (params-at t) params.Post
   refused-requires-2 c κs =
-      let pre = c .before .before .before .before .before .before .before .before .before .before .before .before .before .before .before .before .before .before .before .before .before .before .before .pre in
-      let params-head = c .before .before .before .before .before .before .before .before .before .before .before .before .before .before .before .before .before .params-head in
-      let before-this = c .before .before .before .before .before .before .before .before .before .before-this in
-      let opt = c .before .before .before .before .before .before .before .before .opt in
+      let pre = c .before .before .before .before .before .before .before .before .before .before .before .before .before .before .before .before .before .before .before .before .pre in
+      let params-head = c .before .before .before .before .before .before .before .before .before .before .before .before .before .before .before .params-head in
+      let before-this = c .before .before .before .before .before .before .before .before-this in
+      let opt = c .before .before .before .before .before .before .opt in
       omega (arith, pre, params-head .ensures .1, before-this .ensures .1, opt .ensures .1 .0, opt .kept)
+
+  pub same-length-3 : lts.Need-same-length-3 (R t) (params-at t) params.Post
+  same-length-3 c =
+      let opt = c .before .before .before .before .before .before .before .opt in
+      opt .kept .1 .1 .1 .0
 
   pub same-length-4 : lts.Need-same-length-4 (R t) (params-at t) params.Post
   same-length-4 c =
-      let opt = c .before .before .before .before .before .before .before .before .before .opt in
-      omega (arith, opt .kept)
-
-  pub same-length-5 : lts.Need-same-length-5 (R t) (params-at t) params.Post
-  same-length-5 c =
-      let opt = c .before .before .before .before .before .before .before .before .before .opt in
-      omega (arith, opt .kept)
-
-  pub same-length-6 : lts.Need-same-length-6 (R t) (params-at t) params.Post
-  same-length-6 c =
-      let opt = c .before .before .before .before .before .before .before .before .before .opt in
-      omega (arith, opt .kept)
+      let opt = c .before .before .before .before .before .before .before .opt in
+      opt .kept .1 .1 .1 .1 .0
 
   pub returns-3 : lts.Need-returns-3 (R t) (params-at t) params.Post
   returns-3 c =
-      let pre = c .before .before .before .before .before .before .before .before .before .before .before .before .before .before .before .before .before .before .before .before .before .before .before .before .pre in
-      let args = c .before .before .before .before .before .before .before .before .before .before .before .before .before .before .before .before .before .before .before .before .before .before .before .before .args in
-      let params-head = c .before .before .before .before .before .before .before .before .before .before .before .before .before .before .before .before .before .before .params-head in
-      let if1 = c .before .before .before .before .before .before .before .before .before .before .before .before .before .before .before .before .if1 in
-      let if2 = c .before .before .before .before .before .before .before .before .before .before .before .before .before .before .if2 in
-      let before-this = c .before .before .before .before .before .before .before .before .before .before .before-this in
-      let opt = c .before .before .before .before .before .before .before .before .before .opt in
+      let pre = c .before .before .before .before .before .before .before .before .before .before .before .before .before .before .before .before .before .before .before .before .before .pre in
+      let args = c .before .before .before .before .before .before .before .before .before .before .before .before .before .before .before .before .before .before .before .before .before .args in
+      let params-head = c .before .before .before .before .before .before .before .before .before .before .before .before .before .before .before .before .params-head in
+      let if1 = c .before .before .before .before .before .before .before .before .before .before .before .before .before .before .if1 in
+      let if2 = c .before .before .before .before .before .before .before .before .before .before .before .before .if2 in
+      let before-this = c .before .before .before .before .before .before .before .before .before-this in
+      let opt = c .before .before .before .before .before .before .before .opt in
       let if3 = c .before .if3 in
       let refused2 = c .refused2 in
       (λ B r b. params-refused (refused2 .ensures) (if3 .taken) (params-this-refused (givenOf (args .text .now) (args .words .now) (args .given)) (below (args .given) (givenOf (args .text .now) (args .words .now) (args .given))) (args .is-new) (args .nodes .now) (args .names .now) (args .notes .now) (params-head .ensures .0) (if1 .left) (if2 .left) b (before-this .ensures .0) (λ C r d. opt .ensures .0 C r d) (if3 .taken)), (omega (arith, same-params (refused2 .ensures), pre, params-head .ensures .1, before-this .ensures .1, opt .ensures .1 .0), λ z. omega (arith, same-params (refused2 .ensures), pre, params-head .ensures .1, before-this .ensures .1, opt .ensures .1 .0, z)))
@@ -140,49 +130,44 @@ module _ (t : ℕ) where
 
   pub separated-requires : lts.Need-separated-requires (R t) (params-at t) params.Post
   separated-requires c κs =
-      let pre = c .before .before .before .before .before .before .before .before .before .before .before .before .before .before .before .before .before .before .before .before .before .before .before .before .pre in
-      let params-head = c .before .before .before .before .before .before .before .before .before .before .before .before .before .before .before .before .before .before .params-head in
-      let before-this = c .before .before .before .before .before .before .before .before .before .before .before-this in
-      let opt = c .before .before .before .before .before .before .before .before .before .opt in
+      let pre = c .before .before .before .before .before .before .before .before .before .before .before .before .before .before .before .before .before .before .before .before .before .pre in
+      let params-head = c .before .before .before .before .before .before .before .before .before .before .before .before .before .before .before .before .params-head in
+      let before-this = c .before .before .before .before .before .before .before .before .before-this in
+      let opt = c .before .before .before .before .before .before .before .opt in
       let if3 = c .before .if3 in
       let freed = c .freed in
       (pre .1 .0 .sound, omega (arith, pre, params-head .ensures .1, before-this .ensures .1, opt .ensures .1 .0, opt .ensures .1 .1 (if3 .left), opt .kept, freed .ensures .1))
 
   pub refused-requires-3 : lts.Need-refused-requires-3 (R t) (params-at t) params.Post
   refused-requires-3 c κs =
-      let pre = c .before .before .before .before .before .before .before .before .before .before .before .before .before .before .before .before .before .before .before .before .before .before .before .before .before .before .before .pre in
-      let params-head = c .before .before .before .before .before .before .before .before .before .before .before .before .before .before .before .before .before .before .before .before .before .params-head in
-      let before-this = c .before .before .before .before .before .before .before .before .before .before .before .before .before .before-this in
-      let opt = c .before .before .before .before .before .before .before .before .before .before .before .before .opt in
+      let pre = c .before .before .before .before .before .before .before .before .before .before .before .before .before .before .before .before .before .before .before .before .before .before .before .before .pre in
+      let params-head = c .before .before .before .before .before .before .before .before .before .before .before .before .before .before .before .before .before .before .before .params-head in
+      let before-this = c .before .before .before .before .before .before .before .before .before .before .before .before-this in
+      let opt = c .before .before .before .before .before .before .before .before .before .before .opt in
       let if3 = c .before .before .before .before .if3 in
       let freed = c .before .before .before .freed in
       let separated = c .before .before .separated in
       omega (arith, pre, params-head .ensures .1, before-this .ensures .1, opt .ensures .1 .0, opt .ensures .1 .1 (if3 .left), opt .kept, freed .ensures .1, separated .ensures .1)
 
-  pub same-length-7 : lts.Need-same-length-7 (R t) (params-at t) params.Post
-  same-length-7 c =
-      let opt = c .before .before .before .before .before .before .before .before .before .before .before .before .before .opt in
-      omega (arith, opt .kept)
+  pub same-length-5 : lts.Need-same-length-5 (R t) (params-at t) params.Post
+  same-length-5 c =
+      let opt = c .before .before .before .before .before .before .before .before .before .before .before .opt in
+      opt .kept .1 .1 .1 .0
 
-  pub same-length-8 : lts.Need-same-length-8 (R t) (params-at t) params.Post
-  same-length-8 c =
-      let opt = c .before .before .before .before .before .before .before .before .before .before .before .before .before .opt in
-      omega (arith, opt .kept)
-
-  pub same-length-9 : lts.Need-same-length-9 (R t) (params-at t) params.Post
-  same-length-9 c =
-      let opt = c .before .before .before .before .before .before .before .before .before .before .before .before .before .opt in
-      omega (arith, opt .kept)
+  pub same-length-6 : lts.Need-same-length-6 (R t) (params-at t) params.Post
+  same-length-6 c =
+      let opt = c .before .before .before .before .before .before .before .before .before .before .before .opt in
+      opt .kept .1 .1 .1 .1 .0
 
   pub returns-4 : lts.Need-returns-4 (R t) (params-at t) params.Post
   returns-4 c =
-      let pre = c .before .before .before .before .before .before .before .before .before .before .before .before .before .before .before .before .before .before .before .before .before .before .before .before .before .before .before .before .pre in
-      let args = c .before .before .before .before .before .before .before .before .before .before .before .before .before .before .before .before .before .before .before .before .before .before .before .before .before .before .before .before .args in
-      let params-head = c .before .before .before .before .before .before .before .before .before .before .before .before .before .before .before .before .before .before .before .before .before .before .params-head in
-      let if1 = c .before .before .before .before .before .before .before .before .before .before .before .before .before .before .before .before .before .before .before .before .if1 in
-      let if2 = c .before .before .before .before .before .before .before .before .before .before .before .before .before .before .before .before .before .before .if2 in
-      let before-this = c .before .before .before .before .before .before .before .before .before .before .before .before .before .before .before-this in
-      let opt = c .before .before .before .before .before .before .before .before .before .before .before .before .before .opt in
+      let pre = c .before .before .before .before .before .before .before .before .before .before .before .before .before .before .before .before .before .before .before .before .before .before .before .before .before .pre in
+      let args = c .before .before .before .before .before .before .before .before .before .before .before .before .before .before .before .before .before .before .before .before .before .before .before .before .before .args in
+      let params-head = c .before .before .before .before .before .before .before .before .before .before .before .before .before .before .before .before .before .before .before .before .params-head in
+      let if1 = c .before .before .before .before .before .before .before .before .before .before .before .before .before .before .before .before .before .before .if1 in
+      let if2 = c .before .before .before .before .before .before .before .before .before .before .before .before .before .before .before .before .if2 in
+      let before-this = c .before .before .before .before .before .before .before .before .before .before .before .before .before-this in
+      let opt = c .before .before .before .before .before .before .before .before .before .before .before .opt in
       let if3 = c .before .before .before .before .before .if3 in
       let freed = c .before .before .before .before .freed in
       let separated = c .before .before .before .separated in
@@ -192,10 +177,10 @@ module _ (t : ℕ) where
 
   pub this-of-requires : lts.Need-this-of-requires (R t) (params-at t) params.Post
   this-of-requires c κs =
-      let pre = c .before .before .before .before .before .before .before .before .before .before .before .before .before .before .before .before .before .before .before .before .before .before .before .before .before .before .before .pre in
-      let params-head = c .before .before .before .before .before .before .before .before .before .before .before .before .before .before .before .before .before .before .before .before .before .params-head in
-      let before-this = c .before .before .before .before .before .before .before .before .before .before .before .before .before .before-this in
-      let opt = c .before .before .before .before .before .before .before .before .before .before .before .before .opt in
+      let pre = c .before .before .before .before .before .before .before .before .before .before .before .before .before .before .before .before .before .before .before .before .before .before .before .before .pre in
+      let params-head = c .before .before .before .before .before .before .before .before .before .before .before .before .before .before .before .before .before .before .before .params-head in
+      let before-this = c .before .before .before .before .before .before .before .before .before .before .before .before-this in
+      let opt = c .before .before .before .before .before .before .before .before .before .before .opt in
       let if3 = c .before .before .before .before .if3 in
       let freed = c .before .before .before .freed in
       let separated = c .before .before .separated in
@@ -207,11 +192,11 @@ module _ (t : ℕ) where
 
   pub plist-requires-2 : lts.Need-plist-requires-2 (R t) (params-at t) params.Post
   plist-requires-2 c κs =
-      let pre = c .before .before .before .before .before .before .before .before .before .before .before .before .before .before .before .before .before .before .before .before .before .before .before .before .before .before .before .before .before .before .before .before .pre in
-      let args = c .before .before .before .before .before .before .before .before .before .before .before .before .before .before .before .before .before .before .before .before .before .before .before .before .before .before .before .before .before .before .before .before .args in
-      let params-head = c .before .before .before .before .before .before .before .before .before .before .before .before .before .before .before .before .before .before .before .before .before .before .before .before .before .before .params-head in
-      let before-this = c .before .before .before .before .before .before .before .before .before .before .before .before .before .before .before .before .before .before .before-this in
-      let opt = c .before .before .before .before .before .before .before .before .before .before .before .before .before .before .before .before .before .opt in
+      let pre = c .before .before .before .before .before .before .before .before .before .before .before .before .before .before .before .before .before .before .before .before .before .before .before .before .before .before .before .before .before .pre in
+      let args = c .before .before .before .before .before .before .before .before .before .before .before .before .before .before .before .before .before .before .before .before .before .before .before .before .before .before .before .before .before .args in
+      let params-head = c .before .before .before .before .before .before .before .before .before .before .before .before .before .before .before .before .before .before .before .before .before .before .before .before .params-head in
+      let before-this = c .before .before .before .before .before .before .before .before .before .before .before .before .before .before .before .before .before-this in
+      let opt = c .before .before .before .before .before .before .before .before .before .before .before .before .before .before .before .opt in
       let if3 = c .before .before .before .before .before .before .before .before .before .if3 in
       let freed = c .before .before .before .before .before .before .before .before .freed in
       let separated = c .before .before .before .before .before .before .before .separated in
@@ -219,38 +204,32 @@ module _ (t : ℕ) where
       let this-kids = c .before .before .before .this-kids in
       let low = freed-low (args .is-new) (args .m .used) (opt .result .m .used) (args .given .room) (omega (arith, pre)) (omega (arith, opt .ensures .1 .0)) in let few = freed-low (args .is-new) (args .m .named) (opt .result .m .named) (opt .result .m .at) (omega (arith, params-head .ensures .1, opt .ensures .1 .0, opt .ensures .1 .1 (if3 .left), pre)) (omega (arith, opt .ensures .1 .0)) in let high = freed-high (args .is-new) (args .m .used) (opt .result .m .used) (args .m .used) (omega arith) (omega (arith, opt .ensures .1 .1 (if3 .left), params-head .ensures .1)) in let bit = bit-low (opt .result .there) in let under = under-this (args .is-new) (args .m .used) (opt .result .m .used) (args .kids) (opt .result .kids) (omega (arith, pre)) (omega (arith, opt .ensures .1 .0)) in (omega (arith, low, few, high, bit, pre, params-head .ensures .1, before-this .ensures .1, opt .ensures .1 .0, opt .ensures .1 .1 (if3 .left), freed .ensures .1, separated .ensures .1, this-of .ensures .0), (ready (pre .1 .0) (omega (arith, pre, params-head .ensures .1, before-this .ensures .1, opt .ensures .1 .0, opt .ensures .1 .1 (if3 .left), opt .kept, freed .ensures .1, separated .ensures .1, this-of .ensures .0)) (omega (arith, low, few, high, bit, pre, params-head .ensures .1, before-this .ensures .1, opt .ensures .1 .0, opt .ensures .1 .1 (if3 .left), freed .ensures .1, separated .ensures .1, this-of .ensures .0)), subst (λ (k : Kids). Under (separated .result .m .used) k) (sym (this-kids .ensures)) (omega (arith, under, pre, params-head .ensures .1, before-this .ensures .1, opt .ensures .1 .0, opt .ensures .1 .1 (if3 .left), freed .ensures .1, separated .ensures .1, this-of .ensures .0)), omega (arith, bit, pre, params-head .ensures .1, before-this .ensures .1, opt .ensures .1 .0, opt .ensures .1 .1 (if3 .left), freed .ensures .1, separated .ensures .1, this-of .ensures .0)))
 
-  pub same-length-10 : lts.Need-same-length-10 (R t) (params-at t) params.Post
-  same-length-10 c =
-      let opt = c .before .before .before .before .before .before .before .before .before .before .before .before .before .before .before .before .before .before .before .before .before .before .before .before .opt in
-      let plist2 = c .before .before .before .before .before .before .plist2 in
-      omega (arith, opt .kept, plist2 .kept)
+  pub same-length-7 : lts.Need-same-length-7 (R t) (params-at t) params.Post
+  same-length-7 c =
+      let opt = c .before .before .before .before .before .before .before .before .before .before .before .before .before .before .before .before .before .before .before .before .opt in
+      let plist2 = c .before .before .before .before .plist2 in
+      plist2 .kept .1 .1 .1 .0 ∙ opt .kept .1 .1 .1 .0
 
-  pub same-length-11 : lts.Need-same-length-11 (R t) (params-at t) params.Post
-  same-length-11 c =
-      let opt = c .before .before .before .before .before .before .before .before .before .before .before .before .before .before .before .before .before .before .before .before .before .before .before .before .opt in
-      let plist2 = c .before .before .before .before .before .before .plist2 in
-      omega (arith, opt .kept, plist2 .kept)
-
-  pub same-length-12 : lts.Need-same-length-12 (R t) (params-at t) params.Post
-  same-length-12 c =
-      let opt = c .before .before .before .before .before .before .before .before .before .before .before .before .before .before .before .before .before .before .before .before .before .before .before .before .opt in
-      let plist2 = c .before .before .before .before .before .before .plist2 in
-      omega (arith, opt .kept, plist2 .kept)
+  pub same-length-8 : lts.Need-same-length-8 (R t) (params-at t) params.Post
+  same-length-8 c =
+      let opt = c .before .before .before .before .before .before .before .before .before .before .before .before .before .before .before .before .before .before .before .before .opt in
+      let plist2 = c .before .before .before .before .plist2 in
+      plist2 .kept .1 .1 .1 .1 .0 ∙ opt .kept .1 .1 .1 .1 .0
 
   pub returns-5 : lts.Need-returns-5 (R t) (params-at t) params.Post
   returns-5 c =
-      let pre = c .before .before .before .before .before .before .before .before .before .before .before .before .before .before .before .before .before .before .before .before .before .before .before .before .before .before .before .before .before .before .before .before .before .before .before .before .before .before .before .pre in
-      let args = c .before .before .before .before .before .before .before .before .before .before .before .before .before .before .before .before .before .before .before .before .before .before .before .before .before .before .before .before .before .before .before .before .before .before .before .before .before .before .before .args in
-      let params-head = c .before .before .before .before .before .before .before .before .before .before .before .before .before .before .before .before .before .before .before .before .before .before .before .before .before .before .before .before .before .before .before .before .before .params-head in
-      let if1 = c .before .before .before .before .before .before .before .before .before .before .before .before .before .before .before .before .before .before .before .before .before .before .before .before .before .before .before .before .before .before .before .if1 in
-      let if2 = c .before .before .before .before .before .before .before .before .before .before .before .before .before .before .before .before .before .before .before .before .before .before .before .before .before .before .before .before .before .if2 in
-      let before-this = c .before .before .before .before .before .before .before .before .before .before .before .before .before .before .before .before .before .before .before .before .before .before .before .before .before .before-this in
-      let opt = c .before .before .before .before .before .before .before .before .before .before .before .before .before .before .before .before .before .before .before .before .before .before .before .before .opt in
-      let if3 = c .before .before .before .before .before .before .before .before .before .before .before .before .before .before .before .before .if3 in
-      let freed = c .before .before .before .before .before .before .before .before .before .before .before .before .before .before .before .freed in
-      let separated = c .before .before .before .before .before .before .before .before .before .before .before .before .before .before .separated in
-      let if4 = c .before .before .before .before .before .before .before .before .before .before .before .before .if4 in
-      let this-of = c .before .before .before .before .before .before .before .before .before .before .before .this-of in
-      let this-kids = c .before .before .before .before .before .before .before .before .before .before .this-kids in
-      let plist2 = c .before .before .before .before .before .before .plist2 in
+      let pre = c .before .before .before .before .before .before .before .before .before .before .before .before .before .before .before .before .before .before .before .before .before .before .before .before .before .before .before .before .before .before .before .before .before .before .pre in
+      let args = c .before .before .before .before .before .before .before .before .before .before .before .before .before .before .before .before .before .before .before .before .before .before .before .before .before .before .before .before .before .before .before .before .before .before .args in
+      let params-head = c .before .before .before .before .before .before .before .before .before .before .before .before .before .before .before .before .before .before .before .before .before .before .before .before .before .before .before .before .before .params-head in
+      let if1 = c .before .before .before .before .before .before .before .before .before .before .before .before .before .before .before .before .before .before .before .before .before .before .before .before .before .before .before .if1 in
+      let if2 = c .before .before .before .before .before .before .before .before .before .before .before .before .before .before .before .before .before .before .before .before .before .before .before .before .before .if2 in
+      let before-this = c .before .before .before .before .before .before .before .before .before .before .before .before .before .before .before .before .before .before .before .before .before .before-this in
+      let opt = c .before .before .before .before .before .before .before .before .before .before .before .before .before .before .before .before .before .before .before .before .opt in
+      let if3 = c .before .before .before .before .before .before .before .before .before .before .before .before .before .before .if3 in
+      let freed = c .before .before .before .before .before .before .before .before .before .before .before .before .before .freed in
+      let separated = c .before .before .before .before .before .before .before .before .before .before .before .before .separated in
+      let if4 = c .before .before .before .before .before .before .before .before .before .before .if4 in
+      let this-of = c .before .before .before .before .before .before .before .before .before .this-of in
+      let this-kids = c .before .before .before .before .before .before .before .before .this-kids in
+      let plist2 = c .before .before .before .before .plist2 in
       let low = freed-low (args .is-new) (args .m .used) (opt .result .m .used) (args .given .room) (omega (arith, pre)) (omega (arith, opt .ensures .1 .0)) in let few = freed-low (args .is-new) (args .m .named) (opt .result .m .named) (opt .result .m .at) (omega (arith, params-head .ensures .1, opt .ensures .1 .0, opt .ensures .1 .1 (if3 .left), pre)) (omega (arith, opt .ensures .1 .0)) in let high = freed-high (args .is-new) (args .m .used) (opt .result .m .used) (args .m .used) (omega arith) (omega (arith, opt .ensures .1 .1 (if3 .left), params-head .ensures .1)) in let bit = bit-low (opt .result .there) in (λ B r b. params-this (givenOf (args .text .now) (args .words .now) (args .given)) (below (args .given) (givenOf (args .text .now) (args .words .now) (args .given))) (args .is-new) (args .nodes .now) (args .names .now) (args .notes .now) (params-head .ensures .0) (if1 .left) (if2 .left) b (before-this .ensures .0) (λ C r d. opt .ensures .0 C r d) (if3 .left) (freed .ensures .0) (separated .ensures .0) (if4 .left) (separated .ensures .1) (this-kids .ensures) (omega (arith, pre)) (this-of .ensures) (λ run th built i. plist2 .ensures .0 B run th built i), (omega (arith, low, few, high, bit, pre, params-head .ensures .1, before-this .ensures .1, opt .ensures .1 .0, opt .ensures .1 .1 (if3 .left), freed .ensures .1, separated .ensures .1, plist2 .ensures .1 .0, this-of .ensures .0), λ z. omega (arith, low, few, high, bit, pre, params-head .ensures .1, before-this .ensures .1, opt .ensures .1 .0, opt .ensures .1 .1 (if3 .left), freed .ensures .1, separated .ensures .1, plist2 .ensures .1 .0, this-of .ensures .0, z, plist2 .ensures .1 .1 z)))

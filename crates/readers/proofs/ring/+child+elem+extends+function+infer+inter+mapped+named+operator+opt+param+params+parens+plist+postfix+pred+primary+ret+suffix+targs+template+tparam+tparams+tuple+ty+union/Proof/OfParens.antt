@@ -1,5 +1,6 @@
 -- The needs of `parens`.
 use Prim.Native.Nat.{ℕ}
+use mathlib.Core.Path.{_∙_}
 use native.Mathlib.Omega.{arith}
 use Rattle.marks.proofs.Answers.{says-stops, says-same}
 use Rattle.parts.proofs.PrimaryLaws.{brackets-is}
@@ -22,58 +23,55 @@ module _ (t : ℕ) where
 
   pub ty-requires : lts.Need-ty-requires (R t) (parens-at t) parens.Post
   ty-requires c κs =
-      let pre = c .before .before .before .before .before .before .before .before .before .pre in
+      let pre = c .before .before .before .before .before .before .before .before .pre in
       (omega arith, ready (pre .1 .0) (omega arith) (omega arith))
 
   pub same-length : lts.Need-same-length (R t) (parens-at t) parens.Post
   same-length c =
-      omega arith
+      let ty = c .before .before .before .before .before .before .ty in
+      ty .kept .1 .1 .1 .0
 
   pub same-length-2 : lts.Need-same-length-2 (R t) (parens-at t) parens.Post
   same-length-2 c =
-      omega arith
-
-  pub same-length-3 : lts.Need-same-length-3 (R t) (parens-at t) parens.Post
-  same-length-3 c =
-      omega arith
+      let ty = c .before .before .before .before .before .before .ty in
+      ty .kept .1 .1 .1 .1 .0
 
   pub returns : lts.Need-returns (R t) (parens-at t) parens.Post
   returns c =
-      let args = c .before .before .before .before .before .before .before .before .before .before .before .before .before .before .before .before .before .before .args in
-      let pre = c .before .before .before .before .before .before .before .before .before .before .before .before .before .before .before .before .before .before .pre in
-      let ty = c .before .before .before .before .before .before .before .before .ty in
+      let args = c .before .before .before .before .before .before .before .before .before .before .before .before .before .before .before .args in
+      let pre = c .before .before .before .before .before .before .before .before .before .before .before .before .before .before .before .pre in
+      let ty = c .before .before .before .before .before .before .ty in
       let if1 = c .if1 in
       (let text = args .text .now in let s = pre .1 .0 .spelt in says-stops _ (ty .ensures .0) (if1 .taken) (brackets-is _ _ _), (omega arith, λ z. omega arith))
 
   pub at-requires : lts.Need-at-requires (R t) (parens-at t) parens.Post
   at-requires c κs =
-      let pre = c .before .before .before .before .before .before .before .before .before .before .before .before .before .before .before .before .before .before .pre in
+      let pre = c .before .before .before .before .before .before .before .before .before .before .before .before .before .before .before .pre in
       (pre .1 .0 .sound, omega arith)
 
   pub parens-node-requires : lts.Need-parens-node-requires (R t) (parens-at t) parens.Post
   parens-node-requires c κs =
-      let pre = c .before .before .before .before .before .before .before .before .before .before .before .before .before .before .before .before .before .before .before .before .pre in
-      let ty = c .before .before .before .before .before .before .before .before .before .before .ty in
+      let pre = c .before .before .before .before .before .before .before .before .before .before .before .before .before .before .before .before .before .pre in
+      let ty = c .before .before .before .before .before .before .before .before .ty in
       let if1 = c .before .before .if1 in
       (pre .1 .0 .sound, omega arith, omega arith, omega (arith, ty .ensures .1 .1 (if1 .left)), omega arith, omega arith, omega arith)
 
+  pub same-length-3 : lts.Need-same-length-3 (R t) (parens-at t) parens.Post
+  same-length-3 c =
+      let ty = c .before .before .before .before .before .before .before .before .before .before .before .ty in
+      let parens-node = c .before .before .parens-node in
+      parens-node .kept .1 .0 ∙ ty .kept .1 .1 .1 .0
+
   pub same-length-4 : lts.Need-same-length-4 (R t) (parens-at t) parens.Post
   same-length-4 c =
-      omega arith
-
-  pub same-length-5 : lts.Need-same-length-5 (R t) (parens-at t) parens.Post
-  same-length-5 c =
-      omega arith
-
-  pub same-length-6 : lts.Need-same-length-6 (R t) (parens-at t) parens.Post
-  same-length-6 c =
-      omega arith
+      let ty = c .before .before .before .before .before .before .before .before .before .before .before .ty in
+      ty .kept .1 .1 .1 .1 .0
 
   pub returns-2 : lts.Need-returns-2 (R t) (parens-at t) parens.Post
   returns-2 c =
-      let args = c .before .before .before .before .before .before .before .before .before .before .before .before .before .before .before .before .before .before .before .before .before .before .before .args in
-      let pre = c .before .before .before .before .before .before .before .before .before .before .before .before .before .before .before .before .before .before .before .before .before .before .before .pre in
-      let ty = c .before .before .before .before .before .before .before .before .before .before .before .before .before .ty in
+      let args = c .before .before .before .before .before .before .before .before .before .before .before .before .before .before .before .before .before .before .before .before .args in
+      let pre = c .before .before .before .before .before .before .before .before .before .before .before .before .before .before .before .before .before .before .before .before .pre in
+      let ty = c .before .before .before .before .before .before .before .before .before .before .before .ty in
       let if1 = c .before .before .before .before .before .if1 in
       let at = c .before .before .before .before .at in
       let parens-node = c .before .before .parens-node in (

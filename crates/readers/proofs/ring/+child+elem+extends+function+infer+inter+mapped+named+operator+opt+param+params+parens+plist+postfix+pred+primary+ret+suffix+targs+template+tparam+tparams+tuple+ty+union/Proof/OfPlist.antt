@@ -36,7 +36,7 @@ R t = (kind-at-reads.Asked, kind-at-reads.Learnt, no-param-reads.Asked, no-param
 
 abbrev pub Inv-loop : lts.InvT-loop
 Inv-loop text words classes nodes₀ names₀ notes₀ given this p₀ k₀ count₀ nodes names notes p k count =
-    Kept (length words) given nodes₀ names₀ notes₀ p₀ nodes names notes p × ((count ≤ p .used) × Under (p .used) k)
+    Kept (length words) given nodes₀ names₀ p₀ nodes names p × ((count ≤ p .used) × Under (p .used) k)
     × ((B : Was) (t : Run) (th : Opt ThisParameter) → BuiltAt B t k₀ p₀ nodes₀ names₀ notes₀
     → ParametersTurn (givenOf text words given) (below given (givenOf text words given)) th (view p₀ notes₀) B t count k p nodes names notes)
 
@@ -47,8 +47,8 @@ abbrev pub μ-loop : lts.MeasureT-loop
 module _ (t : ℕ) where
   pub loop-holds : lts.Need-loop-holds (R t) (plist-at t) plist.Post Inv-loop μ-loop
   loop-holds c =
-      let args = c .before .before .before .before .before .args in
-      let pre = c .before .before .before .before .before .pre in
+      let args = c .before .before .before .before .args in
+      let pre = c .before .before .before .before .pre in
       (omega arith, omega arith, λ B r th b. let text = args .text .now in let s = pre .1 .0 .spelt in turn-none _ _ th r b)
 
   pub kind-at-requires : lts.Need-kind-at-requires (R t) (plist-at t) plist.Post Inv-loop μ-loop
@@ -65,20 +65,18 @@ module _ (t : ℕ) where
 
   pub same-length : lts.Need-same-length (R t) (plist-at t) plist.Post Inv-loop μ-loop
   same-length c =
-      omega arith
+      let loop = c .before .before .before .before .before .loop in
+      loop .inv .0 .nodes
 
   pub same-length-2 : lts.Need-same-length-2 (R t) (plist-at t) plist.Post Inv-loop μ-loop
   same-length-2 c =
-      omega arith
-
-  pub same-length-3 : lts.Need-same-length-3 (R t) (plist-at t) plist.Post Inv-loop μ-loop
-  same-length-3 c =
-      omega arith
+      let loop = c .before .before .before .before .before .loop in
+      loop .inv .0 .names
 
   pub returns : lts.Need-returns (R t) (plist-at t) plist.Post Inv-loop μ-loop
   returns c =
-      let pre = c .before .before .before .before .before .before .before .before .before .before .before .pre in
-      let args = c .before .before .before .before .before .before .before .before .before .before .before .args in
+      let pre = c .before .before .before .before .before .before .before .before .before .before .pre in
+      let args = c .before .before .before .before .before .before .before .before .before .before .args in
       let loop = c .before .before .before .before .before .loop in
       let kind-at = c .before .before .before .before .kind-at in
       let if1 = c .before .before .before .if1 in
@@ -96,38 +94,35 @@ module _ (t : ℕ) where
 
   pub param-requires : lts.Need-param-requires (R t) (plist-at t) plist.Post Inv-loop μ-loop
   param-requires c κs =
-      let pre = c .before .before .before .before .before .before .before .before .before .before .before .before .before .pre in
+      let pre = c .before .before .before .before .before .before .before .before .before .before .before .before .pre in
       (omega arith, ready (pre .1 .0) (omega arith) (omega arith))
 
   pub refused-requires-2 : lts.Need-refused-requires-2 (R t) (plist-at t) plist.Post Inv-loop μ-loop
   refused-requires-2 c κs =
       search needs
 
+  pub same-length-3 : lts.Need-same-length-3 (R t) (plist-at t) plist.Post Inv-loop μ-loop
+  same-length-3 c =
+      let loop = c .before .before .before .before .before .before .before .before .before .before .before .before .before .before .before .loop in
+      let param = c .before .before .before .before .before .before .before .param in
+      param .kept .1 .1 .1 .0 ∙ loop .inv .0 .nodes
+
   pub same-length-4 : lts.Need-same-length-4 (R t) (plist-at t) plist.Post Inv-loop μ-loop
   same-length-4 c =
-      let loop = c .before .before .before .before .before .before .before .before .before .before .before .before .before .before .before .before .before .loop in
-      omega (arith, loop .inv .0)
-
-  pub same-length-5 : lts.Need-same-length-5 (R t) (plist-at t) plist.Post Inv-loop μ-loop
-  same-length-5 c =
-      let loop = c .before .before .before .before .before .before .before .before .before .before .before .before .before .before .before .before .before .loop in
-      omega (arith, loop .inv .0)
-
-  pub same-length-6 : lts.Need-same-length-6 (R t) (plist-at t) plist.Post Inv-loop μ-loop
-  same-length-6 c =
-      let loop = c .before .before .before .before .before .before .before .before .before .before .before .before .before .before .before .before .before .loop in
-      omega (arith, loop .inv .0)
+      let loop = c .before .before .before .before .before .before .before .before .before .before .before .before .before .before .before .loop in
+      let param = c .before .before .before .before .before .before .before .param in
+      param .kept .1 .1 .1 .1 .0 ∙ loop .inv .0 .names
 
   pub returns-2 : lts.Need-returns-2 (R t) (plist-at t) plist.Post Inv-loop μ-loop
   returns-2 c =
-      let pre = c .before .before .before .before .before .before .before .before .before .before .before .before .before .before .before .before .before .before .before .before .before .before .before .pre in
-      let args = c .before .before .before .before .before .before .before .before .before .before .before .before .before .before .before .before .before .before .before .before .before .before .before .args in
-      let loop = c .before .before .before .before .before .before .before .before .before .before .before .before .before .before .before .before .before .loop in
-      let kind-at = c .before .before .before .before .before .before .before .before .before .before .before .before .before .before .before .before .kind-at in
-      let if1 = c .before .before .before .before .before .before .before .before .before .before .before .before .before .before .before .if1 in
-      let no-param = c .before .before .before .before .before .before .before .before .before .before .before .before .before .before .no-param in
-      let if2 = c .before .before .before .before .before .before .before .before .before .before .before .before .before .if2 in
-      let param = c .before .before .before .before .before .before .before .before .before .param in
+      let pre = c .before .before .before .before .before .before .before .before .before .before .before .before .before .before .before .before .before .before .before .before .pre in
+      let args = c .before .before .before .before .before .before .before .before .before .before .before .before .before .before .before .before .before .before .before .before .args in
+      let loop = c .before .before .before .before .before .before .before .before .before .before .before .before .before .before .before .loop in
+      let kind-at = c .before .before .before .before .before .before .before .before .before .before .before .before .before .before .kind-at in
+      let if1 = c .before .before .before .before .before .before .before .before .before .before .before .before .before .if1 in
+      let no-param = c .before .before .before .before .before .before .before .before .before .before .before .before .no-param in
+      let if2 = c .before .before .before .before .before .before .before .before .before .before .before .if2 in
+      let param = c .before .before .before .before .before .before .before .param in
       let if3 = c .before .if3 in
       let refused2 = c .refused2 in (
         λ B r th b i. let text = args .text .now in let s = pre .1 .0 .spelt in
@@ -142,16 +137,16 @@ module _ (t : ℕ) where
 
   pub link-requires : lts.Need-link-requires (R t) (plist-at t) plist.Post Inv-loop μ-loop
   link-requires c κs =
-      let pre = c .before .before .before .before .before .before .before .before .before .before .before .before .before .before .before .before .before .before .before .before .before .before .before .before .pre in
-      let loop = c .before .before .before .before .before .before .before .before .before .before .before .before .before .before .before .before .before .before .loop in
-      let param = c .before .before .before .before .before .before .before .before .before .before .param in
+      let pre = c .before .before .before .before .before .before .before .before .before .before .before .before .before .before .before .before .before .before .before .before .before .pre in
+      let loop = c .before .before .before .before .before .before .before .before .before .before .before .before .before .before .before .before .loop in
+      let param = c .before .before .before .before .before .before .before .before .param in
       let if3 = c .before .before .if3 in
       omega (arith, param .ensures .1 .1 (if3 .left), loop .inv .1, pre)
 
   pub add-count : lts.Need-add-count (R t) (plist-at t) plist.Post Inv-loop μ-loop
   add-count c =
-      let loop = c .before .before .before .before .before .before .before .before .before .before .before .before .before .before .before .before .before .before .before .before .before .loop in
-      let param = c .before .before .before .before .before .before .before .before .before .before .before .before .before .param in
+      let loop = c .before .before .before .before .before .before .before .before .before .before .before .before .before .before .before .before .before .before .before .loop in
+      let param = c .before .before .before .before .before .before .before .before .before .before .before .param in
       let if3 = c .before .before .before .before .before .if3 in
       omega (arith, param .ensures .1 .1 (if3 .left), loop .inv .1)
 
@@ -161,41 +156,36 @@ module _ (t : ℕ) where
 
   pub separated-requires : lts.Need-separated-requires (R t) (plist-at t) plist.Post Inv-loop μ-loop
   separated-requires c κs =
-      let pre = c .before .before .before .before .before .before .before .before .before .before .before .before .before .before .before .before .before .before .before .before .before .before .before .before .before .before .before .before .pre in
+      let pre = c .before .before .before .before .before .before .before .before .before .before .before .before .before .before .before .before .before .before .before .before .before .before .before .before .before .pre in
       (pre .1 .0 .sound, omega arith)
 
   pub refused-requires-3 : lts.Need-refused-requires-3 (R t) (plist-at t) plist.Post Inv-loop μ-loop
   refused-requires-3 c κs =
       search needs
 
-  pub same-length-7 : lts.Need-same-length-7 (R t) (plist-at t) plist.Post Inv-loop μ-loop
-  same-length-7 c =
-      let loop = c .before .before .before .before .before .before .before .before .before .before .before .before .before .before .before .before .before .before .before .before .before .before .before .before .before .before .loop in
-      let param = c .before .before .before .before .before .before .before .before .before .before .before .before .before .before .before .before .before .before .param in
-      omega (arith, param .kept, loop .inv .0)
+  pub same-length-5 : lts.Need-same-length-5 (R t) (plist-at t) plist.Post Inv-loop μ-loop
+  same-length-5 c =
+      let loop = c .before .before .before .before .before .before .before .before .before .before .before .before .before .before .before .before .before .before .before .before .before .before .before .before .loop in
+      let param = c .before .before .before .before .before .before .before .before .before .before .before .before .before .before .before .before .param in
+      let link = c .before .before .before .before .before .before .before .link in
+      link .kept .0 ∙ param .kept .1 .1 .1 .0 ∙ loop .inv .0 .nodes
 
-  pub same-length-8 : lts.Need-same-length-8 (R t) (plist-at t) plist.Post Inv-loop μ-loop
-  same-length-8 c =
-      let loop = c .before .before .before .before .before .before .before .before .before .before .before .before .before .before .before .before .before .before .before .before .before .before .before .before .before .before .loop in
-      let param = c .before .before .before .before .before .before .before .before .before .before .before .before .before .before .before .before .before .before .param in
-      omega (arith, param .kept, loop .inv .0)
-
-  pub same-length-9 : lts.Need-same-length-9 (R t) (plist-at t) plist.Post Inv-loop μ-loop
-  same-length-9 c =
-      let loop = c .before .before .before .before .before .before .before .before .before .before .before .before .before .before .before .before .before .before .before .before .before .before .before .before .before .before .loop in
-      let param = c .before .before .before .before .before .before .before .before .before .before .before .before .before .before .before .before .before .before .param in
-      omega (arith, param .kept, loop .inv .0)
+  pub same-length-6 : lts.Need-same-length-6 (R t) (plist-at t) plist.Post Inv-loop μ-loop
+  same-length-6 c =
+      let loop = c .before .before .before .before .before .before .before .before .before .before .before .before .before .before .before .before .before .before .before .before .before .before .before .before .loop in
+      let param = c .before .before .before .before .before .before .before .before .before .before .before .before .before .before .before .before .param in
+      param .kept .1 .1 .1 .1 .0 ∙ loop .inv .0 .names
 
   pub returns-3 : lts.Need-returns-3 (R t) (plist-at t) plist.Post Inv-loop μ-loop
   returns-3 c =
-      let pre = c .before .before .before .before .before .before .before .before .before .before .before .before .before .before .before .before .before .before .before .before .before .before .before .before .before .before .before .before .before .before .before .before .pre in
-      let args = c .before .before .before .before .before .before .before .before .before .before .before .before .before .before .before .before .before .before .before .before .before .before .before .before .before .before .before .before .before .before .before .before .args in
-      let loop = c .before .before .before .before .before .before .before .before .before .before .before .before .before .before .before .before .before .before .before .before .before .before .before .before .before .before .loop in
-      let kind-at = c .before .before .before .before .before .before .before .before .before .before .before .before .before .before .before .before .before .before .before .before .before .before .before .before .before .kind-at in
-      let if1 = c .before .before .before .before .before .before .before .before .before .before .before .before .before .before .before .before .before .before .before .before .before .before .before .before .if1 in
-      let no-param = c .before .before .before .before .before .before .before .before .before .before .before .before .before .before .before .before .before .before .before .before .before .before .before .no-param in
-      let if2 = c .before .before .before .before .before .before .before .before .before .before .before .before .before .before .before .before .before .before .before .before .before .before .if2 in
-      let param = c .before .before .before .before .before .before .before .before .before .before .before .before .before .before .before .before .before .before .param in
+      let pre = c .before .before .before .before .before .before .before .before .before .before .before .before .before .before .before .before .before .before .before .before .before .before .before .before .before .before .before .before .before .pre in
+      let args = c .before .before .before .before .before .before .before .before .before .before .before .before .before .before .before .before .before .before .before .before .before .before .before .before .before .before .before .before .before .args in
+      let loop = c .before .before .before .before .before .before .before .before .before .before .before .before .before .before .before .before .before .before .before .before .before .before .before .before .loop in
+      let kind-at = c .before .before .before .before .before .before .before .before .before .before .before .before .before .before .before .before .before .before .before .before .before .before .before .kind-at in
+      let if1 = c .before .before .before .before .before .before .before .before .before .before .before .before .before .before .before .before .before .before .before .before .before .before .if1 in
+      let no-param = c .before .before .before .before .before .before .before .before .before .before .before .before .before .before .before .before .before .before .before .before .before .no-param in
+      let if2 = c .before .before .before .before .before .before .before .before .before .before .before .before .before .before .before .before .before .before .before .before .if2 in
+      let param = c .before .before .before .before .before .before .before .before .before .before .before .before .before .before .before .before .param in
       let if3 = c .before .before .before .before .before .before .before .before .before .before .if3 in
       let kind-at2 = c .before .before .before .before .kind-at2 in
       let separated = c .before .before .before .separated in
@@ -214,20 +204,20 @@ module _ (t : ℕ) where
 
   pub loop-less : lts.Need-loop-less (R t) (plist-at t) plist.Post Inv-loop μ-loop
   loop-less c =
-      let param = c .before .before .before .before .before .before .before .before .before .before .before .before .before .before .before .before .before .before .param in
+      let param = c .before .before .before .before .before .before .before .before .before .before .before .before .before .before .before .before .param in
       let if3 = c .before .before .before .before .before .before .before .before .before .before .if3 in
       omega (arith, param .ensures .1 .1 (if3 .left))
 
   pub loop-again : lts.Need-loop-again (R t) (plist-at t) plist.Post Inv-loop μ-loop
   loop-again c =
-      let pre = c .before .before .before .before .before .before .before .before .before .before .before .before .before .before .before .before .before .before .before .before .before .before .before .before .before .before .before .before .before .before .before .before .pre in
-      let args = c .before .before .before .before .before .before .before .before .before .before .before .before .before .before .before .before .before .before .before .before .before .before .before .before .before .before .before .before .before .before .before .before .args in
-      let loop = c .before .before .before .before .before .before .before .before .before .before .before .before .before .before .before .before .before .before .before .before .before .before .before .before .before .before .loop in
-      let kind-at = c .before .before .before .before .before .before .before .before .before .before .before .before .before .before .before .before .before .before .before .before .before .before .before .before .before .kind-at in
-      let if1 = c .before .before .before .before .before .before .before .before .before .before .before .before .before .before .before .before .before .before .before .before .before .before .before .before .if1 in
-      let no-param = c .before .before .before .before .before .before .before .before .before .before .before .before .before .before .before .before .before .before .before .before .before .before .before .no-param in
-      let if2 = c .before .before .before .before .before .before .before .before .before .before .before .before .before .before .before .before .before .before .before .before .before .before .if2 in
-      let param = c .before .before .before .before .before .before .before .before .before .before .before .before .before .before .before .before .before .before .param in
+      let pre = c .before .before .before .before .before .before .before .before .before .before .before .before .before .before .before .before .before .before .before .before .before .before .before .before .before .before .before .before .before .pre in
+      let args = c .before .before .before .before .before .before .before .before .before .before .before .before .before .before .before .before .before .before .before .before .before .before .before .before .before .before .before .before .before .args in
+      let loop = c .before .before .before .before .before .before .before .before .before .before .before .before .before .before .before .before .before .before .before .before .before .before .before .before .loop in
+      let kind-at = c .before .before .before .before .before .before .before .before .before .before .before .before .before .before .before .before .before .before .before .before .before .before .before .kind-at in
+      let if1 = c .before .before .before .before .before .before .before .before .before .before .before .before .before .before .before .before .before .before .before .before .before .before .if1 in
+      let no-param = c .before .before .before .before .before .before .before .before .before .before .before .before .before .before .before .before .before .before .before .before .before .no-param in
+      let if2 = c .before .before .before .before .before .before .before .before .before .before .before .before .before .before .before .before .before .before .before .before .if2 in
+      let param = c .before .before .before .before .before .before .before .before .before .before .before .before .before .before .before .before .param in
       let if3 = c .before .before .before .before .before .before .before .before .before .before .if3 in
       let link = c .before .before .before .before .before .before .before .link in
       let kind-at2 = c .before .before .before .before .kind-at2 in
@@ -253,22 +243,20 @@ module _ (t : ℕ) where
   all-requires c κs =
       omega arith
 
-  pub same-length-10 : lts.Need-same-length-10 (R t) (plist-at t) plist.Post Inv-loop μ-loop
-  same-length-10 c =
-      omega arith
+  pub same-length-7 : lts.Need-same-length-7 (R t) (plist-at t) plist.Post Inv-loop μ-loop
+  same-length-7 c =
+      let loop = c .before .before .before .loop in
+      loop .inv .0 .nodes
 
-  pub same-length-11 : lts.Need-same-length-11 (R t) (plist-at t) plist.Post Inv-loop μ-loop
-  same-length-11 c =
-      omega arith
-
-  pub same-length-12 : lts.Need-same-length-12 (R t) (plist-at t) plist.Post Inv-loop μ-loop
-  same-length-12 c =
-      omega arith
+  pub same-length-8 : lts.Need-same-length-8 (R t) (plist-at t) plist.Post Inv-loop μ-loop
+  same-length-8 c =
+      let loop = c .before .before .before .loop in
+      loop .inv .0 .names
 
   pub returns-4 : lts.Need-returns-4 (R t) (plist-at t) plist.Post Inv-loop μ-loop
   returns-4 c =
-      let args = c .before .before .before .before .before .before .before .before .before .args in
-      let pre = c .before .before .before .before .before .before .before .before .before .pre in
+      let args = c .before .before .before .before .before .before .before .before .args in
+      let pre = c .before .before .before .before .before .before .before .before .pre in
       let loop = c .before .before .before .loop in
       let kind-at = c .before .before .kind-at in
       let if1 = c .before .if1 in

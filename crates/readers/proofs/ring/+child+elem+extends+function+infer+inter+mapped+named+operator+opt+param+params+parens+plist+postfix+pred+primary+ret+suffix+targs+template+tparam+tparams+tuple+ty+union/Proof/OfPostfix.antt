@@ -28,7 +28,7 @@ R t = (primary-below t, primary.Post, at-reads.Asked, at-reads.Learnt, suffixed-
 
 abbrev pub Inv-loop : lts.InvT-loop
 Inv-loop text words classes nodes₀ names₀ notes₀ given p₀ high₀ b nodes names notes p high =
-    Kept (length words) given nodes₀ names₀ notes₀ p₀ nodes names notes p × ((1 ≤ p .used) × (high ≤ tallest))
+    Kept (length words) given nodes₀ names₀ p₀ nodes names p × ((1 ≤ p .used) × (high ≤ tallest))
     × ((B : Was) (u : Placed) → Stands 0 B u high₀ p₀ nodes₀ names₀ notes₀ → b .name ≡ B .named
     → SuffixTurn (givenOf text words given) (below given (givenOf text words given)) (b .first) u (view p₀ notes₀) B high p nodes names notes)
 
@@ -39,26 +39,24 @@ abbrev pub μ-loop : lts.MeasureT-loop
 module _ (t : ℕ) where
   pub primary-requires : lts.Need-primary-requires (R t) (postfix-at t) postfix.Post Inv-loop μ-loop
   primary-requires c κs =
-      let pre = c .before .before .before .before .before .before .before .before .pre in
+      let pre = c .before .before .before .before .before .before .before .pre in
       (omega arith, ready (pre .1) (omega arith) (omega arith))
 
   pub same-length : lts.Need-same-length (R t) (postfix-at t) postfix.Post Inv-loop μ-loop
   same-length c =
-      omega arith
+      let primary = c .before .before .before .before .before .before .primary in
+      primary .kept .1 .1 .1 .0
 
   pub same-length-2 : lts.Need-same-length-2 (R t) (postfix-at t) postfix.Post Inv-loop μ-loop
   same-length-2 c =
-      omega arith
-
-  pub same-length-3 : lts.Need-same-length-3 (R t) (postfix-at t) postfix.Post Inv-loop μ-loop
-  same-length-3 c =
-      omega arith
+      let primary = c .before .before .before .before .before .before .primary in
+      primary .kept .1 .1 .1 .1 .0
 
   pub returns : lts.Need-returns (R t) (postfix-at t) postfix.Post Inv-loop μ-loop
   returns c =
-      let pre = c .before .before .before .before .before .before .before .before .before .before .before .before .before .before .before .before .before .pre in
-      let args = c .before .before .before .before .before .before .before .before .before .before .before .before .before .before .before .before .before .args in
-      let primary = c .before .before .before .before .before .before .before .before .primary in
+      let pre = c .before .before .before .before .before .before .before .before .before .before .before .before .before .before .pre in
+      let args = c .before .before .before .before .before .before .before .before .before .before .before .before .before .before .args in
+      let primary = c .before .before .before .before .before .before .primary in
       let if1 = c .if1 in (
         let text = args .text .now in let s = pre .1 .spelt in
             let g = givenOf text (args .words .now) (args .given) in
@@ -70,14 +68,14 @@ module _ (t : ℕ) where
 
   pub at-requires : lts.Need-at-requires (R t) (postfix-at t) postfix.Post Inv-loop μ-loop
   at-requires c κs =
-      let pre = c .before .before .before .before .before .before .before .before .before .before .before .before .before .before .before .before .before .before .pre in
+      let pre = c .before .before .before .before .before .before .before .before .before .before .before .before .before .before .before .pre in
       (pre .1 .sound, omega (arith, pre))
 
   pub loop-holds : lts.Need-loop-holds (R t) (postfix-at t) postfix.Post Inv-loop μ-loop
   loop-holds c =
-      let pre = c .before .before .before .before .before .before .before .before .before .before .before .before .before .before .before .before .before .before .before .pre in
-      let args = c .before .before .before .before .before .before .before .before .before .before .before .before .before .before .before .before .before .before .before .args in
-      let primary = c .before .before .before .before .before .before .before .before .before .before .primary in
+      let pre = c .before .before .before .before .before .before .before .before .before .before .before .before .before .before .before .before .pre in
+      let args = c .before .before .before .before .before .before .before .before .before .before .before .before .before .before .before .before .args in
+      let primary = c .before .before .before .before .before .before .before .before .primary in
       let if1 = c .before .before .if1 in
       let at = c .at in (
         omega arith,
@@ -90,15 +88,15 @@ module _ (t : ℕ) where
 
   pub suffixed-requires : lts.Need-suffixed-requires (R t) (postfix-at t) postfix.Post Inv-loop μ-loop
   suffixed-requires c κs =
-      let pre = c .before .before .before .before .before .before .before .before .before .before .before .before .before .before .before .before .before .before .before .before .pre in
+      let pre = c .before .before .before .before .before .before .before .before .before .before .before .before .before .before .before .before .before .pre in
       (pre .1 .classes-are, omega arith)
 
   pub suffix-requires : lts.Need-suffix-requires (R t) (postfix-at t) postfix.Post Inv-loop μ-loop
   suffix-requires c κs =
-      let args = c .before .before .before .before .before .before .before .before .before .before .before .before .before .before .before .before .before .before .before .before .before .before .before .before .before .args in
-      let pre = c .before .before .before .before .before .before .before .before .before .before .before .before .before .before .before .before .before .before .before .before .before .before .before .before .before .pre in
+      let args = c .before .before .before .before .before .before .before .before .before .before .before .before .before .before .before .before .before .before .before .before .before .before .args in
+      let pre = c .before .before .before .before .before .before .before .before .before .before .before .before .before .before .before .before .before .before .before .before .before .before .pre in
       let at = c .before .before .before .before .before .before .at in
-      let primary = c .before .before .before .before .before .before .before .before .before .before .before .before .before .before .before .before .primary in
+      let primary = c .before .before .before .before .before .before .before .before .before .before .before .before .before .before .primary in
       let if1 = c .before .before .before .before .before .before .before .before .if1 in
       let loop = c .before .before .before .before .before .loop in
       let suffixed = c .before .before .before .before .suffixed in
@@ -107,35 +105,31 @@ module _ (t : ℕ) where
         (ready (pre .1) (omega arith) (omega arith), suffixed-inside (givenOf [] (args .words .now) (args .given)) (view (loop .p) []) (sym (suffixed .ensures [] [] (args .given)) ∙ if2 .taken), omega arith, omega arith, omega (arith, at .ensures .0, at .ensures .1, pre)),
       )
 
+  pub same-length-3 : lts.Need-same-length-3 (R t) (postfix-at t) postfix.Post Inv-loop μ-loop
+  same-length-3 c =
+      let primary = c .before .before .before .before .before .before .before .before .before .before .before .before .before .before .before .before .before .before .before .before .before .primary in
+      let loop = c .before .before .before .before .before .before .before .before .before .before .before .before .loop in
+      let suffix = c .before .before .before .before .before .before .suffix in
+      suffix .kept .1 .1 .1 .0 ∙ loop .inv .0 .nodes ∙ primary .kept .1 .1 .1 .0
+
   pub same-length-4 : lts.Need-same-length-4 (R t) (postfix-at t) postfix.Post Inv-loop μ-loop
   same-length-4 c =
-      let primary = c .before .before .before .before .before .before .before .before .before .before .before .before .before .before .before .before .before .before .before .before .before .before .before .before .before .primary in
-      let loop = c .before .before .before .before .before .before .before .before .before .before .before .before .before .before .loop in
-      omega (arith, loop .inv .0, primary .kept)
-
-  pub same-length-5 : lts.Need-same-length-5 (R t) (postfix-at t) postfix.Post Inv-loop μ-loop
-  same-length-5 c =
-      let primary = c .before .before .before .before .before .before .before .before .before .before .before .before .before .before .before .before .before .before .before .before .before .before .before .before .before .primary in
-      let loop = c .before .before .before .before .before .before .before .before .before .before .before .before .before .before .loop in
-      omega (arith, loop .inv .0, primary .kept)
-
-  pub same-length-6 : lts.Need-same-length-6 (R t) (postfix-at t) postfix.Post Inv-loop μ-loop
-  same-length-6 c =
-      let primary = c .before .before .before .before .before .before .before .before .before .before .before .before .before .before .before .before .before .before .before .before .before .before .before .before .before .primary in
-      let loop = c .before .before .before .before .before .before .before .before .before .before .before .before .before .before .loop in
-      omega (arith, loop .inv .0, primary .kept)
+      let primary = c .before .before .before .before .before .before .before .before .before .before .before .before .before .before .before .before .before .before .before .before .before .primary in
+      let loop = c .before .before .before .before .before .before .before .before .before .before .before .before .loop in
+      let suffix = c .before .before .before .before .before .before .suffix in
+      suffix .kept .1 .1 .1 .1 .0 ∙ loop .inv .0 .names ∙ primary .kept .1 .1 .1 .1 .0
 
   pub returns-2 : lts.Need-returns-2 (R t) (postfix-at t) postfix.Post Inv-loop μ-loop
   returns-2 c =
-      let pre = c .before .before .before .before .before .before .before .before .before .before .before .before .before .before .before .before .before .before .before .before .before .before .before .before .before .before .before .before .before .before .before .before .before .before .pre in
-      let args = c .before .before .before .before .before .before .before .before .before .before .before .before .before .before .before .before .before .before .before .before .before .before .before .before .before .before .before .before .before .before .before .before .before .before .args in
-      let primary = c .before .before .before .before .before .before .before .before .before .before .before .before .before .before .before .before .before .before .before .before .before .before .before .before .before .primary in
-      let if1 = c .before .before .before .before .before .before .before .before .before .before .before .before .before .before .before .before .before .if1 in
-      let at = c .before .before .before .before .before .before .before .before .before .before .before .before .before .before .before .at in
-      let loop = c .before .before .before .before .before .before .before .before .before .before .before .before .before .before .loop in
-      let suffixed = c .before .before .before .before .before .before .before .before .before .before .before .before .before .suffixed in
-      let if2 = c .before .before .before .before .before .before .before .before .before .before .before .before .if2 in
-      let suffix = c .before .before .before .before .before .before .before .before .suffix in
+      let pre = c .before .before .before .before .before .before .before .before .before .before .before .before .before .before .before .before .before .before .before .before .before .before .before .before .before .before .before .before .before .pre in
+      let args = c .before .before .before .before .before .before .before .before .before .before .before .before .before .before .before .before .before .before .before .before .before .before .before .before .before .before .before .before .before .args in
+      let primary = c .before .before .before .before .before .before .before .before .before .before .before .before .before .before .before .before .before .before .before .before .before .primary in
+      let if1 = c .before .before .before .before .before .before .before .before .before .before .before .before .before .before .before .if1 in
+      let at = c .before .before .before .before .before .before .before .before .before .before .before .before .before .at in
+      let loop = c .before .before .before .before .before .before .before .before .before .before .before .before .loop in
+      let suffixed = c .before .before .before .before .before .before .before .before .before .before .before .suffixed in
+      let if2 = c .before .before .before .before .before .before .before .before .before .before .if2 in
+      let suffix = c .before .before .before .before .before .before .suffix in
       let if3 = c .if3 in (
         let text = args .text .now in let s = pre .1 .spelt in
             let g = givenOf text (args .words .now) (args .given) in
@@ -152,20 +146,20 @@ module _ (t : ℕ) where
 
   pub loop-less : lts.Need-loop-less (R t) (postfix-at t) postfix.Post Inv-loop μ-loop
   loop-less c =
-      let loop = c .before .before .before .before .before .before .before .before .before .before .before .before .before .before .before .loop in
-      let suffix = c .before .before .before .before .before .before .before .before .before .suffix in
+      let loop = c .before .before .before .before .before .before .before .before .before .before .before .before .before .loop in
+      let suffix = c .before .before .before .before .before .before .before .suffix in
       let if3 = c .before .if3 in
       omega (arith, suffix .ensures .1 .1 (if3 .left), loop .inv .1)
 
   pub loop-again : lts.Need-loop-again (R t) (postfix-at t) postfix.Post Inv-loop μ-loop
   loop-again c =
-      let pre = c .before .before .before .before .before .before .before .before .before .before .before .before .before .before .before .before .before .before .before .before .before .before .before .before .before .before .before .before .before .before .before .before .before .before .before .pre in
-      let args = c .before .before .before .before .before .before .before .before .before .before .before .before .before .before .before .before .before .before .before .before .before .before .before .before .before .before .before .before .before .before .before .before .before .before .before .args in
-      let at = c .before .before .before .before .before .before .before .before .before .before .before .before .before .before .before .before .at in
-      let loop = c .before .before .before .before .before .before .before .before .before .before .before .before .before .before .before .loop in
-      let suffixed = c .before .before .before .before .before .before .before .before .before .before .before .before .before .before .suffixed in
-      let if2 = c .before .before .before .before .before .before .before .before .before .before .before .before .before .if2 in
-      let suffix = c .before .before .before .before .before .before .before .before .before .suffix in
+      let pre = c .before .before .before .before .before .before .before .before .before .before .before .before .before .before .before .before .before .before .before .before .before .before .before .before .before .before .before .before .before .before .pre in
+      let args = c .before .before .before .before .before .before .before .before .before .before .before .before .before .before .before .before .before .before .before .before .before .before .before .before .before .before .before .before .before .before .args in
+      let at = c .before .before .before .before .before .before .before .before .before .before .before .before .before .before .at in
+      let loop = c .before .before .before .before .before .before .before .before .before .before .before .before .before .loop in
+      let suffixed = c .before .before .before .before .before .before .before .before .before .before .before .before .suffixed in
+      let if2 = c .before .before .before .before .before .before .before .before .before .before .before .if2 in
+      let suffix = c .before .before .before .before .before .before .before .suffix in
       let if3 = c .before .if3 in (
         omega (arith, suffix .ensures .1 .1 (if3 .left)),
         omega (arith, suffix .ensures .1 .1 (if3 .left)),
@@ -178,23 +172,23 @@ module _ (t : ℕ) where
             (suffix .ensures .0 B (w .tree) (w .stands) n) (if3 .left) (omega (arith, suffix .ensures .1 .1 (if3 .left))),
       )
 
-  pub same-length-7 : lts.Need-same-length-7 (R t) (postfix-at t) postfix.Post Inv-loop μ-loop
-  same-length-7 c =
-      omega arith
+  pub same-length-5 : lts.Need-same-length-5 (R t) (postfix-at t) postfix.Post Inv-loop μ-loop
+  same-length-5 c =
+      let primary = c .before .before .before .before .before .before .before .before .before .before .before .primary in
+      let loop = c .before .before .loop in
+      loop .inv .0 .nodes ∙ primary .kept .1 .1 .1 .0
 
-  pub same-length-8 : lts.Need-same-length-8 (R t) (postfix-at t) postfix.Post Inv-loop μ-loop
-  same-length-8 c =
-      omega arith
-
-  pub same-length-9 : lts.Need-same-length-9 (R t) (postfix-at t) postfix.Post Inv-loop μ-loop
-  same-length-9 c =
-      omega arith
+  pub same-length-6 : lts.Need-same-length-6 (R t) (postfix-at t) postfix.Post Inv-loop μ-loop
+  same-length-6 c =
+      let primary = c .before .before .before .before .before .before .before .before .before .before .before .primary in
+      let loop = c .before .before .loop in
+      loop .inv .0 .names ∙ primary .kept .1 .1 .1 .1 .0
 
   pub returns-3 : lts.Need-returns-3 (R t) (postfix-at t) postfix.Post Inv-loop μ-loop
   returns-3 c =
-      let pre = c .before .before .before .before .before .before .before .before .before .before .before .before .before .before .before .before .before .before .before .before .before .before .pre in
-      let args = c .before .before .before .before .before .before .before .before .before .before .before .before .before .before .before .before .before .before .before .before .before .before .args in
-      let primary = c .before .before .before .before .before .before .before .before .before .before .before .before .before .primary in
+      let pre = c .before .before .before .before .before .before .before .before .before .before .before .before .before .before .before .before .before .before .before .pre in
+      let args = c .before .before .before .before .before .before .before .before .before .before .before .before .before .before .before .before .before .before .before .args in
+      let primary = c .before .before .before .before .before .before .before .before .before .before .before .primary in
       let if1 = c .before .before .before .before .before .if1 in
       let at = c .before .before .before .at in
       let loop = c .before .before .loop in

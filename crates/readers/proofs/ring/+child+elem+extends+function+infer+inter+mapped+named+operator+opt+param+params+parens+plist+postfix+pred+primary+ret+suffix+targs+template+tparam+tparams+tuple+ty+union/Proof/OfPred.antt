@@ -32,7 +32,7 @@ R t = (subject-reads.Asked, subject-reads.Learnt, state-Kids-none-reads.Asked, s
 module _ (t : ℕ) where
   pub subject-requires : lts.Need-subject-requires (R t) (pred-at t) pred.Post
   subject-requires c κs =
-      let pre = c .before .before .before .before .before .before .pre in
+      let pre = c .before .before .before .before .before .pre in
       (pre .1 .0 .sound, omega (arith, pre), omega (arith, pre))
 
   pub none-requires : lts.Need-none-requires (R t) (pred-at t) pred.Post
@@ -41,54 +41,47 @@ module _ (t : ℕ) where
 
   pub opt-requires : lts.Need-opt-requires (R t) (pred-at t) pred.Post
   opt-requires c κs =
-      let pre = c .before .before .before .before .before .before .before .before .before .before .before .before .before .pre in
+      let pre = c .before .before .before .before .before .before .before .before .before .before .before .before .pre in
       let subject = c .before .before .before .before .before .before .subject in
       let none = c .none in
       (omega (arith, pre, subject .ensures .1 .1, same-kids (none .ensures)), (ready (pre .1 .0) (omega (arith, pre, subject .ensures .1 .1, same-kids (none .ensures))) (omega (arith, pre, subject .ensures .1 .1, same-kids (none .ensures))), omega (arith, pre, subject .ensures .1 .1, same-kids (none .ensures)), omega (arith, pre, subject .ensures .1 .1, same-kids (none .ensures))))
 
   pub refused-requires : lts.Need-refused-requires (R t) (pred-at t) pred.Post
   refused-requires c κs =
-      let pre = c .before .before .before .before .before .before .before .before .before .before .before .before .before .before .before .before .before .before .before .before .before .before .pre in
-      let subject = c .before .before .before .before .before .before .before .before .before .before .before .before .before .before .before .subject in
-      let none = c .before .before .before .before .before .before .before .before .before .none in
-      let opt = c .before .before .before .before .before .before .before .before .opt in
+      let pre = c .before .before .before .before .before .before .before .before .before .before .before .before .before .before .before .before .before .before .before .pre in
+      let subject = c .before .before .before .before .before .before .before .before .before .before .before .before .before .subject in
+      let none = c .before .before .before .before .before .before .before .none in
+      let opt = c .before .before .before .before .before .before .opt in
       omega (arith, pre, subject .ensures .1 .1, same-kids (none .ensures), opt .ensures .1 .0, opt .kept)
 
   pub same-length : lts.Need-same-length (R t) (pred-at t) pred.Post
   same-length c =
-      let subject = c .before .before .before .before .before .before .before .before .before .before .before .before .before .before .before .before .subject in
-      let opt = c .before .before .before .before .before .before .before .before .before .opt in
-      omega (arith, subject .kept, opt .kept)
+      let opt = c .before .before .before .before .before .before .before .opt in
+      opt .kept .1 .1 .1 .0
 
   pub same-length-2 : lts.Need-same-length-2 (R t) (pred-at t) pred.Post
   same-length-2 c =
-      let subject = c .before .before .before .before .before .before .before .before .before .before .before .before .before .before .before .before .subject in
-      let opt = c .before .before .before .before .before .before .before .before .before .opt in
-      omega (arith, subject .kept, opt .kept)
-
-  pub same-length-3 : lts.Need-same-length-3 (R t) (pred-at t) pred.Post
-  same-length-3 c =
-      let subject = c .before .before .before .before .before .before .before .before .before .before .before .before .before .before .before .before .subject in
-      let opt = c .before .before .before .before .before .before .before .before .before .opt in
-      omega (arith, subject .kept, opt .kept)
+      let subject = c .before .before .before .before .before .before .before .before .before .before .before .before .before .before .subject in
+      let opt = c .before .before .before .before .before .before .before .opt in
+      opt .kept .1 .1 .1 .1 .0 ∙ subject .kept .1 .0
 
   pub returns : lts.Need-returns (R t) (pred-at t) pred.Post
   returns c =
-      let pre = c .before .before .before .before .before .before .before .before .before .before .before .before .before .before .before .before .before .before .before .before .before .before .before .pre in
-      let args = c .before .before .before .before .before .before .before .before .before .before .before .before .before .before .before .before .before .before .before .before .before .before .before .args in
-      let subject = c .before .before .before .before .before .before .before .before .before .before .before .before .before .before .before .before .subject in
-      let none = c .before .before .before .before .before .before .before .before .before .before .none in
-      let opt = c .before .before .before .before .before .before .before .before .before .opt in
+      let pre = c .before .before .before .before .before .before .before .before .before .before .before .before .before .before .before .before .before .before .before .before .pre in
+      let args = c .before .before .before .before .before .before .before .before .before .before .before .before .before .before .before .before .before .before .before .before .args in
+      let subject = c .before .before .before .before .before .before .before .before .before .before .before .before .before .before .subject in
+      let none = c .before .before .before .before .before .before .before .before .none in
+      let opt = c .before .before .before .before .before .before .before .opt in
       let if1 = c .before .if1 in
       let refused = c .refused in
       (let begins = predicate-starts _ _ (args .asserts) (args .m) (subject .result .m) (args .notes .now) (subject .ensures .1 .1) in says-as (refused .ensures) (says-stop (if1 .taken) (begins ∙ then-refused _ (opt .ensures .0 _ _ (built-spoken (none .ensures) (subject .ensures .0 (args .text .now) (args .notes .now) (args .given) (pre .1 .0 .spelt))) .refused (if1 .taken)))), (omega (arith, same-answer (refused .ensures), pre, subject .ensures .1 .1, same-kids (none .ensures), opt .ensures .1 .0), λ z. omega (arith, same-answer (refused .ensures), pre, subject .ensures .1 .1, same-kids (none .ensures), opt .ensures .1 .0, z)))
 
   pub mul-choices : lts.Need-mul-choices (R t) (pred-at t) pred.Post
   mul-choices c =
-      let pre = c .before .before .before .before .before .before .before .before .before .before .before .before .before .before .before .before .before .before .before .before .before .before .pre in
-      let subject = c .before .before .before .before .before .before .before .before .before .before .before .before .before .before .before .subject in
-      let none = c .before .before .before .before .before .before .before .before .before .none in
-      let opt = c .before .before .before .before .before .before .before .before .opt in
+      let pre = c .before .before .before .before .before .before .before .before .before .before .before .before .before .before .before .before .before .before .before .pre in
+      let subject = c .before .before .before .before .before .before .before .before .before .before .before .before .before .subject in
+      let none = c .before .before .before .before .before .before .before .none in
+      let opt = c .before .before .before .before .before .before .opt in
       let if1 = c .if1 in
       omega (arith, pre, subject .ensures .1 .1, same-kids (none .ensures), opt .ensures .1 .0, opt .ensures .1 .1 (if1 .left))
 
@@ -98,70 +91,61 @@ module _ (t : ℕ) where
 
   pub mul-choices-2 : lts.Need-mul-choices-2 (R t) (pred-at t) pred.Post
   mul-choices-2 c =
-      let pre = c .before .before .before .before .before .before .before .before .before .before .before .before .before .before .before .before .before .before .before .before .before .before .before .pre in
-      let subject = c .before .before .before .before .before .before .before .before .before .before .before .before .before .before .before .before .subject in
-      let none = c .before .before .before .before .before .before .before .before .before .before .none in
-      let opt = c .before .before .before .before .before .before .before .before .before .opt in
+      let pre = c .before .before .before .before .before .before .before .before .before .before .before .before .before .before .before .before .before .before .before .before .pre in
+      let subject = c .before .before .before .before .before .before .before .before .before .before .before .before .before .before .subject in
+      let none = c .before .before .before .before .before .before .before .before .none in
+      let opt = c .before .before .before .before .before .before .before .opt in
       let if1 = c .before .if1 in
       let opt-bit = c .opt-bit in
       omega (arith, pre, subject .ensures .1 .1, same-kids (none .ensures), opt .ensures .1 .0, opt .ensures .1 .1 (if1 .left), opt-bit .ensures .1)
 
   pub add-choices : lts.Need-add-choices (R t) (pred-at t) pred.Post
   add-choices c =
-      let args = c .before .before .before .before .before .before .before .before .before .before .before .before .before .before .before .before .before .before .before .before .before .before .before .before .args in
-      let subject = c .before .before .before .before .before .before .before .before .before .before .before .before .before .before .before .before .before .subject in
+      let args = c .before .before .before .before .before .before .before .before .before .before .before .before .before .before .before .before .before .before .before .before .before .args in
+      let subject = c .before .before .before .before .before .before .before .before .before .before .before .before .before .before .before .subject in
       let opt-bit = c .before .opt-bit in
       omega (arith, predicate-small (args .asserts) (here (args .words .now) kind.This (subjectMark (args .asserts) (args .m))), subject .ensures .1 .1, opt-bit .ensures .1)
 
   pub at-requires : lts.Need-at-requires (R t) (pred-at t) pred.Post
   at-requires c κs =
-      let pre = c .before .before .before .before .before .before .before .before .before .before .before .before .before .before .before .before .before .before .before .before .before .before .before .before .before .pre in
-      let subject = c .before .before .before .before .before .before .before .before .before .before .before .before .before .before .before .before .before .before .subject in
-      let none = c .before .before .before .before .before .before .before .before .before .before .before .before .none in
-      let opt = c .before .before .before .before .before .before .before .before .before .before .before .opt in
+      let pre = c .before .before .before .before .before .before .before .before .before .before .before .before .before .before .before .before .before .before .before .before .before .before .pre in
+      let subject = c .before .before .before .before .before .before .before .before .before .before .before .before .before .before .before .before .subject in
+      let none = c .before .before .before .before .before .before .before .before .before .before .none in
+      let opt = c .before .before .before .before .before .before .before .before .before .opt in
       let if1 = c .before .before .before .if1 in
       let opt-bit = c .before .before .opt-bit in
       (pre .1 .0 .sound, omega (arith, pre, subject .ensures .1 .1, same-kids (none .ensures), opt .ensures .1 .0, opt .ensures .1 .1 (if1 .left), opt-bit .ensures .1))
 
   pub put-requires : lts.Need-put-requires (R t) (pred-at t) pred.Post
   put-requires c κs =
-      let pre = c .before .before .before .before .before .before .before .before .before .before .before .before .before .before .before .before .before .before .before .before .before .before .before .before .before .before .pre in
-      let subject = c .before .before .before .before .before .before .before .before .before .before .before .before .before .before .before .before .before .before .before .subject in
-      let none = c .before .before .before .before .before .before .before .before .before .before .before .before .before .none in
-      let opt = c .before .before .before .before .before .before .before .before .before .before .before .before .opt in
+      let pre = c .before .before .before .before .before .before .before .before .before .before .before .before .before .before .before .before .before .before .before .before .before .before .before .pre in
+      let subject = c .before .before .before .before .before .before .before .before .before .before .before .before .before .before .before .before .before .subject in
+      let none = c .before .before .before .before .before .before .before .before .before .before .before .none in
+      let opt = c .before .before .before .before .before .before .before .before .before .before .opt in
       let if1 = c .before .before .before .before .if1 in
       let opt-bit = c .before .before .before .opt-bit in
       let at = c .at in
       (pre .1 .0 .sound, omega (arith, pre, subject .ensures .1 .1, same-kids (none .ensures), opt .ensures .1 .0, opt .ensures .1 .1 (if1 .left), opt .kept, opt-bit .ensures .1, at .ensures .0, at .ensures .1), omega (arith, pre, subject .ensures .1 .1, same-kids (none .ensures), opt .ensures .1 .0, opt .ensures .1 .1 (if1 .left), opt .kept, opt-bit .ensures .1, at .ensures .0, at .ensures .1), omega (arith, pre, subject .ensures .1 .1, same-kids (none .ensures), opt .ensures .1 .0, opt .ensures .1 .1 (if1 .left), opt .kept, opt-bit .ensures .1, at .ensures .0, at .ensures .1), omega (arith, pre, subject .ensures .1 .1, same-kids (none .ensures), opt .ensures .1 .0, opt .ensures .1 .1 (if1 .left), opt .kept, opt-bit .ensures .1, at .ensures .0, at .ensures .1), omega (arith, pre, subject .ensures .1 .1, same-kids (none .ensures), opt .ensures .1 .0, opt .ensures .1 .1 (if1 .left), opt .kept, opt-bit .ensures .1, at .ensures .0, at .ensures .1))
 
+  pub same-length-3 : lts.Need-same-length-3 (R t) (pred-at t) pred.Post
+  same-length-3 c =
+      let opt = c .before .before .before .before .before .before .before .before .before .before .before .before .before .opt in
+      let put = c .before .before .put in
+      put .kept .1 .0 ∙ opt .kept .1 .1 .1 .0
+
   pub same-length-4 : lts.Need-same-length-4 (R t) (pred-at t) pred.Post
   same-length-4 c =
-      let subject = c .before .before .before .before .before .before .before .before .before .before .before .before .before .before .before .before .before .before .before .before .before .before .subject in
-      let opt = c .before .before .before .before .before .before .before .before .before .before .before .before .before .before .before .opt in
-      let put = c .before .before .put in
-      omega (arith, subject .kept, opt .kept, put .kept)
-
-  pub same-length-5 : lts.Need-same-length-5 (R t) (pred-at t) pred.Post
-  same-length-5 c =
-      let subject = c .before .before .before .before .before .before .before .before .before .before .before .before .before .before .before .before .before .before .before .before .before .before .subject in
-      let opt = c .before .before .before .before .before .before .before .before .before .before .before .before .before .before .before .opt in
-      let put = c .before .before .put in
-      omega (arith, subject .kept, opt .kept, put .kept)
-
-  pub same-length-6 : lts.Need-same-length-6 (R t) (pred-at t) pred.Post
-  same-length-6 c =
-      let subject = c .before .before .before .before .before .before .before .before .before .before .before .before .before .before .before .before .before .before .before .before .before .before .subject in
-      let opt = c .before .before .before .before .before .before .before .before .before .before .before .before .before .before .before .opt in
-      let put = c .before .before .put in
-      omega (arith, subject .kept, opt .kept, put .kept)
+      let subject = c .before .before .before .before .before .before .before .before .before .before .before .before .before .before .before .before .before .before .before .before .subject in
+      let opt = c .before .before .before .before .before .before .before .before .before .before .before .before .before .opt in
+      opt .kept .1 .1 .1 .1 .0 ∙ subject .kept .1 .0
 
   pub returns-2 : lts.Need-returns-2 (R t) (pred-at t) pred.Post
   returns-2 c =
-      let pre = c .before .before .before .before .before .before .before .before .before .before .before .before .before .before .before .before .before .before .before .before .before .before .before .before .before .before .before .before .before .pre in
-      let args = c .before .before .before .before .before .before .before .before .before .before .before .before .before .before .before .before .before .before .before .before .before .before .before .before .before .before .before .before .before .args in
-      let subject = c .before .before .before .before .before .before .before .before .before .before .before .before .before .before .before .before .before .before .before .before .before .before .subject in
-      let none = c .before .before .before .before .before .before .before .before .before .before .before .before .before .before .before .before .none in
-      let opt = c .before .before .before .before .before .before .before .before .before .before .before .before .before .before .before .opt in
+      let pre = c .before .before .before .before .before .before .before .before .before .before .before .before .before .before .before .before .before .before .before .before .before .before .before .before .before .before .pre in
+      let args = c .before .before .before .before .before .before .before .before .before .before .before .before .before .before .before .before .before .before .before .before .before .before .before .before .before .before .args in
+      let subject = c .before .before .before .before .before .before .before .before .before .before .before .before .before .before .before .before .before .before .before .before .subject in
+      let none = c .before .before .before .before .before .before .before .before .before .before .before .before .before .before .none in
+      let opt = c .before .before .before .before .before .before .before .before .before .before .before .before .before .opt in
       let if1 = c .before .before .before .before .before .before .before .if1 in
       let opt-bit = c .before .before .before .before .before .before .opt-bit in
       let at = c .before .before .before .at in

@@ -26,7 +26,7 @@ R t = (primary-start-reads.Asked, primary-start-reads.Learnt, keyword-reads.Aske
 module _ (t : ℕ) where
   pub primary-start-requires : lts.Need-primary-start-requires (R t) (primary-at t) primary.Post
   primary-start-requires c κs =
-      let pre = c .before .before .before .before .before .pre in
+      let pre = c .before .before .before .before .pre in
       (pre .1 .classes-are, pre .1 .sound, omega arith)
 
   pub enum-told : lts.Need-enum-told (R t) (primary-at t) primary.Post
@@ -35,20 +35,21 @@ module _ (t : ℕ) where
 
   pub keyword-requires : lts.Need-keyword-requires (R t) (primary-at t) primary.Post
   keyword-requires c κs =
-      let args = c .before .before .before .before .before .before .before .before .before .args in
-      let pre = c .before .before .before .before .before .before .before .before .before .pre in
+      let args = c .before .before .before .before .before .before .before .before .args in
+      let pre = c .before .before .before .before .before .before .before .before .pre in
       let primary-start = c .before .before .before .primary-start in
       let enum-told = c .before .enum-told in
       (pre .1 .sound, omega arith, omega arith, start-has (args .words .now) (args .m) (enum-told .given .1) (primary-start .ensures .1))
 
   pub same-length : lts.Need-same-length (R t) (primary-at t) primary.Post
   same-length c =
-      omega arith
+      let keyword = c .before .before .keyword in
+      keyword .kept .1 .0
 
   pub returns : lts.Need-returns (R t) (primary-at t) primary.Post
   returns c =
-      let args = c .before .before .before .before .before .before .before .before .before .before .before .before .args in
-      let pre = c .before .before .before .before .before .before .before .before .before .before .before .before .pre in
+      let args = c .before .before .before .before .before .before .before .before .before .before .before .args in
+      let pre = c .before .before .before .before .before .before .before .before .before .before .before .pre in
       let primary-start = c .before .before .before .before .before .before .primary-start in
       let enum-told = c .before .before .before .before .enum-told in
       let keyword = c .before .before .keyword in (
@@ -65,8 +66,8 @@ module _ (t : ℕ) where
 
   pub literal-requires : lts.Need-literal-requires (R t) (primary-at t) primary.Post
   literal-requires c κs =
-      let args = c .before .before .before .before .before .before .before .before .before .before .args in
-      let pre = c .before .before .before .before .before .before .before .before .before .before .pre in
+      let args = c .before .before .before .before .before .before .before .before .before .args in
+      let pre = c .before .before .before .before .before .before .before .before .before .pre in
       let primary-start = c .before .before .before .before .primary-start in
       let enum-told2 = c .before .before .enum-told2 in
       let has = start-has (args .words .now) (args .m) (enum-told2 .given .1) (primary-start .ensures .1) in
@@ -74,16 +75,18 @@ module _ (t : ℕ) where
 
   pub same-length-2 : lts.Need-same-length-2 (R t) (primary-at t) primary.Post
   same-length-2 c =
-      omega arith
+      let literal = c .before .before .before .before .literal in
+      literal .kept .1 .0
 
   pub same-length-3 : lts.Need-same-length-3 (R t) (primary-at t) primary.Post
   same-length-3 c =
-      omega arith
+      let literal = c .before .before .before .before .literal in
+      literal .kept .1 .1 .0
 
   pub returns-2 : lts.Need-returns-2 (R t) (primary-at t) primary.Post
   returns-2 c =
-      let args = c .before .before .before .before .before .before .before .before .before .before .before .before .before .before .before .args in
-      let pre = c .before .before .before .before .before .before .before .before .before .before .before .before .before .before .before .pre in
+      let args = c .before .before .before .before .before .before .before .before .before .before .before .before .before .before .args in
+      let pre = c .before .before .before .before .before .before .before .before .before .before .before .before .before .before .pre in
       let primary-start = c .before .before .before .before .before .before .before .before .before .primary-start in
       let enum-told2 = c .before .before .before .before .before .before .before .enum-told2 in
       let literal = c .before .before .before .before .literal in (
@@ -100,8 +103,8 @@ module _ (t : ℕ) where
 
   pub pred-requires : lts.Need-pred-requires (R t) (primary-at t) primary.Post
   pred-requires c κs =
-      let args = c .before .before .before .before .before .before .before .before .before .before .before .args in
-      let pre = c .before .before .before .before .before .before .before .before .before .before .before .pre in
+      let args = c .before .before .before .before .before .before .before .before .before .before .args in
+      let pre = c .before .before .before .before .before .before .before .before .before .before .pre in
       let primary-start = c .before .before .before .before .before .primary-start in
       let enum-told3 = c .before .before .before .enum-told3 in
       let has = start-has (args .words .now) (args .m) (enum-told3 .given .1) (primary-start .ensures .1) in
@@ -109,23 +112,21 @@ module _ (t : ℕ) where
 
   pub same-length-4 : lts.Need-same-length-4 (R t) (primary-at t) primary.Post
   same-length-4 c =
-      omega arith
+      let pred = c .before .before .before .before .pred in
+      pred .kept .1 .1 .1 .0
 
   pub same-length-5 : lts.Need-same-length-5 (R t) (primary-at t) primary.Post
   same-length-5 c =
-      omega arith
-
-  pub same-length-6 : lts.Need-same-length-6 (R t) (primary-at t) primary.Post
-  same-length-6 c =
-      omega arith
+      let pred = c .before .before .before .before .pred in
+      pred .kept .1 .1 .1 .1 .0
 
   pub returns-3 : lts.Need-returns-3 (R t) (primary-at t) primary.Post
   returns-3 c =
-      let pre = c .before .before .before .before .before .before .before .before .before .before .before .before .before .before .before .before .before .before .pre in
-      let args = c .before .before .before .before .before .before .before .before .before .before .before .before .before .before .before .before .before .before .args in
-      let primary-start = c .before .before .before .before .before .before .before .before .before .before .before .before .primary-start in
-      let enum-told3 = c .before .before .before .before .before .before .before .before .before .before .enum-told3 in
-      let pred = c .before .before .before .before .before .before .pred in (
+      let pre = c .before .before .before .before .before .before .before .before .before .before .before .before .before .before .before .pre in
+      let args = c .before .before .before .before .before .before .before .before .before .before .before .before .before .before .before .args in
+      let primary-start = c .before .before .before .before .before .before .before .before .before .before .primary-start in
+      let enum-told3 = c .before .before .before .before .before .before .before .before .enum-told3 in
+      let pred = c .before .before .before .before .pred in (
         let text = args .text .now in let s = pre .1 .spelt in
             says-same (start-is (args .words .now) (args .m) (enum-told3 .given .1) (primary-start .ensures .0) text (args .notes .now)
             (args .given) _)
@@ -139,32 +140,30 @@ module _ (t : ℕ) where
 
   pub pred-requires-2 : lts.Need-pred-requires-2 (R t) (primary-at t) primary.Post
   pred-requires-2 c κs =
-      let args = c .before .before .before .before .before .before .before .before .before .before .before .args in
-      let pre = c .before .before .before .before .before .before .before .before .before .before .before .pre in
+      let args = c .before .before .before .before .before .before .before .before .before .before .args in
+      let pre = c .before .before .before .before .before .before .before .before .before .before .pre in
       let primary-start = c .before .before .before .before .before .primary-start in
       let enum-told4 = c .before .before .before .enum-told4 in
       let has = start-has (args .words .now) (args .m) (enum-told4 .given .1) (primary-start .ensures .1) in
       (omega arith, (ready (pre .1) (omega arith) (omega arith), omega arith))
 
+  pub same-length-6 : lts.Need-same-length-6 (R t) (primary-at t) primary.Post
+  same-length-6 c =
+      let pred2 = c .before .before .before .before .pred2 in
+      pred2 .kept .1 .1 .1 .0
+
   pub same-length-7 : lts.Need-same-length-7 (R t) (primary-at t) primary.Post
   same-length-7 c =
-      omega arith
-
-  pub same-length-8 : lts.Need-same-length-8 (R t) (primary-at t) primary.Post
-  same-length-8 c =
-      omega arith
-
-  pub same-length-9 : lts.Need-same-length-9 (R t) (primary-at t) primary.Post
-  same-length-9 c =
-      omega arith
+      let pred2 = c .before .before .before .before .pred2 in
+      pred2 .kept .1 .1 .1 .1 .0
 
   pub returns-4 : lts.Need-returns-4 (R t) (primary-at t) primary.Post
   returns-4 c =
-      let pre = c .before .before .before .before .before .before .before .before .before .before .before .before .before .before .before .before .before .before .pre in
-      let args = c .before .before .before .before .before .before .before .before .before .before .before .before .before .before .before .before .before .before .args in
-      let primary-start = c .before .before .before .before .before .before .before .before .before .before .before .before .primary-start in
-      let enum-told4 = c .before .before .before .before .before .before .before .before .before .before .enum-told4 in
-      let pred2 = c .before .before .before .before .before .before .pred2 in (
+      let pre = c .before .before .before .before .before .before .before .before .before .before .before .before .before .before .before .pre in
+      let args = c .before .before .before .before .before .before .before .before .before .before .before .before .before .before .before .args in
+      let primary-start = c .before .before .before .before .before .before .before .before .before .before .primary-start in
+      let enum-told4 = c .before .before .before .before .before .before .before .before .enum-told4 in
+      let pred2 = c .before .before .before .before .pred2 in (
         let text = args .text .now in let s = pre .1 .spelt in
             says-same (start-is (args .words .now) (args .m) (enum-told4 .given .1) (primary-start .ensures .0) text (args .notes .now)
             (args .given) _)
@@ -178,28 +177,26 @@ module _ (t : ℕ) where
 
   pub named-requires : lts.Need-named-requires (R t) (primary-at t) primary.Post
   named-requires c κs =
-      let pre = c .before .before .before .before .before .before .before .before .before .before .before .pre in
+      let pre = c .before .before .before .before .before .before .before .before .before .before .pre in
       (omega arith, ready (pre .1) (omega arith) (omega arith))
 
-  pub same-length-10 : lts.Need-same-length-10 (R t) (primary-at t) primary.Post
-  same-length-10 c =
-      omega arith
+  pub same-length-8 : lts.Need-same-length-8 (R t) (primary-at t) primary.Post
+  same-length-8 c =
+      let named = c .before .before .before .before .named in
+      named .kept .1 .1 .1 .0
 
-  pub same-length-11 : lts.Need-same-length-11 (R t) (primary-at t) primary.Post
-  same-length-11 c =
-      omega arith
-
-  pub same-length-12 : lts.Need-same-length-12 (R t) (primary-at t) primary.Post
-  same-length-12 c =
-      omega arith
+  pub same-length-9 : lts.Need-same-length-9 (R t) (primary-at t) primary.Post
+  same-length-9 c =
+      let named = c .before .before .before .before .named in
+      named .kept .1 .1 .1 .1 .0
 
   pub returns-5 : lts.Need-returns-5 (R t) (primary-at t) primary.Post
   returns-5 c =
-      let pre = c .before .before .before .before .before .before .before .before .before .before .before .before .before .before .before .before .before .before .pre in
-      let args = c .before .before .before .before .before .before .before .before .before .before .before .before .before .before .before .before .before .before .args in
-      let primary-start = c .before .before .before .before .before .before .before .before .before .before .before .before .primary-start in
-      let enum-told5 = c .before .before .before .before .before .before .before .before .before .before .enum-told5 in
-      let named = c .before .before .before .before .before .before .named in (
+      let pre = c .before .before .before .before .before .before .before .before .before .before .before .before .before .before .before .pre in
+      let args = c .before .before .before .before .before .before .before .before .before .before .before .before .before .before .before .args in
+      let primary-start = c .before .before .before .before .before .before .before .before .before .before .primary-start in
+      let enum-told5 = c .before .before .before .before .before .before .before .before .enum-told5 in
+      let named = c .before .before .before .before .named in (
         let text = args .text .now in let s = pre .1 .spelt in
             says-same (start-is (args .words .now) (args .m) (enum-told5 .given .1) (primary-start .ensures .0) text (args .notes .now)
             (args .given) _)
@@ -213,32 +210,30 @@ module _ (t : ℕ) where
 
   pub mapped-requires : lts.Need-mapped-requires (R t) (primary-at t) primary.Post
   mapped-requires c κs =
-      let args = c .before .before .before .before .before .before .before .before .before .before .before .args in
-      let pre = c .before .before .before .before .before .before .before .before .before .before .before .pre in
+      let args = c .before .before .before .before .before .before .before .before .before .before .args in
+      let pre = c .before .before .before .before .before .before .before .before .before .before .pre in
       let primary-start = c .before .before .before .before .before .primary-start in
       let enum-told6 = c .before .before .before .enum-told6 in
       let has = start-has (args .words .now) (args .m) (enum-told6 .given .1) (primary-start .ensures .1) in
       (omega arith, (ready (pre .1) (omega arith) (omega arith), omega arith))
 
-  pub same-length-13 : lts.Need-same-length-13 (R t) (primary-at t) primary.Post
-  same-length-13 c =
-      omega arith
+  pub same-length-10 : lts.Need-same-length-10 (R t) (primary-at t) primary.Post
+  same-length-10 c =
+      let mapped = c .before .before .before .before .mapped in
+      mapped .kept .1 .1 .1 .0
 
-  pub same-length-14 : lts.Need-same-length-14 (R t) (primary-at t) primary.Post
-  same-length-14 c =
-      omega arith
-
-  pub same-length-15 : lts.Need-same-length-15 (R t) (primary-at t) primary.Post
-  same-length-15 c =
-      omega arith
+  pub same-length-11 : lts.Need-same-length-11 (R t) (primary-at t) primary.Post
+  same-length-11 c =
+      let mapped = c .before .before .before .before .mapped in
+      mapped .kept .1 .1 .1 .1 .0
 
   pub returns-6 : lts.Need-returns-6 (R t) (primary-at t) primary.Post
   returns-6 c =
-      let pre = c .before .before .before .before .before .before .before .before .before .before .before .before .before .before .before .before .before .before .pre in
-      let args = c .before .before .before .before .before .before .before .before .before .before .before .before .before .before .before .before .before .before .args in
-      let primary-start = c .before .before .before .before .before .before .before .before .before .before .before .before .primary-start in
-      let enum-told6 = c .before .before .before .before .before .before .before .before .before .before .enum-told6 in
-      let mapped = c .before .before .before .before .before .before .mapped in (
+      let pre = c .before .before .before .before .before .before .before .before .before .before .before .before .before .before .before .pre in
+      let args = c .before .before .before .before .before .before .before .before .before .before .before .before .before .before .before .args in
+      let primary-start = c .before .before .before .before .before .before .before .before .before .before .primary-start in
+      let enum-told6 = c .before .before .before .before .before .before .before .before .enum-told6 in
+      let mapped = c .before .before .before .before .mapped in (
         let text = args .text .now in let s = pre .1 .spelt in
             let is = start-is (args .words .now) (args .m) (enum-told6 .given .1) (primary-start .ensures .0) text (args .notes .now)
             (args .given) _ in
@@ -252,32 +247,30 @@ module _ (t : ℕ) where
 
   pub tuple-requires : lts.Need-tuple-requires (R t) (primary-at t) primary.Post
   tuple-requires c κs =
-      let args = c .before .before .before .before .before .before .before .before .before .before .before .args in
-      let pre = c .before .before .before .before .before .before .before .before .before .before .before .pre in
+      let args = c .before .before .before .before .before .before .before .before .before .before .args in
+      let pre = c .before .before .before .before .before .before .before .before .before .before .pre in
       let primary-start = c .before .before .before .before .before .primary-start in
       let enum-told7 = c .before .before .before .enum-told7 in
       let has = start-has (args .words .now) (args .m) (enum-told7 .given .1) (primary-start .ensures .1) in
       (omega arith, (ready (pre .1) (omega arith) (omega arith), omega arith))
 
-  pub same-length-16 : lts.Need-same-length-16 (R t) (primary-at t) primary.Post
-  same-length-16 c =
-      omega arith
+  pub same-length-12 : lts.Need-same-length-12 (R t) (primary-at t) primary.Post
+  same-length-12 c =
+      let tuple = c .before .before .before .before .tuple in
+      tuple .kept .1 .1 .1 .0
 
-  pub same-length-17 : lts.Need-same-length-17 (R t) (primary-at t) primary.Post
-  same-length-17 c =
-      omega arith
-
-  pub same-length-18 : lts.Need-same-length-18 (R t) (primary-at t) primary.Post
-  same-length-18 c =
-      omega arith
+  pub same-length-13 : lts.Need-same-length-13 (R t) (primary-at t) primary.Post
+  same-length-13 c =
+      let tuple = c .before .before .before .before .tuple in
+      tuple .kept .1 .1 .1 .1 .0
 
   pub returns-7 : lts.Need-returns-7 (R t) (primary-at t) primary.Post
   returns-7 c =
-      let pre = c .before .before .before .before .before .before .before .before .before .before .before .before .before .before .before .before .before .before .pre in
-      let args = c .before .before .before .before .before .before .before .before .before .before .before .before .before .before .before .before .before .before .args in
-      let primary-start = c .before .before .before .before .before .before .before .before .before .before .before .before .primary-start in
-      let enum-told7 = c .before .before .before .before .before .before .before .before .before .before .enum-told7 in
-      let tuple = c .before .before .before .before .before .before .tuple in (
+      let pre = c .before .before .before .before .before .before .before .before .before .before .before .before .before .before .before .pre in
+      let args = c .before .before .before .before .before .before .before .before .before .before .before .before .before .before .before .args in
+      let primary-start = c .before .before .before .before .before .before .before .before .before .before .primary-start in
+      let enum-told7 = c .before .before .before .before .before .before .before .before .enum-told7 in
+      let tuple = c .before .before .before .before .tuple in (
         let text = args .text .now in let s = pre .1 .spelt in
             let is = start-is (args .words .now) (args .m) (enum-told7 .given .1) (primary-start .ensures .0) text (args .notes .now)
             (args .given) _ in
@@ -291,32 +284,30 @@ module _ (t : ℕ) where
 
   pub parens-requires : lts.Need-parens-requires (R t) (primary-at t) primary.Post
   parens-requires c κs =
-      let args = c .before .before .before .before .before .before .before .before .before .before .before .args in
-      let pre = c .before .before .before .before .before .before .before .before .before .before .before .pre in
+      let args = c .before .before .before .before .before .before .before .before .before .before .args in
+      let pre = c .before .before .before .before .before .before .before .before .before .before .pre in
       let primary-start = c .before .before .before .before .before .primary-start in
       let enum-told8 = c .before .before .before .enum-told8 in
       let has = start-has (args .words .now) (args .m) (enum-told8 .given .1) (primary-start .ensures .1) in
       (omega arith, (ready (pre .1) (omega arith) (omega arith), omega arith))
 
-  pub same-length-19 : lts.Need-same-length-19 (R t) (primary-at t) primary.Post
-  same-length-19 c =
-      omega arith
+  pub same-length-14 : lts.Need-same-length-14 (R t) (primary-at t) primary.Post
+  same-length-14 c =
+      let parens = c .before .before .before .before .parens in
+      parens .kept .1 .1 .1 .0
 
-  pub same-length-20 : lts.Need-same-length-20 (R t) (primary-at t) primary.Post
-  same-length-20 c =
-      omega arith
-
-  pub same-length-21 : lts.Need-same-length-21 (R t) (primary-at t) primary.Post
-  same-length-21 c =
-      omega arith
+  pub same-length-15 : lts.Need-same-length-15 (R t) (primary-at t) primary.Post
+  same-length-15 c =
+      let parens = c .before .before .before .before .parens in
+      parens .kept .1 .1 .1 .1 .0
 
   pub returns-8 : lts.Need-returns-8 (R t) (primary-at t) primary.Post
   returns-8 c =
-      let pre = c .before .before .before .before .before .before .before .before .before .before .before .before .before .before .before .before .before .before .pre in
-      let args = c .before .before .before .before .before .before .before .before .before .before .before .before .before .before .before .before .before .before .args in
-      let primary-start = c .before .before .before .before .before .before .before .before .before .before .before .before .primary-start in
-      let enum-told8 = c .before .before .before .before .before .before .before .before .before .before .enum-told8 in
-      let parens = c .before .before .before .before .before .before .parens in (
+      let pre = c .before .before .before .before .before .before .before .before .before .before .before .before .before .before .before .pre in
+      let args = c .before .before .before .before .before .before .before .before .before .before .before .before .before .before .before .args in
+      let primary-start = c .before .before .before .before .before .before .before .before .before .before .primary-start in
+      let enum-told8 = c .before .before .before .before .before .before .before .before .enum-told8 in
+      let parens = c .before .before .before .before .parens in (
         let text = args .text .now in let s = pre .1 .spelt in
             says-same (start-is (args .words .now) (args .m) (enum-told8 .given .1) (primary-start .ensures .0) text (args .notes .now)
             (args .given) _)
@@ -330,32 +321,30 @@ module _ (t : ℕ) where
 
   pub template-requires : lts.Need-template-requires (R t) (primary-at t) primary.Post
   template-requires c κs =
-      let args = c .before .before .before .before .before .before .before .before .before .before .before .args in
-      let pre = c .before .before .before .before .before .before .before .before .before .before .before .pre in
+      let args = c .before .before .before .before .before .before .before .before .before .before .args in
+      let pre = c .before .before .before .before .before .before .before .before .before .before .pre in
       let primary-start = c .before .before .before .before .before .primary-start in
       let enum-told9 = c .before .before .before .enum-told9 in
       let has = start-has (args .words .now) (args .m) (enum-told9 .given .1) (primary-start .ensures .1) in
       (omega arith, (ready (pre .1) (omega arith) (omega arith), omega arith))
 
-  pub same-length-22 : lts.Need-same-length-22 (R t) (primary-at t) primary.Post
-  same-length-22 c =
-      omega arith
+  pub same-length-16 : lts.Need-same-length-16 (R t) (primary-at t) primary.Post
+  same-length-16 c =
+      let template = c .before .before .before .before .template in
+      template .kept .1 .1 .1 .0
 
-  pub same-length-23 : lts.Need-same-length-23 (R t) (primary-at t) primary.Post
-  same-length-23 c =
-      omega arith
-
-  pub same-length-24 : lts.Need-same-length-24 (R t) (primary-at t) primary.Post
-  same-length-24 c =
-      omega arith
+  pub same-length-17 : lts.Need-same-length-17 (R t) (primary-at t) primary.Post
+  same-length-17 c =
+      let template = c .before .before .before .before .template in
+      template .kept .1 .1 .1 .1 .0
 
   pub returns-9 : lts.Need-returns-9 (R t) (primary-at t) primary.Post
   returns-9 c =
-      let pre = c .before .before .before .before .before .before .before .before .before .before .before .before .before .before .before .before .before .before .pre in
-      let args = c .before .before .before .before .before .before .before .before .before .before .before .before .before .before .before .before .before .before .args in
-      let primary-start = c .before .before .before .before .before .before .before .before .before .before .before .before .primary-start in
-      let enum-told9 = c .before .before .before .before .before .before .before .before .before .before .enum-told9 in
-      let template = c .before .before .before .before .before .before .template in (
+      let pre = c .before .before .before .before .before .before .before .before .before .before .before .before .before .before .before .pre in
+      let args = c .before .before .before .before .before .before .before .before .before .before .before .before .before .before .before .args in
+      let primary-start = c .before .before .before .before .before .before .before .before .before .before .primary-start in
+      let enum-told9 = c .before .before .before .before .before .before .before .before .enum-told9 in
+      let template = c .before .before .before .before .template in (
         let text = args .text .now in let s = pre .1 .spelt in
             let is = start-is (args .words .now) (args .m) (enum-told9 .given .1) (primary-start .ensures .0) text (args .notes .now)
             (args .given) _ in
@@ -373,8 +362,8 @@ module _ (t : ℕ) where
 
   pub returns-10 : lts.Need-returns-10 (R t) (primary-at t) primary.Post
   returns-10 c =
-      let args = c .before .before .before .before .before .before .before .before .before .before .args in
-      let pre = c .before .before .before .before .before .before .before .before .before .before .pre in
+      let args = c .before .before .before .before .before .before .before .before .before .args in
+      let pre = c .before .before .before .before .before .before .before .before .before .pre in
       let primary-start = c .before .before .before .before .primary-start in
       let o = c .before .before .o in
       let refused = c .refused in

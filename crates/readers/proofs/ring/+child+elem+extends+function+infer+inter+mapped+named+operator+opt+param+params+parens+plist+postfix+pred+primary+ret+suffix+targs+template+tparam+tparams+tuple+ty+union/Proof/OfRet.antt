@@ -22,13 +22,13 @@ R t = (predicates-reads.Asked, predicates-reads.Learnt, pred-below t, pred.Post,
 module _ (t : ℕ) where
   pub predicates-requires : lts.Need-predicates-requires (R t) (ret-at t) ret.Post
   predicates-requires c κs =
-      let pre = c .before .before .before .before .before .pre in
+      let pre = c .before .before .before .before .pre in
       (pre .1 .classes-are, omega arith)
 
   pub pred-requires : lts.Need-pred-requires (R t) (ret-at t) ret.Post
   pred-requires c κs =
-      let args = c .before .before .before .before .before .before .before .before .before .before .args in
-      let pre = c .before .before .before .before .before .before .before .before .before .before .pre in
+      let args = c .before .before .before .before .before .before .before .before .before .args in
+      let pre = c .before .before .before .before .before .before .before .before .before .pre in
       let predicates = c .before .before .before .before .predicates in
       let if1 = c .before .before .before .if1 in
       let inside = predicates-inside (givenOf [] (args .words .now) (args .given)) (view (args .m) (args .notes .now))
@@ -37,23 +37,21 @@ module _ (t : ℕ) where
 
   pub same-length : lts.Need-same-length (R t) (ret-at t) ret.Post
   same-length c =
-      omega arith
+      let pred = c .before .before .before .before .pred in
+      pred .kept .1 .1 .1 .0
 
   pub same-length-2 : lts.Need-same-length-2 (R t) (ret-at t) ret.Post
   same-length-2 c =
-      omega arith
-
-  pub same-length-3 : lts.Need-same-length-3 (R t) (ret-at t) ret.Post
-  same-length-3 c =
-      omega arith
+      let pred = c .before .before .before .before .pred in
+      pred .kept .1 .1 .1 .1 .0
 
   pub returns : lts.Need-returns (R t) (ret-at t) ret.Post
   returns c =
-      let pre = c .before .before .before .before .before .before .before .before .before .before .before .before .before .before .before .before .before .pre in
-      let args = c .before .before .before .before .before .before .before .before .before .before .before .before .before .before .before .before .before .args in
-      let predicates = c .before .before .before .before .before .before .before .before .before .before .before .predicates in
-      let if1 = c .before .before .before .before .before .before .before .before .before .before .if1 in
-      let pred = c .before .before .before .before .before .before .pred in (
+      let pre = c .before .before .before .before .before .before .before .before .before .before .before .before .before .before .pre in
+      let args = c .before .before .before .before .before .before .before .before .before .before .before .before .before .before .args in
+      let predicates = c .before .before .before .before .before .before .before .before .before .predicates in
+      let if1 = c .before .before .before .before .before .before .before .before .if1 in
+      let pred = c .before .before .before .before .pred in (
         let text = args .text .now in let s = pre .1 .spelt in
             says-same (return-predicate _ _ _ (sym (predicates .ensures text (args .notes .now) (args .given)) ∙ if1 .taken))
             (pred .ensures .0),
@@ -62,28 +60,26 @@ module _ (t : ℕ) where
 
   pub ty-requires : lts.Need-ty-requires (R t) (ret-at t) ret.Post
   ty-requires c κs =
-      let pre = c .before .before .before .before .before .before .before .before .before .before .pre in
+      let pre = c .before .before .before .before .before .before .before .before .before .pre in
       (omega arith, ready (pre .1) (omega arith) (omega arith))
+
+  pub same-length-3 : lts.Need-same-length-3 (R t) (ret-at t) ret.Post
+  same-length-3 c =
+      let ty = c .before .before .before .before .ty in
+      ty .kept .1 .1 .1 .0
 
   pub same-length-4 : lts.Need-same-length-4 (R t) (ret-at t) ret.Post
   same-length-4 c =
-      omega arith
-
-  pub same-length-5 : lts.Need-same-length-5 (R t) (ret-at t) ret.Post
-  same-length-5 c =
-      omega arith
-
-  pub same-length-6 : lts.Need-same-length-6 (R t) (ret-at t) ret.Post
-  same-length-6 c =
-      omega arith
+      let ty = c .before .before .before .before .ty in
+      ty .kept .1 .1 .1 .1 .0
 
   pub returns-2 : lts.Need-returns-2 (R t) (ret-at t) ret.Post
   returns-2 c =
-      let pre = c .before .before .before .before .before .before .before .before .before .before .before .before .before .before .before .before .before .pre in
-      let args = c .before .before .before .before .before .before .before .before .before .before .before .before .before .before .before .before .before .args in
-      let predicates = c .before .before .before .before .before .before .before .before .before .before .before .predicates in
-      let if1 = c .before .before .before .before .before .before .before .before .before .before .if1 in
-      let ty = c .before .before .before .before .before .before .ty in (
+      let pre = c .before .before .before .before .before .before .before .before .before .before .before .before .before .before .pre in
+      let args = c .before .before .before .before .before .before .before .before .before .before .before .before .before .before .args in
+      let predicates = c .before .before .before .before .before .before .before .before .before .predicates in
+      let if1 = c .before .before .before .before .before .before .before .before .if1 in
+      let ty = c .before .before .before .before .ty in (
         let text = args .text .now in let s = pre .1 .spelt in says-same (return-type _ _ _ (sym (predicates .ensures text (args .notes .now) (args .given)) ∙ if1 .left)) (ty .ensures .0),
         (omega arith, λ z. omega (arith, ty .ensures .1 .1 z)),
       )

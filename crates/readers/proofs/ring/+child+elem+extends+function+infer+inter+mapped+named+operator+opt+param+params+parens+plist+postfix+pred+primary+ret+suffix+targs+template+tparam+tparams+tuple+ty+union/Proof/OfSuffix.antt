@@ -37,25 +37,25 @@ module _ (t : ℕ) where
 
   pub add-t14 : lts.Need-add-t14 (R t) (suffix-at t) suffix.Post
   add-t14 c =
-      let pre = c .before .before .before .before .before .before .before .pre in
+      let pre = c .before .before .before .before .before .before .pre in
       let kind-at = c .before .kind-at in
       omega (arith, pre, kind-at .ensures .1)
 
   pub put-about-requires : lts.Need-put-about-requires (R t) (suffix-at t) suffix.Post
   put-about-requires c κs =
-      let pre = c .before .before .before .before .before .before .before .before .before .pre in
+      let pre = c .before .before .before .before .before .before .before .before .pre in
       let kind-at = c .before .before .before .kind-at in
       (pre .1 .0 .sound, omega (arith, pre, kind-at .ensures .1), omega (arith, pre, kind-at .ensures .1), omega (arith, pre, kind-at .ensures .1), omega (arith, pre, kind-at .ensures .1), omega (arith, pre, kind-at .ensures .1), omega (arith, pre, kind-at .ensures .1))
 
   pub same-length : lts.Need-same-length (R t) (suffix-at t) suffix.Post
   same-length c =
       let put-about = c .before .before .put-about in
-      omega (arith, put-about .kept)
+      put-about .kept .1 .0
 
   pub returns : lts.Need-returns (R t) (suffix-at t) suffix.Post
   returns c =
-      let pre = c .before .before .before .before .before .before .before .before .before .before .before .before .pre in
-      let args = c .before .before .before .before .before .before .before .before .before .before .before .before .args in
+      let pre = c .before .before .before .before .before .before .before .before .before .before .before .pre in
+      let args = c .before .before .before .before .before .before .before .before .before .before .before .args in
       let kind-at = c .before .before .before .before .before .before .kind-at in
       let if1 = c .before .before .before .before .if1 in
       let put-about = c .before .before .put-about in
@@ -63,19 +63,19 @@ module _ (t : ℕ) where
 
   pub put-about-requires-2 : lts.Need-put-about-requires-2 (R t) (suffix-at t) suffix.Post
   put-about-requires-2 c κs =
-      let pre = c .before .before .before .before .before .before .before .before .before .before .pre in
+      let pre = c .before .before .before .before .before .before .before .before .before .pre in
       let kind-at = c .before .before .before .before .kind-at in
       (pre .1 .0 .sound, omega (arith, pre, kind-at .ensures .1), omega (arith, pre, kind-at .ensures .1), omega (arith, pre, kind-at .ensures .1), omega (arith, pre, kind-at .ensures .1), omega (arith, pre, kind-at .ensures .1), omega (arith, pre, kind-at .ensures .1))
 
   pub same-length-2 : lts.Need-same-length-2 (R t) (suffix-at t) suffix.Post
   same-length-2 c =
       let put-about2 = c .before .before .put-about2 in
-      omega (arith, put-about2 .kept)
+      put-about2 .kept .1 .0
 
   pub returns-2 : lts.Need-returns-2 (R t) (suffix-at t) suffix.Post
   returns-2 c =
-      let pre = c .before .before .before .before .before .before .before .before .before .before .before .before .before .pre in
-      let args = c .before .before .before .before .before .before .before .before .before .before .before .before .before .args in
+      let pre = c .before .before .before .before .before .before .before .before .before .before .before .before .pre in
+      let args = c .before .before .before .before .before .before .before .before .before .before .before .before .args in
       let kind-at = c .before .before .before .before .before .before .before .kind-at in
       let if1 = c .before .before .before .before .before .if1 in
       let if2 = c .before .before .before .before .if2 in
@@ -84,25 +84,25 @@ module _ (t : ℕ) where
 
   pub starter-requires : lts.Need-starter-requires (R t) (suffix-at t) suffix.Post
   starter-requires c κs =
-      let pre = c .before .before .before .before .before .before .before .before .before .pre in
+      let pre = c .before .before .before .before .before .before .before .before .pre in
       let kind-at = c .before .before .before .kind-at in
       (pre .1 .0 .classes-are, omega (arith, pre, kind-at .ensures .1))
 
   pub array-requires : lts.Need-array-requires (R t) (suffix-at t) suffix.Post
   array-requires c κs =
-      let pre = c .before .before .before .before .before .before .before .before .before .before .before .before .pre in
+      let pre = c .before .before .before .before .before .before .before .before .before .before .before .pre in
       let kind-at = c .before .before .before .before .before .before .kind-at in
       (pre .1 .0 .sound, omega (arith, pre, kind-at .ensures .1), omega (arith, pre, kind-at .ensures .1), omega (arith, pre, kind-at .ensures .1), omega (arith, pre, kind-at .ensures .1), omega (arith, pre, kind-at .ensures .1), omega (arith, pre, kind-at .ensures .1))
 
   pub same-length-3 : lts.Need-same-length-3 (R t) (suffix-at t) suffix.Post
   same-length-3 c =
       let array = c .before .before .array in
-      omega (arith, array .kept)
+      array .kept .1 .0
 
   pub returns-3 : lts.Need-returns-3 (R t) (suffix-at t) suffix.Post
   returns-3 c =
-      let pre = c .before .before .before .before .before .before .before .before .before .before .before .before .before .before .before .pre in
-      let args = c .before .before .before .before .before .before .before .before .before .before .before .before .before .before .before .args in
+      let pre = c .before .before .before .before .before .before .before .before .before .before .before .before .before .before .pre in
+      let args = c .before .before .before .before .before .before .before .before .before .before .before .before .before .before .args in
       let kind-at = c .before .before .before .before .before .before .before .before .before .kind-at in
       let if1 = c .before .before .before .before .before .before .before .if1 in
       let if2 = c .before .before .before .before .before .before .if2 in
@@ -113,93 +113,81 @@ module _ (t : ℕ) where
 
   pub one-requires : lts.Need-one-requires (R t) (suffix-at t) suffix.Post
   one-requires c κs =
-      let pre = c .before .before .before .before .before .before .before .before .before .before .before .before .before .before .pre in
+      let pre = c .before .before .before .before .before .before .before .before .before .before .before .before .before .pre in
       let kind-at = c .before .before .before .before .before .before .before .before .kind-at in
       omega (arith, pre, kind-at .ensures .1)
 
   pub child-requires : lts.Need-child-requires (R t) (suffix-at t) suffix.Post
   child-requires c κs =
-      let pre = c .before .before .before .before .before .before .before .before .before .before .before .before .before .before .before .pre in
+      let pre = c .before .before .before .before .before .before .before .before .before .before .before .before .before .before .pre in
       let kind-at = c .before .before .before .before .before .before .before .before .before .kind-at in
       let one = c .one in
       (omega (arith, pre, kind-at .ensures .1, same-kids (one .ensures)), (ready (pre .1 .0) (omega (arith, pre, kind-at .ensures .1, same-kids (one .ensures))) (omega (arith, pre, kind-at .ensures .1, same-kids (one .ensures))), omega (arith, pre, kind-at .ensures .1, same-kids (one .ensures))))
 
   pub refused-requires : lts.Need-refused-requires (R t) (suffix-at t) suffix.Post
   refused-requires c κs =
-      let pre = c .before .before .before .before .before .before .before .before .before .before .before .before .before .before .before .before .before .before .before .before .before .before .before .before .pre in
-      let kind-at = c .before .before .before .before .before .before .before .before .before .before .before .before .before .before .before .before .before .before .kind-at in
-      let one = c .before .before .before .before .before .before .before .before .before .one in
-      let child = c .before .before .before .before .before .before .before .before .child in
+      let pre = c .before .before .before .before .before .before .before .before .before .before .before .before .before .before .before .before .before .before .before .before .before .pre in
+      let kind-at = c .before .before .before .before .before .before .before .before .before .before .before .before .before .before .before .before .kind-at in
+      let one = c .before .before .before .before .before .before .before .one in
+      let child = c .before .before .before .before .before .before .child in
       omega (arith, pre, kind-at .ensures .1, same-kids (one .ensures), child .ensures .1 .0, child .kept)
 
   pub same-length-4 : lts.Need-same-length-4 (R t) (suffix-at t) suffix.Post
   same-length-4 c =
-      let child = c .before .before .before .before .before .before .before .before .before .child in
-      omega (arith, child .kept)
+      let child = c .before .before .before .before .before .before .before .child in
+      child .kept .1 .1 .1 .0
 
   pub same-length-5 : lts.Need-same-length-5 (R t) (suffix-at t) suffix.Post
   same-length-5 c =
-      let child = c .before .before .before .before .before .before .before .before .before .child in
-      omega (arith, child .kept)
-
-  pub same-length-6 : lts.Need-same-length-6 (R t) (suffix-at t) suffix.Post
-  same-length-6 c =
-      let child = c .before .before .before .before .before .before .before .before .before .child in
-      omega (arith, child .kept)
+      let child = c .before .before .before .before .before .before .before .child in
+      child .kept .1 .1 .1 .1 .0
 
   pub returns-4 : lts.Need-returns-4 (R t) (suffix-at t) suffix.Post
   returns-4 c =
-      let pre = c .before .before .before .before .before .before .before .before .before .before .before .before .before .before .before .before .before .before .before .before .before .before .before .before .before .pre in
-      let args = c .before .before .before .before .before .before .before .before .before .before .before .before .before .before .before .before .before .before .before .before .before .before .before .before .before .args in
-      let kind-at = c .before .before .before .before .before .before .before .before .before .before .before .before .before .before .before .before .before .before .before .kind-at in
-      let if1 = c .before .before .before .before .before .before .before .before .before .before .before .before .before .before .before .before .before .if1 in
-      let if2 = c .before .before .before .before .before .before .before .before .before .before .before .before .before .before .before .before .if2 in
-      let starter = c .before .before .before .before .before .before .before .before .before .before .before .before .before .before .before .starter in
-      let if3 = c .before .before .before .before .before .before .before .before .before .before .before .before .before .before .if3 in
-      let one = c .before .before .before .before .before .before .before .before .before .before .one in
-      let child = c .before .before .before .before .before .before .before .before .before .child in
+      let pre = c .before .before .before .before .before .before .before .before .before .before .before .before .before .before .before .before .before .before .before .before .before .before .pre in
+      let args = c .before .before .before .before .before .before .before .before .before .before .before .before .before .before .before .before .before .before .before .before .before .before .args in
+      let kind-at = c .before .before .before .before .before .before .before .before .before .before .before .before .before .before .before .before .before .kind-at in
+      let if1 = c .before .before .before .before .before .before .before .before .before .before .before .before .before .before .before .if1 in
+      let if2 = c .before .before .before .before .before .before .before .before .before .before .before .before .before .before .if2 in
+      let starter = c .before .before .before .before .before .before .before .before .before .before .before .before .before .starter in
+      let if3 = c .before .before .before .before .before .before .before .before .before .before .before .before .if3 in
+      let one = c .before .before .before .before .before .before .before .before .one in
+      let child = c .before .before .before .before .before .before .before .child in
       let if4 = c .before .if4 in
       let refused = c .refused in
       (λ B u h n. says-as (refused .ensures) (says-stop (if4 .taken) ((suffix-index (givenOf (args .text .now) (args .words .now) (args .given)) (below (args .given) (givenOf (args .text .now) (args .words .now) (args .given))) (args .b .first) u (view (args .m) (args .notes .now)) (is-not-here (args .words .now) (args .m) (kind-at .ensures .0) (if1 .left)) (is-not-here (args .words .now) (args .m) (kind-at .ensures .0) (if2 .left)) (sym (starter .ensures) ∙ not-false _ (if3 .left))) ∙ then-refused _ (child .ensures .0 B _ (built-child (one .ensures) h) .refused (if4 .taken)))), (omega (arith, same-answer (refused .ensures), pre, kind-at .ensures .1, same-kids (one .ensures), child .ensures .1 .0), λ z. omega (arith, same-answer (refused .ensures), pre, kind-at .ensures .1, same-kids (one .ensures), child .ensures .1 .0, z)))
 
   pub bracketed-requires : lts.Need-bracketed-requires (R t) (suffix-at t) suffix.Post
   bracketed-requires c κs =
-      let pre = c .before .before .before .before .before .before .before .before .before .before .before .before .before .before .before .before .before .before .before .before .before .before .before .before .before .pre in
-      let kind-at = c .before .before .before .before .before .before .before .before .before .before .before .before .before .before .before .before .before .before .before .kind-at in
-      let one = c .before .before .before .before .before .before .before .before .before .before .one in
-      let child = c .before .before .before .before .before .before .before .before .before .child in
+      let pre = c .before .before .before .before .before .before .before .before .before .before .before .before .before .before .before .before .before .before .before .before .before .before .pre in
+      let kind-at = c .before .before .before .before .before .before .before .before .before .before .before .before .before .before .before .before .before .kind-at in
+      let one = c .before .before .before .before .before .before .before .before .one in
+      let child = c .before .before .before .before .before .before .before .child in
       let if4 = c .before .if4 in
       (pre .1 .0 .sound, omega (arith, pre, kind-at .ensures .1, same-kids (one .ensures), child .ensures .1 .0, child .ensures .1 .1 (if4 .left), child .kept), omega (arith, pre, kind-at .ensures .1, same-kids (one .ensures), child .ensures .1 .0, child .ensures .1 .1 (if4 .left), child .kept), omega (arith, pre, kind-at .ensures .1, same-kids (one .ensures), child .ensures .1 .0, child .ensures .1 .1 (if4 .left), child .kept), omega (arith, pre, kind-at .ensures .1, same-kids (one .ensures), child .ensures .1 .0, child .ensures .1 .1 (if4 .left), child .kept), omega (arith, pre, kind-at .ensures .1, same-kids (one .ensures), child .ensures .1 .0, child .ensures .1 .1 (if4 .left), child .kept))
 
+  pub same-length-6 : lts.Need-same-length-6 (R t) (suffix-at t) suffix.Post
+  same-length-6 c =
+      let child = c .before .before .before .before .before .before .before .before .before .before .child in
+      let bracketed = c .before .before .bracketed in
+      bracketed .kept .1 .0 ∙ child .kept .1 .1 .1 .0
+
   pub same-length-7 : lts.Need-same-length-7 (R t) (suffix-at t) suffix.Post
   same-length-7 c =
-      let child = c .before .before .before .before .before .before .before .before .before .before .before .before .child in
-      let bracketed = c .before .before .bracketed in
-      omega (arith, child .kept, bracketed .kept)
-
-  pub same-length-8 : lts.Need-same-length-8 (R t) (suffix-at t) suffix.Post
-  same-length-8 c =
-      let child = c .before .before .before .before .before .before .before .before .before .before .before .before .child in
-      let bracketed = c .before .before .bracketed in
-      omega (arith, child .kept, bracketed .kept)
-
-  pub same-length-9 : lts.Need-same-length-9 (R t) (suffix-at t) suffix.Post
-  same-length-9 c =
-      let child = c .before .before .before .before .before .before .before .before .before .before .before .before .child in
-      let bracketed = c .before .before .bracketed in
-      omega (arith, child .kept, bracketed .kept)
+      let child = c .before .before .before .before .before .before .before .before .before .before .child in
+      child .kept .1 .1 .1 .1 .0
 
   pub returns-5 : lts.Need-returns-5 (R t) (suffix-at t) suffix.Post
   returns-5 c =
-      let pre = c .before .before .before .before .before .before .before .before .before .before .before .before .before .before .before .before .before .before .before .before .before .before .before .before .before .before .before .before .pre in
-      let args = c .before .before .before .before .before .before .before .before .before .before .before .before .before .before .before .before .before .before .before .before .before .before .before .before .before .before .before .before .args in
-      let kind-at = c .before .before .before .before .before .before .before .before .before .before .before .before .before .before .before .before .before .before .before .before .before .before .kind-at in
-      let if1 = c .before .before .before .before .before .before .before .before .before .before .before .before .before .before .before .before .before .before .before .before .if1 in
-      let if2 = c .before .before .before .before .before .before .before .before .before .before .before .before .before .before .before .before .before .before .before .if2 in
-      let starter = c .before .before .before .before .before .before .before .before .before .before .before .before .before .before .before .before .before .before .starter in
-      let if3 = c .before .before .before .before .before .before .before .before .before .before .before .before .before .before .before .before .before .if3 in
-      let one = c .before .before .before .before .before .before .before .before .before .before .before .before .before .one in
-      let child = c .before .before .before .before .before .before .before .before .before .before .before .before .child in
+      let pre = c .before .before .before .before .before .before .before .before .before .before .before .before .before .before .before .before .before .before .before .before .before .before .before .before .before .pre in
+      let args = c .before .before .before .before .before .before .before .before .before .before .before .before .before .before .before .before .before .before .before .before .before .before .before .before .before .args in
+      let kind-at = c .before .before .before .before .before .before .before .before .before .before .before .before .before .before .before .before .before .before .before .before .kind-at in
+      let if1 = c .before .before .before .before .before .before .before .before .before .before .before .before .before .before .before .before .before .before .if1 in
+      let if2 = c .before .before .before .before .before .before .before .before .before .before .before .before .before .before .before .before .before .if2 in
+      let starter = c .before .before .before .before .before .before .before .before .before .before .before .before .before .before .before .before .starter in
+      let if3 = c .before .before .before .before .before .before .before .before .before .before .before .before .before .before .before .if3 in
+      let one = c .before .before .before .before .before .before .before .before .before .before .before .one in
+      let child = c .before .before .before .before .before .before .before .before .before .before .child in
       let if4 = c .before .before .before .before .if4 in
       let bracketed = c .before .before .bracketed in
       (λ B u h n. let got = child .ensures .0 B _ (built-child (one .ensures) h) .done (if4 .left) in says-same ((suffix-index (givenOf (args .text .now) (args .words .now) (args .given)) (below (args .given) (givenOf (args .text .now) (args .words .now) (args .given))) (args .b .first) u (view (args .m) (args .notes .now)) (is-not-here (args .words .now) (args .m) (kind-at .ensures .0) (if1 .left)) (is-not-here (args .words .now) (args .m) (kind-at .ensures .0) (if2 .left)) (sym (starter .ensures) ∙ not-false _ (if3 .left))) ∙ then-read _ (got .is)) (bracketed .ensures .0 (args .text .now) B _ 8 (join u (got .tree)) _ _ (got .built) n (shape-indexed (h .is-node) (got .is-node))), (omega (arith, pre, kind-at .ensures .1, same-kids (one .ensures), child .ensures .1 .0, child .ensures .1 .1 (if4 .left), bracketed .ensures .1), λ z. omega (arith, pre, kind-at .ensures .1, same-kids (one .ensures), child .ensures .1 .0, child .ensures .1 .1 (if4 .left), bracketed .ensures .1, z)))

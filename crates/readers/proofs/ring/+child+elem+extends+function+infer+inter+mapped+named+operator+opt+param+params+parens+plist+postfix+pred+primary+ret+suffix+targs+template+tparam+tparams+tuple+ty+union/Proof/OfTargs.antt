@@ -39,7 +39,7 @@ R t = (opens-reads.Asked, opens-reads.Learnt, absent-reads.Asked, absent-reads.L
 
 abbrev pub Inv-loop : lts.InvT-loop
 Inv-loop text words classes nodes₀ names₀ notes₀ given m p₀ k₀ nodes names notes p k =
-    Kept (length words) given nodes₀ names₀ notes₀ p₀ nodes names notes p × (Under (p .used) k)
+    Kept (length words) given nodes₀ names₀ p₀ nodes names p × (Under (p .used) k)
     × (ArgumentsTurn (givenOf text words given) (below given (givenOf text words given)) (view m notes₀)
     (was m nodes₀ names₀ notes₀) k p nodes names notes)
 
@@ -58,8 +58,8 @@ module _ (t : ℕ) where
 
   pub returns : lts.Need-returns (R t) (targs-at t) targs.Post Inv-loop μ-loop
   returns c =
-      let pre = c .before .before .before .before .before .before .before .before .pre in
-      let args = c .before .before .before .before .before .before .before .before .args in
+      let pre = c .before .before .before .before .before .before .before .pre in
+      let args = c .before .before .before .before .before .before .before .args in
       let opens = c .before .before .opens in
       let if1 = c .before .if1 in
       let absent = c .absent in
@@ -67,7 +67,7 @@ module _ (t : ℕ) where
 
   pub opened-requires : lts.Need-opened-requires (R t) (targs-at t) targs.Post Inv-loop μ-loop
   opened-requires c κs =
-      let pre = c .before .before .before .before .before .before .before .pre in
+      let pre = c .before .before .before .before .before .before .pre in
       let opens = c .before .opens in
       let if1 = c .if1 in
       (pre .1 .sound, opens .ensures .1 (not-false _ (if1 .left)) .0, opens .ensures .1 (not-false _ (if1 .left)) .1)
@@ -78,8 +78,8 @@ module _ (t : ℕ) where
 
   pub loop-holds : lts.Need-loop-holds (R t) (targs-at t) targs.Post Inv-loop μ-loop
   loop-holds c =
-      let pre = c .before .before .before .before .before .before .before .before .before .pre in
-      let args = c .before .before .before .before .before .before .before .before .before .args in
+      let pre = c .before .before .before .before .before .before .before .before .pre in
+      let args = c .before .before .before .before .before .before .before .before .args in
       let opens = c .before .before .before .opens in
       let if1 = c .before .before .if1 in
       let opened = c .before .opened in
@@ -92,7 +92,7 @@ module _ (t : ℕ) where
 
   pub child-requires : lts.Need-child-requires (R t) (targs-at t) targs.Post Inv-loop μ-loop
   child-requires c κs =
-      let pre = c .before .before .before .before .before .before .before .before .before .before .before .before .before .before .before .pre in
+      let pre = c .before .before .before .before .before .before .before .before .before .before .before .before .before .before .pre in
       let opened = c .before .before .before .before .before .before .before .opened in
       let none = c .before .before .before .before .before .before .none in
       let loop = c .before .before .before .before .before .loop in
@@ -101,86 +101,74 @@ module _ (t : ℕ) where
 
   pub same-length : lts.Need-same-length (R t) (targs-at t) targs.Post Inv-loop μ-loop
   same-length c =
-      let loop = c .before .before .before .before .before .before .before .before .before .before .before .before .before .before .loop in
-      let child = c .before .before .before .before .before .before .before .before .child in
-      omega (arith, child .kept, loop .inv .0)
+      let loop = c .before .before .before .before .before .before .before .before .before .before .before .before .loop in
+      let child = c .before .before .before .before .before .before .child in
+      child .kept .1 .1 .1 .0 ∙ loop .inv .0 .nodes
 
   pub same-length-2 : lts.Need-same-length-2 (R t) (targs-at t) targs.Post Inv-loop μ-loop
   same-length-2 c =
-      let loop = c .before .before .before .before .before .before .before .before .before .before .before .before .before .before .loop in
-      let child = c .before .before .before .before .before .before .before .before .child in
-      omega (arith, child .kept, loop .inv .0)
-
-  pub same-length-3 : lts.Need-same-length-3 (R t) (targs-at t) targs.Post Inv-loop μ-loop
-  same-length-3 c =
-      let loop = c .before .before .before .before .before .before .before .before .before .before .before .before .before .before .loop in
-      let child = c .before .before .before .before .before .before .before .before .child in
-      omega (arith, child .kept, loop .inv .0)
+      let loop = c .before .before .before .before .before .before .before .before .before .before .before .before .loop in
+      let child = c .before .before .before .before .before .before .child in
+      child .kept .1 .1 .1 .1 .0 ∙ loop .inv .0 .names
 
   pub returns-2 : lts.Need-returns-2 (R t) (targs-at t) targs.Post Inv-loop μ-loop
   returns-2 c =
-      let pre = c .before .before .before .before .before .before .before .before .before .before .before .before .before .before .before .before .before .before .before .before .before .before .before .before .pre in
-      let args = c .before .before .before .before .before .before .before .before .before .before .before .before .before .before .before .before .before .before .before .before .before .before .before .before .args in
-      let opened = c .before .before .before .before .before .before .before .before .before .before .before .before .before .before .before .before .opened in
-      let none = c .before .before .before .before .before .before .before .before .before .before .before .before .before .before .before .none in
-      let loop = c .before .before .before .before .before .before .before .before .before .before .before .before .before .before .loop in
-      let kind-at = c .before .before .before .before .before .before .before .before .before .before .before .before .before .kind-at in
-      let if2 = c .before .before .before .before .before .before .before .before .before .before .before .before .if2 in
-      let child = c .before .before .before .before .before .before .before .before .child in
+      let pre = c .before .before .before .before .before .before .before .before .before .before .before .before .before .before .before .before .before .before .before .before .before .pre in
+      let args = c .before .before .before .before .before .before .before .before .before .before .before .before .before .before .before .before .before .before .before .before .before .args in
+      let opened = c .before .before .before .before .before .before .before .before .before .before .before .before .before .before .opened in
+      let none = c .before .before .before .before .before .before .before .before .before .before .before .before .before .none in
+      let loop = c .before .before .before .before .before .before .before .before .before .before .before .before .loop in
+      let kind-at = c .before .before .before .before .before .before .before .before .before .before .before .kind-at in
+      let if2 = c .before .before .before .before .before .before .before .before .before .before .if2 in
+      let child = c .before .before .before .before .before .before .child in
       let if3 = c .if3 in
       (let goes-on = is-not-here (args .words .now) (loop .p) (kind-at .ensures .0) (if2 .taken) in listed-stops (if3 .taken) (turn-refused _ _ _ _ (loop .p) (loop .inv .2) goes-on (child .ensures .0 _ _ (loop .inv .2 .built) .refused (if3 .taken))), (omega (arith, pre, same-kids (none .ensures), kind-at .ensures .1, child .ensures .1 .0, opened .ensures .0, loop .inv .0, loop .inv .1), λ z. absurd (if3 .taken z)))
 
   pub past-comma-requires : lts.Need-past-comma-requires (R t) (targs-at t) targs.Post Inv-loop μ-loop
   past-comma-requires c κs =
-      let pre = c .before .before .before .before .before .before .before .before .before .before .before .before .before .before .before .before .before .before .before .before .before .before .before .before .before .pre in
-      let opened = c .before .before .before .before .before .before .before .before .before .before .before .before .before .before .before .before .before .opened in
-      let none = c .before .before .before .before .before .before .before .before .before .before .before .before .before .before .before .before .none in
-      let loop = c .before .before .before .before .before .before .before .before .before .before .before .before .before .before .before .loop in
-      let kind-at = c .before .before .before .before .before .before .before .before .before .before .before .before .before .before .kind-at in
-      let child = c .before .before .before .before .before .before .before .before .before .child in
+      let pre = c .before .before .before .before .before .before .before .before .before .before .before .before .before .before .before .before .before .before .before .before .before .before .pre in
+      let opened = c .before .before .before .before .before .before .before .before .before .before .before .before .before .before .before .opened in
+      let none = c .before .before .before .before .before .before .before .before .before .before .before .before .before .before .none in
+      let loop = c .before .before .before .before .before .before .before .before .before .before .before .before .before .loop in
+      let kind-at = c .before .before .before .before .before .before .before .before .before .before .before .before .kind-at in
+      let child = c .before .before .before .before .before .before .before .child in
       let if3 = c .before .if3 in
       (pre .1 .sound, omega (arith, pre, same-kids (none .ensures), kind-at .ensures .1, child .ensures .1 .0, child .ensures .1 .1 (if3 .left), child .kept, opened .ensures .0, loop .inv .0, loop .inv .1))
 
   pub refused-requires : lts.Need-refused-requires (R t) (targs-at t) targs.Post Inv-loop μ-loop
   refused-requires c κs =
-      let pre = c .before .before .before .before .before .before .before .before .before .before .before .before .before .before .before .before .before .before .before .before .before .before .before .before .before .before .before .before .pre in
-      let opened = c .before .before .before .before .before .before .before .before .before .before .before .before .before .before .before .before .before .before .before .before .opened in
-      let none = c .before .before .before .before .before .before .before .before .before .before .before .before .before .before .before .before .before .before .before .none in
-      let loop = c .before .before .before .before .before .before .before .before .before .before .before .before .before .before .before .before .before .before .loop in
-      let kind-at = c .before .before .before .before .before .before .before .before .before .before .before .before .before .before .before .before .before .kind-at in
-      let child = c .before .before .before .before .before .before .before .before .before .before .before .before .child in
+      let pre = c .before .before .before .before .before .before .before .before .before .before .before .before .before .before .before .before .before .before .before .before .before .before .before .before .before .pre in
+      let opened = c .before .before .before .before .before .before .before .before .before .before .before .before .before .before .before .before .before .before .opened in
+      let none = c .before .before .before .before .before .before .before .before .before .before .before .before .before .before .before .before .before .none in
+      let loop = c .before .before .before .before .before .before .before .before .before .before .before .before .before .before .before .before .loop in
+      let kind-at = c .before .before .before .before .before .before .before .before .before .before .before .before .before .before .before .kind-at in
+      let child = c .before .before .before .before .before .before .before .before .before .before .child in
       let if3 = c .before .before .before .before .if3 in
       let past-comma = c .before .before .past-comma in
       omega (arith, pre, same-kids (none .ensures), kind-at .ensures .1, child .ensures .1 .0, child .ensures .1 .1 (if3 .left), child .kept, opened .ensures .0, loop .inv .0, loop .inv .1, past-comma .ensures .1)
 
+  pub same-length-3 : lts.Need-same-length-3 (R t) (targs-at t) targs.Post Inv-loop μ-loop
+  same-length-3 c =
+      let loop = c .before .before .before .before .before .before .before .before .before .before .before .before .before .before .before .before .before .loop in
+      let child = c .before .before .before .before .before .before .before .before .before .before .before .child in
+      child .kept .1 .1 .1 .0 ∙ loop .inv .0 .nodes
+
   pub same-length-4 : lts.Need-same-length-4 (R t) (targs-at t) targs.Post Inv-loop μ-loop
   same-length-4 c =
-      let loop = c .before .before .before .before .before .before .before .before .before .before .before .before .before .before .before .before .before .before .before .loop in
-      let child = c .before .before .before .before .before .before .before .before .before .before .before .before .before .child in
-      omega (arith, child .kept, loop .inv .0)
-
-  pub same-length-5 : lts.Need-same-length-5 (R t) (targs-at t) targs.Post Inv-loop μ-loop
-  same-length-5 c =
-      let loop = c .before .before .before .before .before .before .before .before .before .before .before .before .before .before .before .before .before .before .before .loop in
-      let child = c .before .before .before .before .before .before .before .before .before .before .before .before .before .child in
-      omega (arith, child .kept, loop .inv .0)
-
-  pub same-length-6 : lts.Need-same-length-6 (R t) (targs-at t) targs.Post Inv-loop μ-loop
-  same-length-6 c =
-      let loop = c .before .before .before .before .before .before .before .before .before .before .before .before .before .before .before .before .before .before .before .loop in
-      let child = c .before .before .before .before .before .before .before .before .before .before .before .before .before .child in
-      omega (arith, child .kept, loop .inv .0)
+      let loop = c .before .before .before .before .before .before .before .before .before .before .before .before .before .before .before .before .before .loop in
+      let child = c .before .before .before .before .before .before .before .before .before .before .before .child in
+      child .kept .1 .1 .1 .1 .0 ∙ loop .inv .0 .names
 
   pub returns-3 : lts.Need-returns-3 (R t) (targs-at t) targs.Post Inv-loop μ-loop
   returns-3 c =
-      let pre = c .before .before .before .before .before .before .before .before .before .before .before .before .before .before .before .before .before .before .before .before .before .before .before .before .before .before .before .before .before .pre in
-      let args = c .before .before .before .before .before .before .before .before .before .before .before .before .before .before .before .before .before .before .before .before .before .before .before .before .before .before .before .before .before .args in
-      let opened = c .before .before .before .before .before .before .before .before .before .before .before .before .before .before .before .before .before .before .before .before .before .opened in
-      let none = c .before .before .before .before .before .before .before .before .before .before .before .before .before .before .before .before .before .before .before .before .none in
-      let loop = c .before .before .before .before .before .before .before .before .before .before .before .before .before .before .before .before .before .before .before .loop in
-      let kind-at = c .before .before .before .before .before .before .before .before .before .before .before .before .before .before .before .before .before .before .kind-at in
-      let if2 = c .before .before .before .before .before .before .before .before .before .before .before .before .before .before .before .before .before .if2 in
-      let child = c .before .before .before .before .before .before .before .before .before .before .before .before .before .child in
+      let pre = c .before .before .before .before .before .before .before .before .before .before .before .before .before .before .before .before .before .before .before .before .before .before .before .before .before .before .pre in
+      let args = c .before .before .before .before .before .before .before .before .before .before .before .before .before .before .before .before .before .before .before .before .before .before .before .before .before .before .args in
+      let opened = c .before .before .before .before .before .before .before .before .before .before .before .before .before .before .before .before .before .before .before .opened in
+      let none = c .before .before .before .before .before .before .before .before .before .before .before .before .before .before .before .before .before .before .none in
+      let loop = c .before .before .before .before .before .before .before .before .before .before .before .before .before .before .before .before .before .loop in
+      let kind-at = c .before .before .before .before .before .before .before .before .before .before .before .before .before .before .before .before .kind-at in
+      let if2 = c .before .before .before .before .before .before .before .before .before .before .before .before .before .before .before .if2 in
+      let child = c .before .before .before .before .before .before .before .before .before .before .before .child in
       let if3 = c .before .before .before .before .before .if3 in
       let past-comma = c .before .before .before .past-comma in
       let if4 = c .before .if4 in
@@ -189,26 +177,26 @@ module _ (t : ℕ) where
 
   pub loop-less : lts.Need-loop-less (R t) (targs-at t) targs.Post Inv-loop μ-loop
   loop-less c =
-      let pre = c .before .before .before .before .before .before .before .before .before .before .before .before .before .before .before .before .before .before .before .before .before .before .before .before .before .before .before .before .before .pre in
-      let opened = c .before .before .before .before .before .before .before .before .before .before .before .before .before .before .before .before .before .before .before .before .before .opened in
-      let none = c .before .before .before .before .before .before .before .before .before .before .before .before .before .before .before .before .before .before .before .before .none in
-      let loop = c .before .before .before .before .before .before .before .before .before .before .before .before .before .before .before .before .before .before .before .loop in
-      let kind-at = c .before .before .before .before .before .before .before .before .before .before .before .before .before .before .before .before .before .before .kind-at in
-      let child = c .before .before .before .before .before .before .before .before .before .before .before .before .before .child in
+      let pre = c .before .before .before .before .before .before .before .before .before .before .before .before .before .before .before .before .before .before .before .before .before .before .before .before .before .before .pre in
+      let opened = c .before .before .before .before .before .before .before .before .before .before .before .before .before .before .before .before .before .before .before .opened in
+      let none = c .before .before .before .before .before .before .before .before .before .before .before .before .before .before .before .before .before .before .none in
+      let loop = c .before .before .before .before .before .before .before .before .before .before .before .before .before .before .before .before .before .loop in
+      let kind-at = c .before .before .before .before .before .before .before .before .before .before .before .before .before .before .before .before .kind-at in
+      let child = c .before .before .before .before .before .before .before .before .before .before .before .child in
       let if3 = c .before .before .before .before .before .if3 in
       let past-comma = c .before .before .before .past-comma in
       omega (arith, pre, same-kids (none .ensures), kind-at .ensures .1, child .ensures .1 .0, child .ensures .1 .1 (if3 .left), opened .ensures .0, loop .inv .0, loop .inv .1, past-comma .ensures .1)
 
   pub loop-again : lts.Need-loop-again (R t) (targs-at t) targs.Post Inv-loop μ-loop
   loop-again c =
-      let pre = c .before .before .before .before .before .before .before .before .before .before .before .before .before .before .before .before .before .before .before .before .before .before .before .before .before .before .before .before .before .pre in
-      let args = c .before .before .before .before .before .before .before .before .before .before .before .before .before .before .before .before .before .before .before .before .before .before .before .before .before .before .before .before .before .args in
-      let opened = c .before .before .before .before .before .before .before .before .before .before .before .before .before .before .before .before .before .before .before .before .before .opened in
-      let none = c .before .before .before .before .before .before .before .before .before .before .before .before .before .before .before .before .before .before .before .before .none in
-      let loop = c .before .before .before .before .before .before .before .before .before .before .before .before .before .before .before .before .before .before .before .loop in
-      let kind-at = c .before .before .before .before .before .before .before .before .before .before .before .before .before .before .before .before .before .before .kind-at in
-      let if2 = c .before .before .before .before .before .before .before .before .before .before .before .before .before .before .before .before .before .if2 in
-      let child = c .before .before .before .before .before .before .before .before .before .before .before .before .before .child in
+      let pre = c .before .before .before .before .before .before .before .before .before .before .before .before .before .before .before .before .before .before .before .before .before .before .before .before .before .before .pre in
+      let args = c .before .before .before .before .before .before .before .before .before .before .before .before .before .before .before .before .before .before .before .before .before .before .before .before .before .before .args in
+      let opened = c .before .before .before .before .before .before .before .before .before .before .before .before .before .before .before .before .before .before .before .opened in
+      let none = c .before .before .before .before .before .before .before .before .before .before .before .before .before .before .before .before .before .before .none in
+      let loop = c .before .before .before .before .before .before .before .before .before .before .before .before .before .before .before .before .before .loop in
+      let kind-at = c .before .before .before .before .before .before .before .before .before .before .before .before .before .before .before .before .kind-at in
+      let if2 = c .before .before .before .before .before .before .before .before .before .before .before .before .before .before .before .if2 in
+      let child = c .before .before .before .before .before .before .before .before .before .before .before .child in
       let if3 = c .before .before .before .before .before .if3 in
       let past-comma = c .before .before .before .past-comma in
       let if4 = c .before .if4 in
@@ -216,7 +204,7 @@ module _ (t : ℕ) where
 
   pub first-byte-requires : lts.Need-first-byte-requires (R t) (targs-at t) targs.Post Inv-loop μ-loop
   first-byte-requires c κs =
-      let pre = c .before .before .before .before .before .before .before .before .before .before .before .before .pre in
+      let pre = c .before .before .before .before .before .before .before .before .before .before .before .pre in
       let opened = c .before .before .before .before .opened in
       let none = c .before .before .before .none in
       let loop = c .before .before .loop in
@@ -225,41 +213,33 @@ module _ (t : ℕ) where
 
   pub list-end-requires : lts.Need-list-end-requires (R t) (targs-at t) targs.Post Inv-loop μ-loop
   list-end-requires c κs =
-      let pre = c .before .before .before .before .before .before .before .before .before .before .before .before .before .before .pre in
+      let pre = c .before .before .before .before .before .before .before .before .before .before .before .before .before .pre in
       let opened = c .before .before .before .before .before .before .opened in
       let none = c .before .before .before .before .before .none in
       let loop = c .before .before .before .before .loop in
       let kind-at = c .before .before .before .kind-at in
       let first-byte = c .before .first-byte in
-      (pre .1 .sound, omega (arith, pre, same-kids (none .ensures), kind-at .ensures .1, opened .ensures .0, loop .inv .0, loop .inv .1, first-byte .ensures .1), omega (arith, pre, same-kids (none .ensures), kind-at .ensures .1, opened .ensures .0, loop .inv .0, loop .inv .1, first-byte .ensures .1), omega (arith, pre, same-kids (none .ensures), kind-at .ensures .1, opened .ensures .0, loop .inv .0, loop .inv .1, first-byte .ensures .1), omega (arith, pre, same-kids (none .ensures), kind-at .ensures .1, opened .ensures .0, loop .inv .0, loop .inv .1, first-byte .ensures .1))
+      (pre .1 .sound, omega (arith, pre, same-kids (none .ensures), kind-at .ensures .1, opened .ensures .0, loop .inv .0, loop .inv .1, first-byte .ensures .1), omega (arith, pre, same-kids (none .ensures), kind-at .ensures .1, opened .ensures .0, loop .inv .0, loop .inv .1, first-byte .ensures .1), omega (arith, pre, same-kids (none .ensures), kind-at .ensures .1, opened .ensures .0, loop .inv .0, loop .inv .1, first-byte .ensures .1))
 
-  pub same-length-7 : lts.Need-same-length-7 (R t) (targs-at t) targs.Post Inv-loop μ-loop
-  same-length-7 c =
-      let loop = c .before .before .before .before .before .before .before .loop in
-      let list-end = c .before .before .list-end in
-      omega (arith, list-end .kept, loop .inv .0)
+  pub same-length-5 : lts.Need-same-length-5 (R t) (targs-at t) targs.Post Inv-loop μ-loop
+  same-length-5 c =
+      let loop = c .before .before .before .before .before .loop in
+      loop .inv .0 .nodes
 
-  pub same-length-8 : lts.Need-same-length-8 (R t) (targs-at t) targs.Post Inv-loop μ-loop
-  same-length-8 c =
-      let loop = c .before .before .before .before .before .before .before .loop in
-      let list-end = c .before .before .list-end in
-      omega (arith, list-end .kept, loop .inv .0)
-
-  pub same-length-9 : lts.Need-same-length-9 (R t) (targs-at t) targs.Post Inv-loop μ-loop
-  same-length-9 c =
-      let loop = c .before .before .before .before .before .before .before .loop in
-      let list-end = c .before .before .list-end in
-      omega (arith, list-end .kept, loop .inv .0)
+  pub same-length-6 : lts.Need-same-length-6 (R t) (targs-at t) targs.Post Inv-loop μ-loop
+  same-length-6 c =
+      let loop = c .before .before .before .before .before .loop in
+      loop .inv .0 .names
 
   pub returns-4 : lts.Need-returns-4 (R t) (targs-at t) targs.Post Inv-loop μ-loop
   returns-4 c =
-      let pre = c .before .before .before .before .before .before .before .before .before .before .before .before .before .before .before .before .before .pre in
-      let args = c .before .before .before .before .before .before .before .before .before .before .before .before .before .before .before .before .before .args in
-      let opened = c .before .before .before .before .before .before .before .before .before .opened in
-      let none = c .before .before .before .before .before .before .before .before .none in
-      let loop = c .before .before .before .before .before .before .before .loop in
-      let kind-at = c .before .before .before .before .before .before .kind-at in
-      let if2 = c .before .before .before .before .before .if2 in
-      let first-byte = c .before .before .before .before .first-byte in
-      let list-end = c .before .before .list-end in
+      let pre = c .before .before .before .before .before .before .before .before .before .before .before .before .before .before .pre in
+      let args = c .before .before .before .before .before .before .before .before .before .before .before .before .before .before .args in
+      let opened = c .before .before .before .before .before .before .before .opened in
+      let none = c .before .before .before .before .before .before .none in
+      let loop = c .before .before .before .before .before .loop in
+      let kind-at = c .before .before .before .before .kind-at in
+      let if2 = c .before .before .before .if2 in
+      let first-byte = c .before .before .first-byte in
+      let list-end = c .list-end in
       (turn-ends (args .text .now) (args .words .now) (args .given) _ _ _ _ (loop .p) (loop .inv .2) (is-here (args .words .now) (loop .p) (kind-at .ensures .0) (if2 .left)) (first-byte .ensures .0) (list-end .ensures .0), (omega (arith, pre, same-kids (none .ensures), kind-at .ensures .1, opened .ensures .0, loop .inv .0, loop .inv .1, first-byte .ensures .1, list-end .ensures .1), λ z. omega (arith, pre, same-kids (none .ensures), kind-at .ensures .1, opened .ensures .0, loop .inv .0, loop .inv .1, first-byte .ensures .1, list-end .ensures .1, z)))

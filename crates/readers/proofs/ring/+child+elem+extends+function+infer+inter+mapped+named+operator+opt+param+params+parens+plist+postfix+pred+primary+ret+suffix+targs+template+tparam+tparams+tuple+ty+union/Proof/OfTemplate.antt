@@ -33,7 +33,7 @@ R t = (spell-reads.Asked, spell-reads.Learnt, state-Kids-none-reads.Asked, state
 
 abbrev pub Inv-loop : lts.InvT-loop
 Inv-loop text words classes nodes₀ names₀ notes₀ given m p₀ k₀ nodes names notes p k =
-    Kept (length words) given nodes₀ names₀ notes₀ p₀ nodes names notes p × (Under (p .used) k)
+    Kept (length words) given nodes₀ names₀ p₀ nodes names p × (Under (p .used) k)
     × (kindAt words (m .at) (m .half) ≡ TemplateHead → (B : Was)
     → Laid B (nameRun (spelling (givenOf text words given) (view m notes₀))) (p₀ .used) (p₀ .named) (p₀ .noted) nodes₀ names₀ notes₀
     → PiecesTurn (givenOf text words given) (below given (givenOf text words given)) (view m notes₀) (view p₀ notes₀) B k p nodes names notes)
@@ -45,7 +45,7 @@ abbrev pub μ-loop : lts.MeasureT-loop
 module _ (t : ℕ) where
   pub spell-requires : lts.Need-spell-requires (R t) (template-at t) template.Post Inv-loop μ-loop
   spell-requires c κs =
-      let pre = c .before .before .before .before .before .before .pre in
+      let pre = c .before .before .before .before .before .pre in
       (pre .1 .0 .sound, omega (arith, pre), omega (arith, pre))
 
   pub none-requires : lts.Need-none-requires (R t) (template-at t) template.Post Inv-loop μ-loop
@@ -54,14 +54,14 @@ module _ (t : ℕ) where
 
   pub loop-holds : lts.Need-loop-holds (R t) (template-at t) template.Post Inv-loop μ-loop
   loop-holds c =
-      let pre = c .before .before .before .before .before .before .before .before .before .before .pre in
+      let pre = c .before .before .before .before .before .before .before .before .before .pre in
       let spell = c .before .before .before .spell in
       let none = c .none in
       (omega (arith, pre, spell .kept, same-kids (none .ensures), same-mark (spell .ensures .0)), omega (arith, pre, same-kids (none .ensures), same-mark (spell .ensures .0)), λ h B d. pieces-start (spell .result) (none .ensures) d)
 
   pub child-requires : lts.Need-child-requires (R t) (template-at t) template.Post Inv-loop μ-loop
   child-requires c κs =
-      let pre = c .before .before .before .before .before .before .before .before .before .before .before .before .before .before .pre in
+      let pre = c .before .before .before .before .before .before .before .before .before .before .before .before .before .pre in
       let spell = c .before .before .before .before .before .before .before .spell in
       let none = c .before .before .before .before .none in
       let loop = c .before .before .before .loop in
@@ -69,42 +69,34 @@ module _ (t : ℕ) where
 
   pub refused-requires : lts.Need-refused-requires (R t) (template-at t) template.Post Inv-loop μ-loop
   refused-requires c κs =
-      let pre = c .before .before .before .before .before .before .before .before .before .before .before .before .before .before .before .before .before .before .before .before .before .before .before .pre in
-      let spell = c .before .before .before .before .before .before .before .before .before .before .before .before .before .before .before .before .spell in
-      let none = c .before .before .before .before .before .before .before .before .before .before .before .before .before .none in
-      let loop = c .before .before .before .before .before .before .before .before .before .before .before .before .loop in
-      let child = c .before .before .before .before .before .before .before .before .child in
+      let pre = c .before .before .before .before .before .before .before .before .before .before .before .before .before .before .before .before .before .before .before .before .pre in
+      let spell = c .before .before .before .before .before .before .before .before .before .before .before .before .before .before .spell in
+      let none = c .before .before .before .before .before .before .before .before .before .before .before .none in
+      let loop = c .before .before .before .before .before .before .before .before .before .before .loop in
+      let child = c .before .before .before .before .before .before .child in
       omega (arith, pre, spell .kept, same-kids (none .ensures), child .ensures .1 .0, child .kept, same-mark (spell .ensures .0), loop .inv .0, loop .inv .1)
 
   pub same-length : lts.Need-same-length (R t) (template-at t) template.Post Inv-loop μ-loop
   same-length c =
-      let spell = c .before .before .before .before .before .before .before .before .before .before .before .before .before .before .before .before .before .spell in
-      let loop = c .before .before .before .before .before .before .before .before .before .before .before .before .before .loop in
-      let child = c .before .before .before .before .before .before .before .before .before .child in
-      omega (arith, spell .kept, child .kept, loop .inv .0)
+      let loop = c .before .before .before .before .before .before .before .before .before .before .before .loop in
+      let child = c .before .before .before .before .before .before .before .child in
+      child .kept .1 .1 .1 .0 ∙ loop .inv .0 .nodes
 
   pub same-length-2 : lts.Need-same-length-2 (R t) (template-at t) template.Post Inv-loop μ-loop
   same-length-2 c =
-      let spell = c .before .before .before .before .before .before .before .before .before .before .before .before .before .before .before .before .before .spell in
-      let loop = c .before .before .before .before .before .before .before .before .before .before .before .before .before .loop in
-      let child = c .before .before .before .before .before .before .before .before .before .child in
-      omega (arith, spell .kept, child .kept, loop .inv .0)
-
-  pub same-length-3 : lts.Need-same-length-3 (R t) (template-at t) template.Post Inv-loop μ-loop
-  same-length-3 c =
-      let spell = c .before .before .before .before .before .before .before .before .before .before .before .before .before .before .before .before .before .spell in
-      let loop = c .before .before .before .before .before .before .before .before .before .before .before .before .before .loop in
-      let child = c .before .before .before .before .before .before .before .before .before .child in
-      omega (arith, spell .kept, child .kept, loop .inv .0)
+      let spell = c .before .before .before .before .before .before .before .before .before .before .before .before .before .before .before .spell in
+      let loop = c .before .before .before .before .before .before .before .before .before .before .before .loop in
+      let child = c .before .before .before .before .before .before .before .child in
+      child .kept .1 .1 .1 .1 .0 ∙ loop .inv .0 .names ∙ spell .kept .1 .0
 
   pub returns : lts.Need-returns (R t) (template-at t) template.Post Inv-loop μ-loop
   returns c =
-      let pre = c .before .before .before .before .before .before .before .before .before .before .before .before .before .before .before .before .before .before .before .before .before .before .before .before .pre in
-      let args = c .before .before .before .before .before .before .before .before .before .before .before .before .before .before .before .before .before .before .before .before .before .before .before .before .args in
-      let spell = c .before .before .before .before .before .before .before .before .before .before .before .before .before .before .before .before .before .spell in
-      let none = c .before .before .before .before .before .before .before .before .before .before .before .before .before .before .none in
-      let loop = c .before .before .before .before .before .before .before .before .before .before .before .before .before .loop in
-      let child = c .before .before .before .before .before .before .before .before .before .child in
+      let pre = c .before .before .before .before .before .before .before .before .before .before .before .before .before .before .before .before .before .before .before .before .before .pre in
+      let args = c .before .before .before .before .before .before .before .before .before .before .before .before .before .before .before .before .before .before .before .before .before .args in
+      let spell = c .before .before .before .before .before .before .before .before .before .before .before .before .before .before .before .spell in
+      let none = c .before .before .before .before .before .before .before .before .before .before .before .before .none in
+      let loop = c .before .before .before .before .before .before .before .before .before .before .before .loop in
+      let child = c .before .before .before .before .before .before .before .child in
       let if1 = c .before .if1 in
       let refused = c .refused in
       (λ h. let begins = template-starts (args .text .now) (args .words .now) (args .given) (below (args .given) (givenOf (args .text .now) (args .words .now) (args .given))) (args .m) (spell .result) (args .notes .now) (spell .ensures .0) h in let w = loop .inv .2 h (was (args .m) (args .nodes .now) (args .names .now) (args .notes .now)) (laid-head (args .m) (spell .ensures .0) (spell .ensures .1 (args .text .now) (pre .1 .0 .spelt))) in says-as (refused .ensures) (says-stop (if1 .taken) (begins ∙ pieces-refused (args .text .now) (args .words .now) (args .given) (below (args .given) (givenOf (args .text .now) (args .words .now) (args .given))) (view (args .m) (args .notes .now)) (loop .p) w (child .ensures .0 _ _ (w .built) .refused (if1 .taken)))), (omega (arith, same-answer (refused .ensures), pre, same-kids (none .ensures), child .ensures .1 .0, same-mark (spell .ensures .0), loop .inv .0, loop .inv .1), λ z. omega (arith, same-answer (refused .ensures), pre, same-kids (none .ensures), child .ensures .1 .0, same-mark (spell .ensures .0), loop .inv .0, loop .inv .1, z)))
@@ -115,22 +107,22 @@ module _ (t : ℕ) where
 
   pub spell-requires-2 : lts.Need-spell-requires-2 (R t) (template-at t) template.Post Inv-loop μ-loop
   spell-requires-2 c κs =
-      let pre = c .before .before .before .before .before .before .before .before .before .before .before .before .before .before .before .before .before .before .before .before .before .before .before .before .before .before .before .before .pre in
-      let spell = c .before .before .before .before .before .before .before .before .before .before .before .before .before .before .before .before .before .before .before .before .before .spell in
-      let none = c .before .before .before .before .before .before .before .before .before .before .before .before .before .before .before .before .before .before .none in
-      let loop = c .before .before .before .before .before .before .before .before .before .before .before .before .before .before .before .before .before .loop in
-      let child = c .before .before .before .before .before .before .before .before .before .before .before .before .before .child in
+      let pre = c .before .before .before .before .before .before .before .before .before .before .before .before .before .before .before .before .before .before .before .before .before .before .before .before .before .pre in
+      let spell = c .before .before .before .before .before .before .before .before .before .before .before .before .before .before .before .before .before .before .before .spell in
+      let none = c .before .before .before .before .before .before .before .before .before .before .before .before .before .before .before .before .none in
+      let loop = c .before .before .before .before .before .before .before .before .before .before .before .before .before .before .before .loop in
+      let child = c .before .before .before .before .before .before .before .before .before .before .before .child in
       let if1 = c .before .before .before .before .before .if1 in
       let kind-at = c .before .before .kind-at in
       (pre .1 .0 .sound, omega (arith, pre, spell .kept, same-kids (none .ensures), child .ensures .1 .0, child .ensures .1 .1 (if1 .left), child .kept, kind-at .ensures .1, same-mark (spell .ensures .0), loop .inv .0, loop .inv .1), omega (arith, pre, spell .kept, same-kids (none .ensures), child .ensures .1 .0, child .ensures .1 .1 (if1 .left), child .kept, kind-at .ensures .1, same-mark (spell .ensures .0), loop .inv .0, loop .inv .1))
 
   pub at-requires : lts.Need-at-requires (R t) (template-at t) template.Post Inv-loop μ-loop
   at-requires c κs =
-      let pre = c .before .before .before .before .before .before .before .before .before .before .before .before .before .before .before .before .before .before .before .before .before .before .before .before .before .before .before .before .before .before .before .pre in
-      let spell = c .before .before .before .before .before .before .before .before .before .before .before .before .before .before .before .before .before .before .before .before .before .before .before .before .spell in
-      let none = c .before .before .before .before .before .before .before .before .before .before .before .before .before .before .before .before .before .before .before .before .before .none in
-      let loop = c .before .before .before .before .before .before .before .before .before .before .before .before .before .before .before .before .before .before .before .before .loop in
-      let child = c .before .before .before .before .before .before .before .before .before .before .before .before .before .before .before .before .child in
+      let pre = c .before .before .before .before .before .before .before .before .before .before .before .before .before .before .before .before .before .before .before .before .before .before .before .before .before .before .before .before .pre in
+      let spell = c .before .before .before .before .before .before .before .before .before .before .before .before .before .before .before .before .before .before .before .before .before .before .spell in
+      let none = c .before .before .before .before .before .before .before .before .before .before .before .before .before .before .before .before .before .before .before .none in
+      let loop = c .before .before .before .before .before .before .before .before .before .before .before .before .before .before .before .before .before .before .loop in
+      let child = c .before .before .before .before .before .before .before .before .before .before .before .before .before .before .child in
       let if1 = c .before .before .before .before .before .before .before .before .if1 in
       let kind-at = c .before .before .before .before .before .kind-at in
       let spell2 = c .before .before .spell2 in
@@ -138,11 +130,11 @@ module _ (t : ℕ) where
 
   pub put-list-requires : lts.Need-put-list-requires (R t) (template-at t) template.Post Inv-loop μ-loop
   put-list-requires c κs =
-      let pre = c .before .before .before .before .before .before .before .before .before .before .before .before .before .before .before .before .before .before .before .before .before .before .before .before .before .before .before .before .before .before .before .before .before .pre in
-      let spell = c .before .before .before .before .before .before .before .before .before .before .before .before .before .before .before .before .before .before .before .before .before .before .before .before .before .before .spell in
-      let none = c .before .before .before .before .before .before .before .before .before .before .before .before .before .before .before .before .before .before .before .before .before .before .before .none in
-      let loop = c .before .before .before .before .before .before .before .before .before .before .before .before .before .before .before .before .before .before .before .before .before .before .loop in
-      let child = c .before .before .before .before .before .before .before .before .before .before .before .before .before .before .before .before .before .before .child in
+      let pre = c .before .before .before .before .before .before .before .before .before .before .before .before .before .before .before .before .before .before .before .before .before .before .before .before .before .before .before .before .before .before .pre in
+      let spell = c .before .before .before .before .before .before .before .before .before .before .before .before .before .before .before .before .before .before .before .before .before .before .before .before .spell in
+      let none = c .before .before .before .before .before .before .before .before .before .before .before .before .before .before .before .before .before .before .before .before .before .none in
+      let loop = c .before .before .before .before .before .before .before .before .before .before .before .before .before .before .before .before .before .before .before .before .loop in
+      let child = c .before .before .before .before .before .before .before .before .before .before .before .before .before .before .before .before .child in
       let if1 = c .before .before .before .before .before .before .before .before .before .before .if1 in
       let kind-at = c .before .before .before .before .before .before .before .kind-at in
       let if2 = c .before .before .before .before .before .before .if2 in
@@ -150,41 +142,29 @@ module _ (t : ℕ) where
       let at = c .before .at in
       (pre .1 .0 .sound, omega (arith, pre, spell .kept, same-kids (none .ensures), child .ensures .1 .0, child .ensures .1 .1 (if1 .left), child .kept, kind-at .ensures .1, spell2 .kept, at .ensures .0, at .ensures .1, same-mark (spell .ensures .0), loop .inv .0, loop .inv .1, same-mark (spell2 .ensures .0)), omega (arith, if2, pre, same-kids (none .ensures), child .ensures .1 .0, child .ensures .1 .1 (if1 .left), kind-at .ensures .1, at .ensures .0, at .ensures .1, same-mark (spell .ensures .0), loop .inv .0, loop .inv .1, same-mark (spell2 .ensures .0)), omega (arith, pre, same-kids (none .ensures), child .ensures .1 .0, child .ensures .1 .1 (if1 .left), kind-at .ensures .1, at .ensures .0, at .ensures .1, same-mark (spell .ensures .0), loop .inv .0, loop .inv .1, same-mark (spell2 .ensures .0)), omega (arith, pre, same-kids (none .ensures), child .ensures .1 .0, child .ensures .1 .1 (if1 .left), kind-at .ensures .1, at .ensures .0, at .ensures .1, same-mark (spell .ensures .0), loop .inv .0, loop .inv .1, same-mark (spell2 .ensures .0)), omega (arith, pre, same-kids (none .ensures), child .ensures .1 .0, child .ensures .1 .1 (if1 .left), kind-at .ensures .1, at .ensures .0, at .ensures .1, same-mark (spell .ensures .0), loop .inv .0, loop .inv .1, same-mark (spell2 .ensures .0)), omega (arith, pre, same-kids (none .ensures), child .ensures .1 .0, child .ensures .1 .1 (if1 .left), kind-at .ensures .1, at .ensures .0, at .ensures .1, same-mark (spell .ensures .0), loop .inv .0, loop .inv .1, same-mark (spell2 .ensures .0)))
 
+  pub same-length-3 : lts.Need-same-length-3 (R t) (template-at t) template.Post Inv-loop μ-loop
+  same-length-3 c =
+      let loop = c .before .before .before .before .before .before .before .before .before .before .before .before .before .before .before .before .before .before .before .before .before .before .before .loop in
+      let child = c .before .before .before .before .before .before .before .before .before .before .before .before .before .before .before .before .before .before .before .child in
+      let put-list = c .before .before .put-list in
+      put-list .kept .1 .0 ∙ child .kept .1 .1 .1 .0 ∙ loop .inv .0 .nodes
+
   pub same-length-4 : lts.Need-same-length-4 (R t) (template-at t) template.Post Inv-loop μ-loop
   same-length-4 c =
-      let spell = c .before .before .before .before .before .before .before .before .before .before .before .before .before .before .before .before .before .before .before .before .before .before .before .before .before .before .before .before .before .spell in
-      let loop = c .before .before .before .before .before .before .before .before .before .before .before .before .before .before .before .before .before .before .before .before .before .before .before .before .before .loop in
-      let child = c .before .before .before .before .before .before .before .before .before .before .before .before .before .before .before .before .before .before .before .before .before .child in
+      let spell = c .before .before .before .before .before .before .before .before .before .before .before .before .before .before .before .before .before .before .before .before .before .before .before .before .before .before .before .spell in
+      let loop = c .before .before .before .before .before .before .before .before .before .before .before .before .before .before .before .before .before .before .before .before .before .before .before .loop in
+      let child = c .before .before .before .before .before .before .before .before .before .before .before .before .before .before .before .before .before .before .before .child in
       let spell2 = c .before .before .before .before .before .before .before .spell2 in
-      let put-list = c .before .before .put-list in
-      omega (arith, spell .kept, child .kept, spell2 .kept, put-list .kept, loop .inv .0)
-
-  pub same-length-5 : lts.Need-same-length-5 (R t) (template-at t) template.Post Inv-loop μ-loop
-  same-length-5 c =
-      let spell = c .before .before .before .before .before .before .before .before .before .before .before .before .before .before .before .before .before .before .before .before .before .before .before .before .before .before .before .before .before .spell in
-      let loop = c .before .before .before .before .before .before .before .before .before .before .before .before .before .before .before .before .before .before .before .before .before .before .before .before .before .loop in
-      let child = c .before .before .before .before .before .before .before .before .before .before .before .before .before .before .before .before .before .before .before .before .before .child in
-      let spell2 = c .before .before .before .before .before .before .before .spell2 in
-      let put-list = c .before .before .put-list in
-      omega (arith, spell .kept, child .kept, spell2 .kept, put-list .kept, loop .inv .0)
-
-  pub same-length-6 : lts.Need-same-length-6 (R t) (template-at t) template.Post Inv-loop μ-loop
-  same-length-6 c =
-      let spell = c .before .before .before .before .before .before .before .before .before .before .before .before .before .before .before .before .before .before .before .before .before .before .before .before .before .before .before .before .before .spell in
-      let loop = c .before .before .before .before .before .before .before .before .before .before .before .before .before .before .before .before .before .before .before .before .before .before .before .before .before .loop in
-      let child = c .before .before .before .before .before .before .before .before .before .before .before .before .before .before .before .before .before .before .before .before .before .child in
-      let spell2 = c .before .before .before .before .before .before .before .spell2 in
-      let put-list = c .before .before .put-list in
-      omega (arith, spell .kept, child .kept, spell2 .kept, put-list .kept, loop .inv .0)
+      spell2 .kept .1 .0 ∙ child .kept .1 .1 .1 .1 .0 ∙ loop .inv .0 .names ∙ spell .kept .1 .0
 
   pub returns-2 : lts.Need-returns-2 (R t) (template-at t) template.Post Inv-loop μ-loop
   returns-2 c =
-      let pre = c .before .before .before .before .before .before .before .before .before .before .before .before .before .before .before .before .before .before .before .before .before .before .before .before .before .before .before .before .before .before .before .before .before .before .before .before .pre in
-      let args = c .before .before .before .before .before .before .before .before .before .before .before .before .before .before .before .before .before .before .before .before .before .before .before .before .before .before .before .before .before .before .before .before .before .before .before .before .args in
-      let spell = c .before .before .before .before .before .before .before .before .before .before .before .before .before .before .before .before .before .before .before .before .before .before .before .before .before .before .before .before .before .spell in
-      let none = c .before .before .before .before .before .before .before .before .before .before .before .before .before .before .before .before .before .before .before .before .before .before .before .before .before .before .none in
-      let loop = c .before .before .before .before .before .before .before .before .before .before .before .before .before .before .before .before .before .before .before .before .before .before .before .before .before .loop in
-      let child = c .before .before .before .before .before .before .before .before .before .before .before .before .before .before .before .before .before .before .before .before .before .child in
+      let pre = c .before .before .before .before .before .before .before .before .before .before .before .before .before .before .before .before .before .before .before .before .before .before .before .before .before .before .before .before .before .before .before .before .before .pre in
+      let args = c .before .before .before .before .before .before .before .before .before .before .before .before .before .before .before .before .before .before .before .before .before .before .before .before .before .before .before .before .before .before .before .before .before .args in
+      let spell = c .before .before .before .before .before .before .before .before .before .before .before .before .before .before .before .before .before .before .before .before .before .before .before .before .before .before .before .spell in
+      let none = c .before .before .before .before .before .before .before .before .before .before .before .before .before .before .before .before .before .before .before .before .before .before .before .before .none in
+      let loop = c .before .before .before .before .before .before .before .before .before .before .before .before .before .before .before .before .before .before .before .before .before .before .before .loop in
+      let child = c .before .before .before .before .before .before .before .before .before .before .before .before .before .before .before .before .before .before .before .child in
       let if1 = c .before .before .before .before .before .before .before .before .before .before .before .before .before .if1 in
       let kind-at = c .before .before .before .before .before .before .before .before .before .before .kind-at in
       let if2 = c .before .before .before .before .before .before .before .before .before .if2 in
@@ -195,44 +175,36 @@ module _ (t : ℕ) where
 
   pub refused-requires-2 : lts.Need-refused-requires-2 (R t) (template-at t) template.Post Inv-loop μ-loop
   refused-requires-2 c κs =
-      let pre = c .before .before .before .before .before .before .before .before .before .before .before .before .before .before .before .before .before .before .before .before .before .before .before .before .before .before .before .before .pre in
-      let spell = c .before .before .before .before .before .before .before .before .before .before .before .before .before .before .before .before .before .before .before .before .before .spell in
-      let none = c .before .before .before .before .before .before .before .before .before .before .before .before .before .before .before .before .before .before .none in
-      let loop = c .before .before .before .before .before .before .before .before .before .before .before .before .before .before .before .before .before .loop in
-      let child = c .before .before .before .before .before .before .before .before .before .before .before .before .before .child in
+      let pre = c .before .before .before .before .before .before .before .before .before .before .before .before .before .before .before .before .before .before .before .before .before .before .before .before .before .pre in
+      let spell = c .before .before .before .before .before .before .before .before .before .before .before .before .before .before .before .before .before .before .before .spell in
+      let none = c .before .before .before .before .before .before .before .before .before .before .before .before .before .before .before .before .none in
+      let loop = c .before .before .before .before .before .before .before .before .before .before .before .before .before .before .before .loop in
+      let child = c .before .before .before .before .before .before .before .before .before .before .before .child in
       let if1 = c .before .before .before .before .before .if1 in
       let kind-at = c .before .before .kind-at in
       omega (arith, pre, spell .kept, same-kids (none .ensures), child .ensures .1 .0, child .ensures .1 .1 (if1 .left), child .kept, kind-at .ensures .1, same-mark (spell .ensures .0), loop .inv .0, loop .inv .1)
 
-  pub same-length-7 : lts.Need-same-length-7 (R t) (template-at t) template.Post Inv-loop μ-loop
-  same-length-7 c =
-      let spell = c .before .before .before .before .before .before .before .before .before .before .before .before .before .before .before .before .before .before .before .before .before .before .spell in
-      let loop = c .before .before .before .before .before .before .before .before .before .before .before .before .before .before .before .before .before .before .loop in
-      let child = c .before .before .before .before .before .before .before .before .before .before .before .before .before .before .child in
-      omega (arith, spell .kept, child .kept, loop .inv .0)
+  pub same-length-5 : lts.Need-same-length-5 (R t) (template-at t) template.Post Inv-loop μ-loop
+  same-length-5 c =
+      let loop = c .before .before .before .before .before .before .before .before .before .before .before .before .before .before .before .before .loop in
+      let child = c .before .before .before .before .before .before .before .before .before .before .before .before .child in
+      child .kept .1 .1 .1 .0 ∙ loop .inv .0 .nodes
 
-  pub same-length-8 : lts.Need-same-length-8 (R t) (template-at t) template.Post Inv-loop μ-loop
-  same-length-8 c =
-      let spell = c .before .before .before .before .before .before .before .before .before .before .before .before .before .before .before .before .before .before .before .before .before .before .spell in
-      let loop = c .before .before .before .before .before .before .before .before .before .before .before .before .before .before .before .before .before .before .loop in
-      let child = c .before .before .before .before .before .before .before .before .before .before .before .before .before .before .child in
-      omega (arith, spell .kept, child .kept, loop .inv .0)
-
-  pub same-length-9 : lts.Need-same-length-9 (R t) (template-at t) template.Post Inv-loop μ-loop
-  same-length-9 c =
-      let spell = c .before .before .before .before .before .before .before .before .before .before .before .before .before .before .before .before .before .before .before .before .before .before .spell in
-      let loop = c .before .before .before .before .before .before .before .before .before .before .before .before .before .before .before .before .before .before .loop in
-      let child = c .before .before .before .before .before .before .before .before .before .before .before .before .before .before .child in
-      omega (arith, spell .kept, child .kept, loop .inv .0)
+  pub same-length-6 : lts.Need-same-length-6 (R t) (template-at t) template.Post Inv-loop μ-loop
+  same-length-6 c =
+      let spell = c .before .before .before .before .before .before .before .before .before .before .before .before .before .before .before .before .before .before .before .before .spell in
+      let loop = c .before .before .before .before .before .before .before .before .before .before .before .before .before .before .before .before .loop in
+      let child = c .before .before .before .before .before .before .before .before .before .before .before .before .child in
+      child .kept .1 .1 .1 .1 .0 ∙ loop .inv .0 .names ∙ spell .kept .1 .0
 
   pub returns-3 : lts.Need-returns-3 (R t) (template-at t) template.Post Inv-loop μ-loop
   returns-3 c =
-      let pre = c .before .before .before .before .before .before .before .before .before .before .before .before .before .before .before .before .before .before .before .before .before .before .before .before .before .before .before .before .before .pre in
-      let args = c .before .before .before .before .before .before .before .before .before .before .before .before .before .before .before .before .before .before .before .before .before .before .before .before .before .before .before .before .before .args in
-      let spell = c .before .before .before .before .before .before .before .before .before .before .before .before .before .before .before .before .before .before .before .before .before .before .spell in
-      let none = c .before .before .before .before .before .before .before .before .before .before .before .before .before .before .before .before .before .before .before .none in
-      let loop = c .before .before .before .before .before .before .before .before .before .before .before .before .before .before .before .before .before .before .loop in
-      let child = c .before .before .before .before .before .before .before .before .before .before .before .before .before .before .child in
+      let pre = c .before .before .before .before .before .before .before .before .before .before .before .before .before .before .before .before .before .before .before .before .before .before .before .before .before .before .pre in
+      let args = c .before .before .before .before .before .before .before .before .before .before .before .before .before .before .before .before .before .before .before .before .before .before .before .before .before .before .args in
+      let spell = c .before .before .before .before .before .before .before .before .before .before .before .before .before .before .before .before .before .before .before .before .spell in
+      let none = c .before .before .before .before .before .before .before .before .before .before .before .before .before .before .before .before .before .none in
+      let loop = c .before .before .before .before .before .before .before .before .before .before .before .before .before .before .before .before .loop in
+      let child = c .before .before .before .before .before .before .before .before .before .before .before .before .child in
       let if1 = c .before .before .before .before .before .before .if1 in
       let kind-at = c .before .before .before .kind-at in
       let if2 = c .before .before .if2 in
@@ -242,22 +214,22 @@ module _ (t : ℕ) where
 
   pub spell-requires-3 : lts.Need-spell-requires-3 (R t) (template-at t) template.Post Inv-loop μ-loop
   spell-requires-3 c κs =
-      let pre = c .before .before .before .before .before .before .before .before .before .before .before .before .before .before .before .before .before .before .before .before .before .before .before .before .before .before .before .before .before .pre in
-      let spell = c .before .before .before .before .before .before .before .before .before .before .before .before .before .before .before .before .before .before .before .before .before .before .spell in
-      let none = c .before .before .before .before .before .before .before .before .before .before .before .before .before .before .before .before .before .before .before .none in
-      let loop = c .before .before .before .before .before .before .before .before .before .before .before .before .before .before .before .before .before .before .loop in
-      let child = c .before .before .before .before .before .before .before .before .before .before .before .before .before .before .child in
+      let pre = c .before .before .before .before .before .before .before .before .before .before .before .before .before .before .before .before .before .before .before .before .before .before .before .before .before .before .pre in
+      let spell = c .before .before .before .before .before .before .before .before .before .before .before .before .before .before .before .before .before .before .before .before .spell in
+      let none = c .before .before .before .before .before .before .before .before .before .before .before .before .before .before .before .before .before .none in
+      let loop = c .before .before .before .before .before .before .before .before .before .before .before .before .before .before .before .before .loop in
+      let child = c .before .before .before .before .before .before .before .before .before .before .before .before .child in
       let if1 = c .before .before .before .before .before .before .if1 in
       let kind-at = c .before .before .before .kind-at in
       (pre .1 .0 .sound, omega (arith, pre, spell .kept, same-kids (none .ensures), child .ensures .1 .0, child .ensures .1 .1 (if1 .left), child .kept, kind-at .ensures .1, same-mark (spell .ensures .0), loop .inv .0, loop .inv .1), omega (arith, pre, spell .kept, same-kids (none .ensures), child .ensures .1 .0, child .ensures .1 .1 (if1 .left), child .kept, kind-at .ensures .1, same-mark (spell .ensures .0), loop .inv .0, loop .inv .1))
 
   pub loop-less : lts.Need-loop-less (R t) (template-at t) template.Post Inv-loop μ-loop
   loop-less c =
-      let pre = c .before .before .before .before .before .before .before .before .before .before .before .before .before .before .before .before .before .before .before .before .before .before .before .before .before .before .before .before .before .before .before .before .pre in
-      let spell = c .before .before .before .before .before .before .before .before .before .before .before .before .before .before .before .before .before .before .before .before .before .before .before .before .before .spell in
-      let none = c .before .before .before .before .before .before .before .before .before .before .before .before .before .before .before .before .before .before .before .before .before .before .none in
-      let loop = c .before .before .before .before .before .before .before .before .before .before .before .before .before .before .before .before .before .before .before .before .before .loop in
-      let child = c .before .before .before .before .before .before .before .before .before .before .before .before .before .before .before .before .before .child in
+      let pre = c .before .before .before .before .before .before .before .before .before .before .before .before .before .before .before .before .before .before .before .before .before .before .before .before .before .before .before .before .before .pre in
+      let spell = c .before .before .before .before .before .before .before .before .before .before .before .before .before .before .before .before .before .before .before .before .before .before .before .spell in
+      let none = c .before .before .before .before .before .before .before .before .before .before .before .before .before .before .before .before .before .before .before .before .none in
+      let loop = c .before .before .before .before .before .before .before .before .before .before .before .before .before .before .before .before .before .before .before .loop in
+      let child = c .before .before .before .before .before .before .before .before .before .before .before .before .before .before .before .child in
       let if1 = c .before .before .before .before .before .before .before .before .before .if1 in
       let kind-at = c .before .before .before .before .before .before .kind-at in
       let spell3 = c .before .before .spell3 in
@@ -265,12 +237,12 @@ module _ (t : ℕ) where
 
   pub loop-again : lts.Need-loop-again (R t) (template-at t) template.Post Inv-loop μ-loop
   loop-again c =
-      let pre = c .before .before .before .before .before .before .before .before .before .before .before .before .before .before .before .before .before .before .before .before .before .before .before .before .before .before .before .before .before .before .before .before .pre in
-      let args = c .before .before .before .before .before .before .before .before .before .before .before .before .before .before .before .before .before .before .before .before .before .before .before .before .before .before .before .before .before .before .before .before .args in
-      let spell = c .before .before .before .before .before .before .before .before .before .before .before .before .before .before .before .before .before .before .before .before .before .before .before .before .before .spell in
-      let none = c .before .before .before .before .before .before .before .before .before .before .before .before .before .before .before .before .before .before .before .before .before .before .none in
-      let loop = c .before .before .before .before .before .before .before .before .before .before .before .before .before .before .before .before .before .before .before .before .before .loop in
-      let child = c .before .before .before .before .before .before .before .before .before .before .before .before .before .before .before .before .before .child in
+      let pre = c .before .before .before .before .before .before .before .before .before .before .before .before .before .before .before .before .before .before .before .before .before .before .before .before .before .before .before .before .before .pre in
+      let args = c .before .before .before .before .before .before .before .before .before .before .before .before .before .before .before .before .before .before .before .before .before .before .before .before .before .before .before .before .before .args in
+      let spell = c .before .before .before .before .before .before .before .before .before .before .before .before .before .before .before .before .before .before .before .before .before .before .before .spell in
+      let none = c .before .before .before .before .before .before .before .before .before .before .before .before .before .before .before .before .before .before .before .before .none in
+      let loop = c .before .before .before .before .before .before .before .before .before .before .before .before .before .before .before .before .before .before .before .loop in
+      let child = c .before .before .before .before .before .before .before .before .before .before .before .before .before .before .before .child in
       let if1 = c .before .before .before .before .before .before .before .before .before .if1 in
       let kind-at = c .before .before .before .before .before .before .kind-at in
       let if3 = c .before .before .before .before .if3 in

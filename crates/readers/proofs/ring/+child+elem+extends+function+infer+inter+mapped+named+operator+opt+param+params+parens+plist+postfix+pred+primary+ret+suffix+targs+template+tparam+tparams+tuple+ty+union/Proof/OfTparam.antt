@@ -26,24 +26,24 @@ R t = (type-param-head-reads.Asked, type-param-head-reads.Learnt, state-Answer-r
 module _ (t : ℕ) where
   pub type-param-head-requires : lts.Need-type-param-head-requires (R t) (tparam-at t) tparam.Post
   type-param-head-requires c κs =
-      let pre = c .before .before .before .before .before .before .pre in
+      let pre = c .before .before .before .before .before .pre in
       (pre .1 .classes-are, pre .1 .sound, omega (arith, pre), omega (arith, pre))
 
   pub refused-requires : lts.Need-refused-requires (R t) (tparam-at t) tparam.Post
   refused-requires c κs =
-      let pre = c .before .before .before .before .before .before .before .before .before .before .before .pre in
+      let pre = c .before .before .before .before .before .before .before .before .before .before .pre in
       let type-param-head = c .before .before .before .before .type-param-head in
       omega (arith, pre, type-param-head .ensures .1, type-param-head .kept)
 
   pub same-length : lts.Need-same-length (R t) (tparam-at t) tparam.Post
   same-length c =
       let type-param-head = c .before .before .before .before .before .type-param-head in
-      omega (arith, type-param-head .kept)
+      type-param-head .kept .1 .1 .0
 
   pub returns : lts.Need-returns (R t) (tparam-at t) tparam.Post
   returns c =
-      let pre = c .before .before .before .before .before .before .before .before .before .before .before .before .pre in
-      let args = c .before .before .before .before .before .before .before .before .before .before .before .before .args in
+      let pre = c .before .before .before .before .before .before .before .before .before .before .before .pre in
+      let args = c .before .before .before .before .before .before .before .before .before .before .before .args in
       let type-param-head = c .before .before .before .before .before .type-param-head in
       let if1 = c .before .if1 in
       let refused = c .refused in
@@ -55,99 +55,84 @@ module _ (t : ℕ) where
 
   pub opt-requires : lts.Need-opt-requires (R t) (tparam-at t) tparam.Post
   opt-requires c κs =
-      let pre = c .before .before .before .before .before .before .before .before .before .before .before .before .before .before .before .pre in
+      let pre = c .before .before .before .before .before .before .before .before .before .before .before .before .before .before .pre in
       let type-param-head = c .before .before .before .before .before .before .before .before .type-param-head in
       let none = c .before .before .before .none in
       (omega (arith, pre, type-param-head .ensures .1, same-kids (none .ensures)), (ready (pre .1) (omega (arith, pre, type-param-head .ensures .1, type-param-head .kept, same-kids (none .ensures))) (omega (arith, pre, type-param-head .ensures .1, same-kids (none .ensures))), omega (arith, pre, type-param-head .ensures .1, same-kids (none .ensures)), omega (arith, pre, type-param-head .ensures .1, same-kids (none .ensures))))
 
   pub refused-requires-2 : lts.Need-refused-requires-2 (R t) (tparam-at t) tparam.Post
   refused-requires-2 c κs =
-      let pre = c .before .before .before .before .before .before .before .before .before .before .before .before .before .before .before .before .before .before .before .before .before .before .before .before .pre in
-      let type-param-head = c .before .before .before .before .before .before .before .before .before .before .before .before .before .before .before .before .before .type-param-head in
-      let none = c .before .before .before .before .before .before .before .before .before .before .before .before .none in
-      let opt = c .before .before .before .before .before .before .before .before .opt in
+      let pre = c .before .before .before .before .before .before .before .before .before .before .before .before .before .before .before .before .before .before .before .before .before .pre in
+      let type-param-head = c .before .before .before .before .before .before .before .before .before .before .before .before .before .before .before .type-param-head in
+      let none = c .before .before .before .before .before .before .before .before .before .before .none in
+      let opt = c .before .before .before .before .before .before .opt in
       omega (arith, pre, type-param-head .ensures .1, type-param-head .kept, same-kids (none .ensures), opt .ensures .1 .0, opt .kept)
 
   pub same-length-2 : lts.Need-same-length-2 (R t) (tparam-at t) tparam.Post
   same-length-2 c =
-      let type-param-head = c .before .before .before .before .before .before .before .before .before .before .before .before .before .before .before .before .before .before .type-param-head in
-      let opt = c .before .before .before .before .before .before .before .before .before .opt in
-      omega (arith, type-param-head .kept, opt .kept)
+      let opt = c .before .before .before .before .before .before .before .opt in
+      opt .kept .1 .1 .1 .0
 
   pub same-length-3 : lts.Need-same-length-3 (R t) (tparam-at t) tparam.Post
   same-length-3 c =
-      let type-param-head = c .before .before .before .before .before .before .before .before .before .before .before .before .before .before .before .before .before .before .type-param-head in
-      let opt = c .before .before .before .before .before .before .before .before .before .opt in
-      omega (arith, type-param-head .kept, opt .kept)
-
-  pub same-length-4 : lts.Need-same-length-4 (R t) (tparam-at t) tparam.Post
-  same-length-4 c =
-      let type-param-head = c .before .before .before .before .before .before .before .before .before .before .before .before .before .before .before .before .before .before .type-param-head in
-      let opt = c .before .before .before .before .before .before .before .before .before .opt in
-      omega (arith, type-param-head .kept, opt .kept)
+      let type-param-head = c .before .before .before .before .before .before .before .before .before .before .before .before .before .before .before .before .type-param-head in
+      let opt = c .before .before .before .before .before .before .before .opt in
+      opt .kept .1 .1 .1 .1 .0 ∙ type-param-head .kept .1 .1 .0
 
   pub returns-2 : lts.Need-returns-2 (R t) (tparam-at t) tparam.Post
   returns-2 c =
-      let pre = c .before .before .before .before .before .before .before .before .before .before .before .before .before .before .before .before .before .before .before .before .before .before .before .before .before .pre in
-      let args = c .before .before .before .before .before .before .before .before .before .before .before .before .before .before .before .before .before .before .before .before .before .before .before .before .before .args in
-      let type-param-head = c .before .before .before .before .before .before .before .before .before .before .before .before .before .before .before .before .before .before .type-param-head in
-      let if1 = c .before .before .before .before .before .before .before .before .before .before .before .before .before .before .if1 in
-      let none = c .before .before .before .before .before .before .before .before .before .before .before .before .before .none in
-      let opt = c .before .before .before .before .before .before .before .before .before .opt in
+      let pre = c .before .before .before .before .before .before .before .before .before .before .before .before .before .before .before .before .before .before .before .before .before .before .pre in
+      let args = c .before .before .before .before .before .before .before .before .before .before .before .before .before .before .before .before .before .before .before .before .before .before .args in
+      let type-param-head = c .before .before .before .before .before .before .before .before .before .before .before .before .before .before .before .before .type-param-head in
+      let if1 = c .before .before .before .before .before .before .before .before .before .before .before .before .if1 in
+      let none = c .before .before .before .before .before .before .before .before .before .before .before .none in
+      let opt = c .before .before .before .before .before .before .before .opt in
       let if2 = c .before .if2 in
       let refused2 = c .refused2 in
       (let head = type-param-head .ensures .0 (args .text .now) (args .notes .now) (args .given) (pre .1 .spelt) .done (if1 .left) in says-as (refused2 .ensures) (says-stop (if2 .taken) (type-parameter _ _ _ _ ∙ then-read _ (head .is) ∙ then-refused _ (opt .ensures .0 _ _ (built-spoken (none .ensures) (head .spoken)) .refused (if2 .taken)))), (omega (arith, same-answer (refused2 .ensures), pre, type-param-head .ensures .1, same-kids (none .ensures), opt .ensures .1 .0), λ z. omega (arith, same-answer (refused2 .ensures), pre, type-param-head .ensures .1, same-kids (none .ensures), opt .ensures .1 .0, z)))
 
   pub opt-requires-2 : lts.Need-opt-requires-2 (R t) (tparam-at t) tparam.Post
   opt-requires-2 c κs =
-      let pre = c .before .before .before .before .before .before .before .before .before .before .before .before .before .before .before .before .before .before .before .before .before .before .before .before .before .before .before .pre in
-      let type-param-head = c .before .before .before .before .before .before .before .before .before .before .before .before .before .before .before .before .before .before .before .before .type-param-head in
-      let none = c .before .before .before .before .before .before .before .before .before .before .before .before .before .before .before .none in
-      let opt = c .before .before .before .before .before .before .before .before .before .before .before .opt in
+      let pre = c .before .before .before .before .before .before .before .before .before .before .before .before .before .before .before .before .before .before .before .before .before .before .before .before .pre in
+      let type-param-head = c .before .before .before .before .before .before .before .before .before .before .before .before .before .before .before .before .before .before .type-param-head in
+      let none = c .before .before .before .before .before .before .before .before .before .before .before .before .before .none in
+      let opt = c .before .before .before .before .before .before .before .before .before .opt in
       let if2 = c .before .before .before .if2 in
       (omega (arith, pre, type-param-head .ensures .1, same-kids (none .ensures), opt .ensures .1 .0, opt .ensures .1 .1 (if2 .left)), (ready (pre .1) (omega (arith, pre, type-param-head .ensures .1, type-param-head .kept, same-kids (none .ensures), opt .ensures .1 .0, opt .ensures .1 .1 (if2 .left), opt .kept)) (omega (arith, pre, type-param-head .ensures .1, same-kids (none .ensures), opt .ensures .1 .0, opt .ensures .1 .1 (if2 .left))), omega (arith, pre, type-param-head .ensures .1, same-kids (none .ensures), opt .ensures .1 .0, opt .ensures .1 .1 (if2 .left)), omega (arith, pre, type-param-head .ensures .1, same-kids (none .ensures), opt .ensures .1 .0, opt .ensures .1 .1 (if2 .left))))
 
   pub refused-requires-3 : lts.Need-refused-requires-3 (R t) (tparam-at t) tparam.Post
   refused-requires-3 c κs =
-      let pre = c .before .before .before .before .before .before .before .before .before .before .before .before .before .before .before .before .before .before .before .before .before .before .before .before .before .before .before .before .before .before .before .before .before .before .before .before .pre in
-      let type-param-head = c .before .before .before .before .before .before .before .before .before .before .before .before .before .before .before .before .before .before .before .before .before .before .before .before .before .before .before .before .before .type-param-head in
-      let none = c .before .before .before .before .before .before .before .before .before .before .before .before .before .before .before .before .before .before .before .before .before .before .before .before .none in
-      let opt = c .before .before .before .before .before .before .before .before .before .before .before .before .before .before .before .before .before .before .before .before .opt in
-      let if2 = c .before .before .before .before .before .before .before .before .before .before .before .before .if2 in
-      let opt2 = c .before .before .before .before .before .before .before .before .opt2 in
+      let pre = c .before .before .before .before .before .before .before .before .before .before .before .before .before .before .before .before .before .before .before .before .before .before .before .before .before .before .before .before .before .before .before .pre in
+      let type-param-head = c .before .before .before .before .before .before .before .before .before .before .before .before .before .before .before .before .before .before .before .before .before .before .before .before .before .type-param-head in
+      let none = c .before .before .before .before .before .before .before .before .before .before .before .before .before .before .before .before .before .before .before .before .none in
+      let opt = c .before .before .before .before .before .before .before .before .before .before .before .before .before .before .before .before .opt in
+      let if2 = c .before .before .before .before .before .before .before .before .before .before .if2 in
+      let opt2 = c .before .before .before .before .before .before .opt2 in
       omega (arith, pre, type-param-head .ensures .1, type-param-head .kept, same-kids (none .ensures), opt .ensures .1 .0, opt .ensures .1 .1 (if2 .left), opt .kept, opt2 .ensures .1 .0, opt2 .kept)
+
+  pub same-length-4 : lts.Need-same-length-4 (R t) (tparam-at t) tparam.Post
+  same-length-4 c =
+      let opt = c .before .before .before .before .before .before .before .before .before .before .before .before .before .before .before .before .before .opt in
+      let opt2 = c .before .before .before .before .before .before .before .opt2 in
+      opt2 .kept .1 .1 .1 .0 ∙ opt .kept .1 .1 .1 .0
 
   pub same-length-5 : lts.Need-same-length-5 (R t) (tparam-at t) tparam.Post
   same-length-5 c =
-      let type-param-head = c .before .before .before .before .before .before .before .before .before .before .before .before .before .before .before .before .before .before .before .before .before .before .before .before .before .before .before .before .before .before .type-param-head in
-      let opt = c .before .before .before .before .before .before .before .before .before .before .before .before .before .before .before .before .before .before .before .before .before .opt in
-      let opt2 = c .before .before .before .before .before .before .before .before .before .opt2 in
-      omega (arith, type-param-head .kept, opt .kept, opt2 .kept)
-
-  pub same-length-6 : lts.Need-same-length-6 (R t) (tparam-at t) tparam.Post
-  same-length-6 c =
-      let type-param-head = c .before .before .before .before .before .before .before .before .before .before .before .before .before .before .before .before .before .before .before .before .before .before .before .before .before .before .before .before .before .before .type-param-head in
-      let opt = c .before .before .before .before .before .before .before .before .before .before .before .before .before .before .before .before .before .before .before .before .before .opt in
-      let opt2 = c .before .before .before .before .before .before .before .before .before .opt2 in
-      omega (arith, type-param-head .kept, opt .kept, opt2 .kept)
-
-  pub same-length-7 : lts.Need-same-length-7 (R t) (tparam-at t) tparam.Post
-  same-length-7 c =
-      let type-param-head = c .before .before .before .before .before .before .before .before .before .before .before .before .before .before .before .before .before .before .before .before .before .before .before .before .before .before .before .before .before .before .type-param-head in
-      let opt = c .before .before .before .before .before .before .before .before .before .before .before .before .before .before .before .before .before .before .before .before .before .opt in
-      let opt2 = c .before .before .before .before .before .before .before .before .before .opt2 in
-      omega (arith, type-param-head .kept, opt .kept, opt2 .kept)
+      let type-param-head = c .before .before .before .before .before .before .before .before .before .before .before .before .before .before .before .before .before .before .before .before .before .before .before .before .before .before .type-param-head in
+      let opt = c .before .before .before .before .before .before .before .before .before .before .before .before .before .before .before .before .before .opt in
+      let opt2 = c .before .before .before .before .before .before .before .opt2 in
+      opt2 .kept .1 .1 .1 .1 .0 ∙ opt .kept .1 .1 .1 .1 .0 ∙ type-param-head .kept .1 .1 .0
 
   pub returns-3 : lts.Need-returns-3 (R t) (tparam-at t) tparam.Post
   returns-3 c =
-      let pre = c .before .before .before .before .before .before .before .before .before .before .before .before .before .before .before .before .before .before .before .before .before .before .before .before .before .before .before .before .before .before .before .before .before .before .before .before .before .pre in
-      let args = c .before .before .before .before .before .before .before .before .before .before .before .before .before .before .before .before .before .before .before .before .before .before .before .before .before .before .before .before .before .before .before .before .before .before .before .before .before .args in
-      let type-param-head = c .before .before .before .before .before .before .before .before .before .before .before .before .before .before .before .before .before .before .before .before .before .before .before .before .before .before .before .before .before .before .type-param-head in
-      let if1 = c .before .before .before .before .before .before .before .before .before .before .before .before .before .before .before .before .before .before .before .before .before .before .before .before .before .before .if1 in
-      let none = c .before .before .before .before .before .before .before .before .before .before .before .before .before .before .before .before .before .before .before .before .before .before .before .before .before .none in
-      let opt = c .before .before .before .before .before .before .before .before .before .before .before .before .before .before .before .before .before .before .before .before .before .opt in
-      let if2 = c .before .before .before .before .before .before .before .before .before .before .before .before .before .if2 in
-      let opt2 = c .before .before .before .before .before .before .before .before .before .opt2 in
+      let pre = c .before .before .before .before .before .before .before .before .before .before .before .before .before .before .before .before .before .before .before .before .before .before .before .before .before .before .before .before .before .before .before .before .pre in
+      let args = c .before .before .before .before .before .before .before .before .before .before .before .before .before .before .before .before .before .before .before .before .before .before .before .before .before .before .before .before .before .before .before .before .args in
+      let type-param-head = c .before .before .before .before .before .before .before .before .before .before .before .before .before .before .before .before .before .before .before .before .before .before .before .before .before .before .type-param-head in
+      let if1 = c .before .before .before .before .before .before .before .before .before .before .before .before .before .before .before .before .before .before .before .before .before .before .if1 in
+      let none = c .before .before .before .before .before .before .before .before .before .before .before .before .before .before .before .before .before .before .before .before .before .none in
+      let opt = c .before .before .before .before .before .before .before .before .before .before .before .before .before .before .before .before .before .opt in
+      let if2 = c .before .before .before .before .before .before .before .before .before .before .before .if2 in
+      let opt2 = c .before .before .before .before .before .before .before .opt2 in
       let if3 = c .before .if3 in
       let refused3 = c .refused3 in
       (let head = type-param-head .ensures .0 (args .text .now) (args .notes .now) (args .given) (pre .1 .spelt) .done (if1 .left) in let x = opt .ensures .0 _ _ (built-spoken (none .ensures) (head .spoken)) .done (if2 .left) in says-as (refused3 .ensures) (says-stop (if3 .taken) (type-parameter _ _ _ _ ∙ then-read _ (head .is) ∙ then-read _ (x .is) ∙ then-refused _ (opt2 .ensures .0 _ _ (x .built) .refused (if3 .taken)))), (omega (arith, same-answer (refused3 .ensures), pre, type-param-head .ensures .1, same-kids (none .ensures), opt .ensures .1 .0, opt .ensures .1 .1 (if2 .left), opt2 .ensures .1 .0), λ z. omega (arith, same-answer (refused3 .ensures), pre, type-param-head .ensures .1, same-kids (none .ensures), opt .ensures .1 .0, opt .ensures .1 .1 (if2 .left), opt2 .ensures .1 .0, z)))
@@ -162,12 +147,12 @@ module _ (t : ℕ) where
 
   pub mul-choices : lts.Need-mul-choices (R t) (tparam-at t) tparam.Post
   mul-choices c =
-      let pre = c .before .before .before .before .before .before .before .before .before .before .before .before .before .before .before .before .before .before .before .before .before .before .before .before .before .before .before .before .before .before .before .before .before .before .before .before .before .before .pre in
-      let type-param-head = c .before .before .before .before .before .before .before .before .before .before .before .before .before .before .before .before .before .before .before .before .before .before .before .before .before .before .before .before .before .before .before .type-param-head in
-      let none = c .before .before .before .before .before .before .before .before .before .before .before .before .before .before .before .before .before .before .before .before .before .before .before .before .before .before .none in
-      let opt = c .before .before .before .before .before .before .before .before .before .before .before .before .before .before .before .before .before .before .before .before .before .before .opt in
-      let if2 = c .before .before .before .before .before .before .before .before .before .before .before .before .before .before .if2 in
-      let opt2 = c .before .before .before .before .before .before .before .before .before .before .opt2 in
+      let pre = c .before .before .before .before .before .before .before .before .before .before .before .before .before .before .before .before .before .before .before .before .before .before .before .before .before .before .before .before .before .before .before .before .before .pre in
+      let type-param-head = c .before .before .before .before .before .before .before .before .before .before .before .before .before .before .before .before .before .before .before .before .before .before .before .before .before .before .before .type-param-head in
+      let none = c .before .before .before .before .before .before .before .before .before .before .before .before .before .before .before .before .before .before .before .before .before .before .none in
+      let opt = c .before .before .before .before .before .before .before .before .before .before .before .before .before .before .before .before .before .before .opt in
+      let if2 = c .before .before .before .before .before .before .before .before .before .before .before .before .if2 in
+      let opt2 = c .before .before .before .before .before .before .before .before .opt2 in
       let if3 = c .before .before .if3 in
       let opt-bit = c .before .opt-bit in
       let opt-bit2 = c .opt-bit2 in
@@ -175,12 +160,12 @@ module _ (t : ℕ) where
 
   pub add-choices : lts.Need-add-choices (R t) (tparam-at t) tparam.Post
   add-choices c =
-      let pre = c .before .before .before .before .before .before .before .before .before .before .before .before .before .before .before .before .before .before .before .before .before .before .before .before .before .before .before .before .before .before .before .before .before .before .before .before .before .before .pre in
-      let type-param-head = c .before .before .before .before .before .before .before .before .before .before .before .before .before .before .before .before .before .before .before .before .before .before .before .before .before .before .before .before .before .before .before .type-param-head in
-      let none = c .before .before .before .before .before .before .before .before .before .before .before .before .before .before .before .before .before .before .before .before .before .before .before .before .before .before .none in
-      let opt = c .before .before .before .before .before .before .before .before .before .before .before .before .before .before .before .before .before .before .before .before .before .before .opt in
-      let if2 = c .before .before .before .before .before .before .before .before .before .before .before .before .before .before .if2 in
-      let opt2 = c .before .before .before .before .before .before .before .before .before .before .opt2 in
+      let pre = c .before .before .before .before .before .before .before .before .before .before .before .before .before .before .before .before .before .before .before .before .before .before .before .before .before .before .before .before .before .before .before .before .before .pre in
+      let type-param-head = c .before .before .before .before .before .before .before .before .before .before .before .before .before .before .before .before .before .before .before .before .before .before .before .before .before .before .before .type-param-head in
+      let none = c .before .before .before .before .before .before .before .before .before .before .before .before .before .before .before .before .before .before .before .before .before .before .none in
+      let opt = c .before .before .before .before .before .before .before .before .before .before .before .before .before .before .before .before .before .before .opt in
+      let if2 = c .before .before .before .before .before .before .before .before .before .before .before .before .if2 in
+      let opt2 = c .before .before .before .before .before .before .before .before .opt2 in
       let if3 = c .before .before .if3 in
       let opt-bit = c .before .opt-bit in
       let opt-bit2 = c .opt-bit2 in
@@ -188,12 +173,12 @@ module _ (t : ℕ) where
 
   pub at-requires : lts.Need-at-requires (R t) (tparam-at t) tparam.Post
   at-requires c κs =
-      let pre = c .before .before .before .before .before .before .before .before .before .before .before .before .before .before .before .before .before .before .before .before .before .before .before .before .before .before .before .before .before .before .before .before .before .before .before .before .before .before .before .pre in
-      let type-param-head = c .before .before .before .before .before .before .before .before .before .before .before .before .before .before .before .before .before .before .before .before .before .before .before .before .before .before .before .before .before .before .before .before .type-param-head in
-      let none = c .before .before .before .before .before .before .before .before .before .before .before .before .before .before .before .before .before .before .before .before .before .before .before .before .before .before .before .none in
-      let opt = c .before .before .before .before .before .before .before .before .before .before .before .before .before .before .before .before .before .before .before .before .before .before .before .opt in
-      let if2 = c .before .before .before .before .before .before .before .before .before .before .before .before .before .before .before .if2 in
-      let opt2 = c .before .before .before .before .before .before .before .before .before .before .before .opt2 in
+      let pre = c .before .before .before .before .before .before .before .before .before .before .before .before .before .before .before .before .before .before .before .before .before .before .before .before .before .before .before .before .before .before .before .before .before .before .pre in
+      let type-param-head = c .before .before .before .before .before .before .before .before .before .before .before .before .before .before .before .before .before .before .before .before .before .before .before .before .before .before .before .before .type-param-head in
+      let none = c .before .before .before .before .before .before .before .before .before .before .before .before .before .before .before .before .before .before .before .before .before .before .before .none in
+      let opt = c .before .before .before .before .before .before .before .before .before .before .before .before .before .before .before .before .before .before .before .opt in
+      let if2 = c .before .before .before .before .before .before .before .before .before .before .before .before .before .if2 in
+      let opt2 = c .before .before .before .before .before .before .before .before .before .opt2 in
       let if3 = c .before .before .before .if3 in
       let opt-bit = c .before .before .opt-bit in
       let opt-bit2 = c .before .opt-bit2 in
@@ -201,52 +186,42 @@ module _ (t : ℕ) where
 
   pub put-requires : lts.Need-put-requires (R t) (tparam-at t) tparam.Post
   put-requires c κs =
-      let pre = c .before .before .before .before .before .before .before .before .before .before .before .before .before .before .before .before .before .before .before .before .before .before .before .before .before .before .before .before .before .before .before .before .before .before .before .before .before .before .before .before .pre in
-      let type-param-head = c .before .before .before .before .before .before .before .before .before .before .before .before .before .before .before .before .before .before .before .before .before .before .before .before .before .before .before .before .before .before .before .before .before .type-param-head in
-      let none = c .before .before .before .before .before .before .before .before .before .before .before .before .before .before .before .before .before .before .before .before .before .before .before .before .before .before .before .before .none in
-      let opt = c .before .before .before .before .before .before .before .before .before .before .before .before .before .before .before .before .before .before .before .before .before .before .before .before .opt in
-      let if2 = c .before .before .before .before .before .before .before .before .before .before .before .before .before .before .before .before .if2 in
-      let opt2 = c .before .before .before .before .before .before .before .before .before .before .before .before .opt2 in
+      let pre = c .before .before .before .before .before .before .before .before .before .before .before .before .before .before .before .before .before .before .before .before .before .before .before .before .before .before .before .before .before .before .before .before .before .before .before .pre in
+      let type-param-head = c .before .before .before .before .before .before .before .before .before .before .before .before .before .before .before .before .before .before .before .before .before .before .before .before .before .before .before .before .before .type-param-head in
+      let none = c .before .before .before .before .before .before .before .before .before .before .before .before .before .before .before .before .before .before .before .before .before .before .before .before .none in
+      let opt = c .before .before .before .before .before .before .before .before .before .before .before .before .before .before .before .before .before .before .before .before .opt in
+      let if2 = c .before .before .before .before .before .before .before .before .before .before .before .before .before .before .if2 in
+      let opt2 = c .before .before .before .before .before .before .before .before .before .before .opt2 in
       let if3 = c .before .before .before .before .if3 in
       let opt-bit = c .before .before .before .opt-bit in
       let opt-bit2 = c .before .before .opt-bit2 in
       let at = c .at in
       (pre .1 .sound, omega (arith, pre, type-param-head .ensures .1, type-param-head .kept, same-kids (none .ensures), opt .ensures .1 .0, opt .ensures .1 .1 (if2 .left), opt .kept, opt2 .ensures .1 .0, opt2 .ensures .1 .1 (if3 .left), opt2 .kept, opt-bit .ensures .1, opt-bit2 .ensures .1, at .ensures .0, at .ensures .1), omega (arith, pre, type-param-head .ensures .1, type-param-head .kept, same-kids (none .ensures), opt .ensures .1 .0, opt .ensures .1 .1 (if2 .left), opt .kept, opt2 .ensures .1 .0, opt2 .ensures .1 .1 (if3 .left), opt2 .kept, opt-bit .ensures .1, opt-bit2 .ensures .1, at .ensures .0, at .ensures .1), omega (arith, pre, type-param-head .ensures .1, type-param-head .kept, same-kids (none .ensures), opt .ensures .1 .0, opt .ensures .1 .1 (if2 .left), opt .kept, opt2 .ensures .1 .0, opt2 .ensures .1 .1 (if3 .left), opt2 .kept, opt-bit .ensures .1, opt-bit2 .ensures .1, at .ensures .0, at .ensures .1), omega (arith, pre, type-param-head .ensures .1, type-param-head .kept, same-kids (none .ensures), opt .ensures .1 .0, opt .ensures .1 .1 (if2 .left), opt .kept, opt2 .ensures .1 .0, opt2 .ensures .1 .1 (if3 .left), opt2 .kept, opt-bit .ensures .1, opt-bit2 .ensures .1, at .ensures .0, at .ensures .1), omega (arith, pre, type-param-head .ensures .1, type-param-head .kept, same-kids (none .ensures), opt .ensures .1 .0, opt .ensures .1 .1 (if2 .left), opt .kept, opt2 .ensures .1 .0, opt2 .ensures .1 .1 (if3 .left), opt2 .kept, opt-bit .ensures .1, opt-bit2 .ensures .1, at .ensures .0, at .ensures .1))
 
-  pub same-length-8 : lts.Need-same-length-8 (R t) (tparam-at t) tparam.Post
-  same-length-8 c =
-      let type-param-head = c .before .before .before .before .before .before .before .before .before .before .before .before .before .before .before .before .before .before .before .before .before .before .before .before .before .before .before .before .before .before .before .before .before .before .before .before .type-param-head in
-      let opt = c .before .before .before .before .before .before .before .before .before .before .before .before .before .before .before .before .before .before .before .before .before .before .before .before .before .before .before .opt in
-      let opt2 = c .before .before .before .before .before .before .before .before .before .before .before .before .before .before .before .opt2 in
+  pub same-length-6 : lts.Need-same-length-6 (R t) (tparam-at t) tparam.Post
+  same-length-6 c =
+      let opt = c .before .before .before .before .before .before .before .before .before .before .before .before .before .before .before .before .before .before .before .before .before .before .before .opt in
+      let opt2 = c .before .before .before .before .before .before .before .before .before .before .before .before .before .opt2 in
       let put = c .before .before .put in
-      omega (arith, type-param-head .kept, opt .kept, opt2 .kept, put .kept)
+      put .kept .1 .0 ∙ opt2 .kept .1 .1 .1 .0 ∙ opt .kept .1 .1 .1 .0
 
-  pub same-length-9 : lts.Need-same-length-9 (R t) (tparam-at t) tparam.Post
-  same-length-9 c =
-      let type-param-head = c .before .before .before .before .before .before .before .before .before .before .before .before .before .before .before .before .before .before .before .before .before .before .before .before .before .before .before .before .before .before .before .before .before .before .before .before .type-param-head in
-      let opt = c .before .before .before .before .before .before .before .before .before .before .before .before .before .before .before .before .before .before .before .before .before .before .before .before .before .before .before .opt in
-      let opt2 = c .before .before .before .before .before .before .before .before .before .before .before .before .before .before .before .opt2 in
-      let put = c .before .before .put in
-      omega (arith, type-param-head .kept, opt .kept, opt2 .kept, put .kept)
-
-  pub same-length-10 : lts.Need-same-length-10 (R t) (tparam-at t) tparam.Post
-  same-length-10 c =
-      let type-param-head = c .before .before .before .before .before .before .before .before .before .before .before .before .before .before .before .before .before .before .before .before .before .before .before .before .before .before .before .before .before .before .before .before .before .before .before .before .type-param-head in
-      let opt = c .before .before .before .before .before .before .before .before .before .before .before .before .before .before .before .before .before .before .before .before .before .before .before .before .before .before .before .opt in
-      let opt2 = c .before .before .before .before .before .before .before .before .before .before .before .before .before .before .before .opt2 in
-      let put = c .before .before .put in
-      omega (arith, type-param-head .kept, opt .kept, opt2 .kept, put .kept)
+  pub same-length-7 : lts.Need-same-length-7 (R t) (tparam-at t) tparam.Post
+  same-length-7 c =
+      let type-param-head = c .before .before .before .before .before .before .before .before .before .before .before .before .before .before .before .before .before .before .before .before .before .before .before .before .before .before .before .before .before .before .before .before .type-param-head in
+      let opt = c .before .before .before .before .before .before .before .before .before .before .before .before .before .before .before .before .before .before .before .before .before .before .before .opt in
+      let opt2 = c .before .before .before .before .before .before .before .before .before .before .before .before .before .opt2 in
+      opt2 .kept .1 .1 .1 .1 .0 ∙ opt .kept .1 .1 .1 .1 .0 ∙ type-param-head .kept .1 .1 .0
 
   pub returns-4 : lts.Need-returns-4 (R t) (tparam-at t) tparam.Post
   returns-4 c =
-      let pre = c .before .before .before .before .before .before .before .before .before .before .before .before .before .before .before .before .before .before .before .before .before .before .before .before .before .before .before .before .before .before .before .before .before .before .before .before .before .before .before .before .before .before .before .pre in
-      let args = c .before .before .before .before .before .before .before .before .before .before .before .before .before .before .before .before .before .before .before .before .before .before .before .before .before .before .before .before .before .before .before .before .before .before .before .before .before .before .before .before .before .before .before .args in
-      let type-param-head = c .before .before .before .before .before .before .before .before .before .before .before .before .before .before .before .before .before .before .before .before .before .before .before .before .before .before .before .before .before .before .before .before .before .before .before .before .type-param-head in
-      let if1 = c .before .before .before .before .before .before .before .before .before .before .before .before .before .before .before .before .before .before .before .before .before .before .before .before .before .before .before .before .before .before .before .before .if1 in
-      let none = c .before .before .before .before .before .before .before .before .before .before .before .before .before .before .before .before .before .before .before .before .before .before .before .before .before .before .before .before .before .before .before .none in
-      let opt = c .before .before .before .before .before .before .before .before .before .before .before .before .before .before .before .before .before .before .before .before .before .before .before .before .before .before .before .opt in
-      let if2 = c .before .before .before .before .before .before .before .before .before .before .before .before .before .before .before .before .before .before .before .if2 in
-      let opt2 = c .before .before .before .before .before .before .before .before .before .before .before .before .before .before .before .opt2 in
+      let pre = c .before .before .before .before .before .before .before .before .before .before .before .before .before .before .before .before .before .before .before .before .before .before .before .before .before .before .before .before .before .before .before .before .before .before .before .before .before .before .pre in
+      let args = c .before .before .before .before .before .before .before .before .before .before .before .before .before .before .before .before .before .before .before .before .before .before .before .before .before .before .before .before .before .before .before .before .before .before .before .before .before .before .args in
+      let type-param-head = c .before .before .before .before .before .before .before .before .before .before .before .before .before .before .before .before .before .before .before .before .before .before .before .before .before .before .before .before .before .before .before .before .type-param-head in
+      let if1 = c .before .before .before .before .before .before .before .before .before .before .before .before .before .before .before .before .before .before .before .before .before .before .before .before .before .before .before .before .if1 in
+      let none = c .before .before .before .before .before .before .before .before .before .before .before .before .before .before .before .before .before .before .before .before .before .before .before .before .before .before .before .none in
+      let opt = c .before .before .before .before .before .before .before .before .before .before .before .before .before .before .before .before .before .before .before .before .before .before .before .opt in
+      let if2 = c .before .before .before .before .before .before .before .before .before .before .before .before .before .before .before .before .before .if2 in
+      let opt2 = c .before .before .before .before .before .before .before .before .before .before .before .before .before .opt2 in
       let if3 = c .before .before .before .before .before .before .before .if3 in
       let opt-bit = c .before .before .before .before .before .before .opt-bit in
       let opt-bit2 = c .before .before .before .before .before .opt-bit2 in

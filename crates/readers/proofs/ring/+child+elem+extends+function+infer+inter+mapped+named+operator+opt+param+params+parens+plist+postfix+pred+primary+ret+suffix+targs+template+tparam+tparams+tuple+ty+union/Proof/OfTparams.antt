@@ -2,7 +2,7 @@
 use Prim.Native.Nat.{ℕ, _-_, _*_}
 use native.Mathlib.Omega.{arith}
 use borrow.Author.Needs.{needs}
-use mathlib.Core.Path.{refl}
+use mathlib.Core.Path.{refl, _∙_}
 use mathlib.Core.List.{List}
 use lib.ListN.{length}
 use Rattle.marks.proofs.MarkLaws.{is-here, is-not-here}
@@ -33,7 +33,7 @@ R t = (kind-at-reads.Asked, kind-at-reads.Learnt, absent-reads.Asked, absent-rea
 
 abbrev pub Inv-loop : lts.InvT-loop
 Inv-loop text words classes nodes₀ names₀ notes₀ given on m p₀ k₀ nodes names notes p k =
-    Kept (length words) given nodes₀ names₀ notes₀ p₀ nodes names notes p × (Under (p .used) k)
+    Kept (length words) given nodes₀ names₀ p₀ nodes names p × (Under (p .used) k)
     × (TypesTurn (givenOf text words given) (below given (givenOf text words given)) on (view m notes₀)
     (was m nodes₀ names₀ notes₀) k p nodes names notes)
 
@@ -52,8 +52,8 @@ module _ (t : ℕ) where
 
   pub returns : lts.Need-returns (R t) (tparams-at t) tparams.Post Inv-loop μ-loop
   returns c =
-      let pre = c .before .before .before .before .before .before .before .before .pre in
-      let args = c .before .before .before .before .before .before .before .before .args in
+      let pre = c .before .before .before .before .before .before .before .pre in
+      let args = c .before .before .before .before .before .before .before .args in
       let kind-at = c .before .before .kind-at in
       let if1 = c .before .if1 in
       let absent = c .absent in (
@@ -73,8 +73,8 @@ module _ (t : ℕ) where
 
   pub loop-holds : lts.Need-loop-holds (R t) (tparams-at t) tparams.Post Inv-loop μ-loop
   loop-holds c =
-      let pre = c .before .before .before .before .before .before .before .before .before .pre in
-      let args = c .before .before .before .before .before .before .before .before .before .args in
+      let pre = c .before .before .before .before .before .before .before .before .pre in
+      let args = c .before .before .before .before .before .before .before .before .args in
       let kind-at = c .before .before .before .kind-at in
       let if1 = c .before .before .if1 in
       let none = c .none in (
@@ -91,7 +91,7 @@ module _ (t : ℕ) where
 
   pub tparam-requires : lts.Need-tparam-requires (R t) (tparams-at t) tparams.Post Inv-loop μ-loop
   tparam-requires c κs =
-      let pre = c .before .before .before .before .before .before .before .before .before .before .before .before .before .before .before .pre in
+      let pre = c .before .before .before .before .before .before .before .before .before .before .before .before .before .before .pre in
       (omega arith, ready (pre .1) (omega arith) (omega arith))
 
   pub refused-requires : lts.Need-refused-requires (R t) (tparams-at t) tparams.Post Inv-loop μ-loop
@@ -100,27 +100,24 @@ module _ (t : ℕ) where
 
   pub same-length : lts.Need-same-length (R t) (tparams-at t) tparams.Post Inv-loop μ-loop
   same-length c =
-      let loop = c .before .before .before .before .before .before .before .before .before .before .before .before .before .before .before .loop in
-      omega (arith, loop .inv .0)
+      let loop = c .before .before .before .before .before .before .before .before .before .before .before .before .before .loop in
+      let tparam = c .before .before .before .before .before .before .before .tparam in
+      tparam .kept .1 .1 .1 .0 ∙ loop .inv .0 .nodes
 
   pub same-length-2 : lts.Need-same-length-2 (R t) (tparams-at t) tparams.Post Inv-loop μ-loop
   same-length-2 c =
-      let loop = c .before .before .before .before .before .before .before .before .before .before .before .before .before .before .before .loop in
-      omega (arith, loop .inv .0)
-
-  pub same-length-3 : lts.Need-same-length-3 (R t) (tparams-at t) tparams.Post Inv-loop μ-loop
-  same-length-3 c =
-      let loop = c .before .before .before .before .before .before .before .before .before .before .before .before .before .before .before .loop in
-      omega (arith, loop .inv .0)
+      let loop = c .before .before .before .before .before .before .before .before .before .before .before .before .before .loop in
+      let tparam = c .before .before .before .before .before .before .before .tparam in
+      tparam .kept .1 .1 .1 .1 .0 ∙ loop .inv .0 .names
 
   pub returns-2 : lts.Need-returns-2 (R t) (tparams-at t) tparams.Post Inv-loop μ-loop
   returns-2 c =
-      let pre = c .before .before .before .before .before .before .before .before .before .before .before .before .before .before .before .before .before .before .before .before .before .before .before .before .before .pre in
-      let args = c .before .before .before .before .before .before .before .before .before .before .before .before .before .before .before .before .before .before .before .before .before .before .before .before .before .args in
-      let loop = c .before .before .before .before .before .before .before .before .before .before .before .before .before .before .before .loop in
-      let kind-at2 = c .before .before .before .before .before .before .before .before .before .before .before .before .before .before .kind-at2 in
-      let if2 = c .before .before .before .before .before .before .before .before .before .before .before .before .before .if2 in
-      let tparam = c .before .before .before .before .before .before .before .before .before .tparam in
+      let pre = c .before .before .before .before .before .before .before .before .before .before .before .before .before .before .before .before .before .before .before .before .before .before .pre in
+      let args = c .before .before .before .before .before .before .before .before .before .before .before .before .before .before .before .before .before .before .before .before .before .before .args in
+      let loop = c .before .before .before .before .before .before .before .before .before .before .before .before .before .loop in
+      let kind-at2 = c .before .before .before .before .before .before .before .before .before .before .before .before .kind-at2 in
+      let if2 = c .before .before .before .before .before .before .before .before .before .before .before .if2 in
+      let tparam = c .before .before .before .before .before .before .before .tparam in
       let if3 = c .before .if3 in
       let refused = c .refused in (
         let text = args .text .now in let s = pre .1 .spelt in
@@ -133,47 +130,42 @@ module _ (t : ℕ) where
 
   pub link-requires : lts.Need-link-requires (R t) (tparams-at t) tparams.Post Inv-loop μ-loop
   link-requires c κs =
-      let pre = c .before .before .before .before .before .before .before .before .before .before .before .before .before .before .before .before .before .before .before .before .before .before .before .before .before .before .pre in
-      let loop = c .before .before .before .before .before .before .before .before .before .before .before .before .before .before .before .before .loop in
-      let tparam = c .before .before .before .before .before .before .before .before .before .before .tparam in
+      let pre = c .before .before .before .before .before .before .before .before .before .before .before .before .before .before .before .before .before .before .before .before .before .before .before .pre in
+      let loop = c .before .before .before .before .before .before .before .before .before .before .before .before .before .before .loop in
+      let tparam = c .before .before .before .before .before .before .before .before .tparam in
       let if3 = c .before .before .if3 in
       omega (arith, tparam .ensures .1 .1 (if3 .left), loop .inv .1, pre)
 
   pub past-comma-requires : lts.Need-past-comma-requires (R t) (tparams-at t) tparams.Post Inv-loop μ-loop
   past-comma-requires c κs =
-      let pre = c .before .before .before .before .before .before .before .before .before .before .before .before .before .before .before .before .before .before .before .before .before .before .before .before .before .before .before .before .before .pre in
+      let pre = c .before .before .before .before .before .before .before .before .before .before .before .before .before .before .before .before .before .before .before .before .before .before .before .before .before .before .pre in
       (pre .1 .sound, omega arith)
 
   pub refused-requires-2 : lts.Need-refused-requires-2 (R t) (tparams-at t) tparams.Post Inv-loop μ-loop
   refused-requires-2 c κs =
       search needs
 
+  pub same-length-3 : lts.Need-same-length-3 (R t) (tparams-at t) tparams.Post Inv-loop μ-loop
+  same-length-3 c =
+      let loop = c .before .before .before .before .before .before .before .before .before .before .before .before .before .before .before .before .before .before .before .before .before .loop in
+      let tparam = c .before .before .before .before .before .before .before .before .before .before .before .before .before .before .before .tparam in
+      let link = c .before .before .before .before .before .before .link in
+      link .kept .0 ∙ tparam .kept .1 .1 .1 .0 ∙ loop .inv .0 .nodes
+
   pub same-length-4 : lts.Need-same-length-4 (R t) (tparams-at t) tparams.Post Inv-loop μ-loop
   same-length-4 c =
-      let loop = c .before .before .before .before .before .before .before .before .before .before .before .before .before .before .before .before .before .before .before .before .before .before .before .loop in
-      let tparam = c .before .before .before .before .before .before .before .before .before .before .before .before .before .before .before .before .before .tparam in
-      omega (arith, tparam .kept, loop .inv .0)
-
-  pub same-length-5 : lts.Need-same-length-5 (R t) (tparams-at t) tparams.Post Inv-loop μ-loop
-  same-length-5 c =
-      let loop = c .before .before .before .before .before .before .before .before .before .before .before .before .before .before .before .before .before .before .before .before .before .before .before .loop in
-      let tparam = c .before .before .before .before .before .before .before .before .before .before .before .before .before .before .before .before .before .tparam in
-      omega (arith, tparam .kept, loop .inv .0)
-
-  pub same-length-6 : lts.Need-same-length-6 (R t) (tparams-at t) tparams.Post Inv-loop μ-loop
-  same-length-6 c =
-      let loop = c .before .before .before .before .before .before .before .before .before .before .before .before .before .before .before .before .before .before .before .before .before .before .before .loop in
-      let tparam = c .before .before .before .before .before .before .before .before .before .before .before .before .before .before .before .before .before .tparam in
-      omega (arith, tparam .kept, loop .inv .0)
+      let loop = c .before .before .before .before .before .before .before .before .before .before .before .before .before .before .before .before .before .before .before .before .before .loop in
+      let tparam = c .before .before .before .before .before .before .before .before .before .before .before .before .before .before .before .tparam in
+      tparam .kept .1 .1 .1 .1 .0 ∙ loop .inv .0 .names
 
   pub returns-3 : lts.Need-returns-3 (R t) (tparams-at t) tparams.Post Inv-loop μ-loop
   returns-3 c =
-      let pre = c .before .before .before .before .before .before .before .before .before .before .before .before .before .before .before .before .before .before .before .before .before .before .before .before .before .before .before .before .before .before .before .before .before .pre in
-      let args = c .before .before .before .before .before .before .before .before .before .before .before .before .before .before .before .before .before .before .before .before .before .before .before .before .before .before .before .before .before .before .before .before .before .args in
-      let loop = c .before .before .before .before .before .before .before .before .before .before .before .before .before .before .before .before .before .before .before .before .before .before .before .loop in
-      let kind-at2 = c .before .before .before .before .before .before .before .before .before .before .before .before .before .before .before .before .before .before .before .before .before .before .kind-at2 in
-      let if2 = c .before .before .before .before .before .before .before .before .before .before .before .before .before .before .before .before .before .before .before .before .before .if2 in
-      let tparam = c .before .before .before .before .before .before .before .before .before .before .before .before .before .before .before .before .before .tparam in
+      let pre = c .before .before .before .before .before .before .before .before .before .before .before .before .before .before .before .before .before .before .before .before .before .before .before .before .before .before .before .before .before .before .pre in
+      let args = c .before .before .before .before .before .before .before .before .before .before .before .before .before .before .before .before .before .before .before .before .before .before .before .before .before .before .before .before .before .before .args in
+      let loop = c .before .before .before .before .before .before .before .before .before .before .before .before .before .before .before .before .before .before .before .before .before .loop in
+      let kind-at2 = c .before .before .before .before .before .before .before .before .before .before .before .before .before .before .before .before .before .before .before .before .kind-at2 in
+      let if2 = c .before .before .before .before .before .before .before .before .before .before .before .before .before .before .before .before .before .before .before .if2 in
+      let tparam = c .before .before .before .before .before .before .before .before .before .before .before .before .before .before .before .tparam in
       let if3 = c .before .before .before .before .before .before .before .before .before .if3 in
       let past-comma = c .before .before .before .past-comma in
       let if4 = c .before .if4 in
@@ -188,18 +180,18 @@ module _ (t : ℕ) where
 
   pub loop-less : lts.Need-loop-less (R t) (tparams-at t) tparams.Post Inv-loop μ-loop
   loop-less c =
-      let tparam = c .before .before .before .before .before .before .before .before .before .before .before .before .before .before .before .before .before .tparam in
+      let tparam = c .before .before .before .before .before .before .before .before .before .before .before .before .before .before .before .tparam in
       let if3 = c .before .before .before .before .before .before .before .before .before .if3 in
       omega (arith, tparam .ensures .1 .1 (if3 .left))
 
   pub loop-again : lts.Need-loop-again (R t) (tparams-at t) tparams.Post Inv-loop μ-loop
   loop-again c =
-      let pre = c .before .before .before .before .before .before .before .before .before .before .before .before .before .before .before .before .before .before .before .before .before .before .before .before .before .before .before .before .before .before .before .before .before .pre in
-      let args = c .before .before .before .before .before .before .before .before .before .before .before .before .before .before .before .before .before .before .before .before .before .before .before .before .before .before .before .before .before .before .before .before .before .args in
-      let loop = c .before .before .before .before .before .before .before .before .before .before .before .before .before .before .before .before .before .before .before .before .before .before .before .loop in
-      let kind-at2 = c .before .before .before .before .before .before .before .before .before .before .before .before .before .before .before .before .before .before .before .before .before .before .kind-at2 in
-      let if2 = c .before .before .before .before .before .before .before .before .before .before .before .before .before .before .before .before .before .before .before .before .before .if2 in
-      let tparam = c .before .before .before .before .before .before .before .before .before .before .before .before .before .before .before .before .before .tparam in
+      let pre = c .before .before .before .before .before .before .before .before .before .before .before .before .before .before .before .before .before .before .before .before .before .before .before .before .before .before .before .before .before .before .pre in
+      let args = c .before .before .before .before .before .before .before .before .before .before .before .before .before .before .before .before .before .before .before .before .before .before .before .before .before .before .before .before .before .before .args in
+      let loop = c .before .before .before .before .before .before .before .before .before .before .before .before .before .before .before .before .before .before .before .before .before .loop in
+      let kind-at2 = c .before .before .before .before .before .before .before .before .before .before .before .before .before .before .before .before .before .before .before .before .kind-at2 in
+      let if2 = c .before .before .before .before .before .before .before .before .before .before .before .before .before .before .before .before .before .before .before .if2 in
+      let tparam = c .before .before .before .before .before .before .before .before .before .before .before .before .before .before .before .tparam in
       let if3 = c .before .before .before .before .before .before .before .before .before .if3 in
       let link = c .before .before .before .before .before .before .link in
       let past-comma = c .before .before .before .past-comma in
@@ -221,30 +213,28 @@ module _ (t : ℕ) where
 
   pub list-end-requires : lts.Need-list-end-requires (R t) (tparams-at t) tparams.Post Inv-loop μ-loop
   list-end-requires c κs =
-      let pre = c .before .before .before .before .before .before .before .before .before .before .before .before .before .before .pre in
-      (pre .1 .sound, omega arith, omega arith, omega arith, omega arith)
+      let pre = c .before .before .before .before .before .before .before .before .before .before .before .before .before .pre in
+      (pre .1 .sound, omega arith, omega arith, omega arith)
 
-  pub same-length-7 : lts.Need-same-length-7 (R t) (tparams-at t) tparams.Post Inv-loop μ-loop
-  same-length-7 c =
-      omega arith
+  pub same-length-5 : lts.Need-same-length-5 (R t) (tparams-at t) tparams.Post Inv-loop μ-loop
+  same-length-5 c =
+      let loop = c .before .before .before .before .before .loop in
+      loop .inv .0 .nodes
 
-  pub same-length-8 : lts.Need-same-length-8 (R t) (tparams-at t) tparams.Post Inv-loop μ-loop
-  same-length-8 c =
-      omega arith
-
-  pub same-length-9 : lts.Need-same-length-9 (R t) (tparams-at t) tparams.Post Inv-loop μ-loop
-  same-length-9 c =
-      omega arith
+  pub same-length-6 : lts.Need-same-length-6 (R t) (tparams-at t) tparams.Post Inv-loop μ-loop
+  same-length-6 c =
+      let loop = c .before .before .before .before .before .loop in
+      loop .inv .0 .names
 
   pub returns-4 : lts.Need-returns-4 (R t) (tparams-at t) tparams.Post Inv-loop μ-loop
   returns-4 c =
-      let args = c .before .before .before .before .before .before .before .before .before .before .before .before .before .before .before .before .before .args in
-      let pre = c .before .before .before .before .before .before .before .before .before .before .before .before .before .before .before .before .before .pre in
-      let loop = c .before .before .before .before .before .before .before .loop in
-      let kind-at2 = c .before .before .before .before .before .before .kind-at2 in
-      let if2 = c .before .before .before .before .before .if2 in
-      let first-byte = c .before .before .before .before .first-byte in
-      let list-end = c .before .before .list-end in (
+      let args = c .before .before .before .before .before .before .before .before .before .before .before .before .before .before .args in
+      let pre = c .before .before .before .before .before .before .before .before .before .before .before .before .before .before .pre in
+      let loop = c .before .before .before .before .before .loop in
+      let kind-at2 = c .before .before .before .before .kind-at2 in
+      let if2 = c .before .before .before .if2 in
+      let first-byte = c .before .before .first-byte in
+      let list-end = c .list-end in (
         let text = args .text .now in let s = pre .1 .spelt in
             turn-ends text (args .words .now) (args .given) _ _ _ _ (loop .p) (loop .inv .2)
             (is-here (args .words .now) (loop .p) (kind-at2 .ensures .0) (if2 .left)) (first-byte .ensures .0) (list-end .ensures .0),

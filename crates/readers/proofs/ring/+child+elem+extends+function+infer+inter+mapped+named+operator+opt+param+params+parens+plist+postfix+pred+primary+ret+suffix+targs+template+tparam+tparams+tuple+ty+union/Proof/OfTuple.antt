@@ -2,7 +2,7 @@
 use Prim.Native.Nat.{ℕ, _-_, _*_}
 use native.Mathlib.Omega.{arith}
 use borrow.Author.Needs.{needs}
-use mathlib.Core.Path.{_≡_}
+use mathlib.Core.Path.{_≡_, _∙_}
 use mathlib.Core.List.{List}
 use lib.ListN.{length}
 use Rattle.marks.proofs.Answers.{says-same, says-as, says-stop}
@@ -35,7 +35,7 @@ R t = (state-Kids-none-reads.Asked, state-Kids-none-reads.Learnt, kind-at-reads.
 
 abbrev pub Inv-loop : lts.InvT-loop
 Inv-loop text words classes nodes₀ names₀ notes₀ given m p₀ k₀ seen₀ nodes names notes p k seen =
-    Kept (length words) given nodes₀ names₀ notes₀ p₀ nodes names notes p × (Under (p .used) k)
+    Kept (length words) given nodes₀ names₀ p₀ nodes names p × (Under (p .used) k)
     × (kindAt words (m .at) (m .half) ≡ LBrack → TupleTurn (givenOf text words given) (below given (givenOf text words given)) (view m notes₀)
     (was m nodes₀ names₀ notes₀) seen k p nodes names notes)
 
@@ -54,8 +54,8 @@ module _ (t : ℕ) where
 
   pub loop-holds : lts.Need-loop-holds (R t) (tuple-at t) tuple.Post Inv-loop μ-loop
   loop-holds c =
-      let pre = c .before .before .before .before .before .before .before .pre in
-      let args = c .before .before .before .before .before .before .before .args in
+      let pre = c .before .before .before .before .before .before .pre in
+      let args = c .before .before .before .before .before .before .args in
       let none = c .none in (
         omega arith,
         omega (arith, same-kids (none .ensures)),
@@ -69,29 +69,29 @@ module _ (t : ℕ) where
 
   pub elem-requires : lts.Need-elem-requires (R t) (tuple-at t) tuple.Post Inv-loop μ-loop
   elem-requires c κs =
-      let pre = c .before .before .before .before .before .before .before .before .before .before .before .before .before .pre in
+      let pre = c .before .before .before .before .before .before .before .before .before .before .before .before .pre in
       (omega arith, ready (pre .1 .0) (omega arith) (omega arith))
 
   pub same-length : lts.Need-same-length (R t) (tuple-at t) tuple.Post Inv-loop μ-loop
   same-length c =
-      omega arith
+      let loop = c .before .before .before .before .before .before .before .before .before .before .before .before .loop in
+      let elem = c .before .before .before .before .before .before .elem in
+      elem .kept .1 .1 .1 .0 ∙ loop .inv .0 .nodes
 
   pub same-length-2 : lts.Need-same-length-2 (R t) (tuple-at t) tuple.Post Inv-loop μ-loop
   same-length-2 c =
-      omega arith
-
-  pub same-length-3 : lts.Need-same-length-3 (R t) (tuple-at t) tuple.Post Inv-loop μ-loop
-  same-length-3 c =
-      omega arith
+      let loop = c .before .before .before .before .before .before .before .before .before .before .before .before .loop in
+      let elem = c .before .before .before .before .before .before .elem in
+      elem .kept .1 .1 .1 .1 .0 ∙ loop .inv .0 .names
 
   pub returns : lts.Need-returns (R t) (tuple-at t) tuple.Post Inv-loop μ-loop
   returns c =
-      let pre = c .before .before .before .before .before .before .before .before .before .before .before .before .before .before .before .before .before .before .before .before .before .before .pre in
-      let args = c .before .before .before .before .before .before .before .before .before .before .before .before .before .before .before .before .before .before .before .before .before .before .args in
-      let loop = c .before .before .before .before .before .before .before .before .before .before .before .before .before .before .loop in
-      let kind-at = c .before .before .before .before .before .before .before .before .before .before .before .before .before .kind-at in
-      let if1 = c .before .before .before .before .before .before .before .before .before .before .before .before .if1 in
-      let elem = c .before .before .before .before .before .before .before .before .elem in
+      let pre = c .before .before .before .before .before .before .before .before .before .before .before .before .before .before .before .before .before .before .before .pre in
+      let args = c .before .before .before .before .before .before .before .before .before .before .before .before .before .before .before .before .before .before .before .args in
+      let loop = c .before .before .before .before .before .before .before .before .before .before .before .before .loop in
+      let kind-at = c .before .before .before .before .before .before .before .before .before .before .before .kind-at in
+      let if1 = c .before .before .before .before .before .before .before .before .before .before .if1 in
+      let elem = c .before .before .before .before .before .before .elem in
       let if2 = c .if2 in (
         λ brack. let text = args .text .now in let s = pre .1 .0 .spelt in
             says-stop (if2 .taken)
@@ -102,9 +102,9 @@ module _ (t : ℕ) where
 
   pub checked-requires : lts.Need-checked-requires (R t) (tuple-at t) tuple.Post Inv-loop μ-loop
   checked-requires c κs =
-      let pre = c .before .before .before .before .before .before .before .before .before .before .before .before .before .before .before .before .before .before .before .before .before .before .before .before .pre in
-      let loop = c .before .before .before .before .before .before .before .before .before .before .before .before .before .before .before .before .loop in
-      let elem = c .before .before .before .before .before .before .before .before .before .before .elem in
+      let pre = c .before .before .before .before .before .before .before .before .before .before .before .before .before .before .before .before .before .before .before .before .before .pre in
+      let loop = c .before .before .before .before .before .before .before .before .before .before .before .before .before .before .loop in
+      let elem = c .before .before .before .before .before .before .before .before .elem in
       let if2 = c .before .before .if2 in
       omega (arith, elem .ensures .1 .1 (if2 .left), loop .inv .1, pre)
 
@@ -112,32 +112,28 @@ module _ (t : ℕ) where
   refused-requires c κs =
       search needs
 
+  pub same-length-3 : lts.Need-same-length-3 (R t) (tuple-at t) tuple.Post Inv-loop μ-loop
+  same-length-3 c =
+      let loop = c .before .before .before .before .before .before .before .before .before .before .before .before .before .before .before .before .before .before .loop in
+      let elem = c .before .before .before .before .before .before .before .before .before .before .before .before .elem in
+      elem .kept .1 .1 .1 .0 ∙ loop .inv .0 .nodes
+
   pub same-length-4 : lts.Need-same-length-4 (R t) (tuple-at t) tuple.Post Inv-loop μ-loop
   same-length-4 c =
-      let loop = c .before .before .before .before .before .before .before .before .before .before .before .before .before .before .before .before .before .before .before .before .before .before .loop in
-      let elem = c .before .before .before .before .before .before .before .before .before .before .before .before .before .before .before .before .elem in
-      omega (arith, elem .kept, loop .inv .0)
-
-  pub same-length-5 : lts.Need-same-length-5 (R t) (tuple-at t) tuple.Post Inv-loop μ-loop
-  same-length-5 c =
-      let loop = c .before .before .before .before .before .before .before .before .before .before .before .before .before .before .before .before .before .before .before .before .before .before .loop in
-      omega (arith, loop .inv .0)
-
-  pub same-length-6 : lts.Need-same-length-6 (R t) (tuple-at t) tuple.Post Inv-loop μ-loop
-  same-length-6 c =
-      let loop = c .before .before .before .before .before .before .before .before .before .before .before .before .before .before .before .before .before .before .before .before .before .before .loop in
-      omega (arith, loop .inv .0)
+      let loop = c .before .before .before .before .before .before .before .before .before .before .before .before .before .before .before .before .before .before .loop in
+      let elem = c .before .before .before .before .before .before .before .before .before .before .before .before .elem in
+      elem .kept .1 .1 .1 .1 .0 ∙ loop .inv .0 .names
 
   pub returns-2 : lts.Need-returns-2 (R t) (tuple-at t) tuple.Post Inv-loop μ-loop
   returns-2 c =
-      let pre = c .before .before .before .before .before .before .before .before .before .before .before .before .before .before .before .before .before .before .before .before .before .before .before .before .before .before .before .before .before .before .pre in
-      let args = c .before .before .before .before .before .before .before .before .before .before .before .before .before .before .before .before .before .before .before .before .before .before .before .before .before .before .before .before .before .before .args in
-      let loop = c .before .before .before .before .before .before .before .before .before .before .before .before .before .before .before .before .before .before .before .before .before .before .loop in
-      let kind-at = c .before .before .before .before .before .before .before .before .before .before .before .before .before .before .before .before .before .before .before .before .before .kind-at in
-      let if1 = c .before .before .before .before .before .before .before .before .before .before .before .before .before .before .before .before .before .before .before .before .if1 in
-      let elem = c .before .before .before .before .before .before .before .before .before .before .before .before .before .before .before .before .elem in
-      let if2 = c .before .before .before .before .before .before .before .before .if2 in
-      let checked = c .before .before .before .before .before .checked in
+      let pre = c .before .before .before .before .before .before .before .before .before .before .before .before .before .before .before .before .before .before .before .before .before .before .before .before .before .pre in
+      let args = c .before .before .before .before .before .before .before .before .before .before .before .before .before .before .before .before .before .before .before .before .before .before .before .before .before .args in
+      let loop = c .before .before .before .before .before .before .before .before .before .before .before .before .before .before .before .before .before .before .loop in
+      let kind-at = c .before .before .before .before .before .before .before .before .before .before .before .before .before .before .before .before .before .kind-at in
+      let if1 = c .before .before .before .before .before .before .before .before .before .before .before .before .before .before .before .before .if1 in
+      let elem = c .before .before .before .before .before .before .before .before .before .before .before .before .elem in
+      let if2 = c .before .before .before .before .before .before .if2 in
+      let checked = c .before .before .before .checked in
       let if3 = c .before .if3 in
       let refused = c .refused in (
         λ brack. let text = args .text .now in let s = pre .1 .0 .spelt in
@@ -151,55 +147,49 @@ module _ (t : ℕ) where
 
   pub link-requires : lts.Need-link-requires (R t) (tuple-at t) tuple.Post Inv-loop μ-loop
   link-requires c κs =
-      let pre = c .before .before .before .before .before .before .before .before .before .before .before .before .before .before .before .before .before .before .before .before .before .before .before .before .before .before .before .before .before .before .before .pre in
-      let loop = c .before .before .before .before .before .before .before .before .before .before .before .before .before .before .before .before .before .before .before .before .before .before .before .loop in
-      let elem = c .before .before .before .before .before .before .before .before .before .before .before .before .before .before .before .before .before .elem in
-      let if2 = c .before .before .before .before .before .before .before .before .before .if2 in
+      let pre = c .before .before .before .before .before .before .before .before .before .before .before .before .before .before .before .before .before .before .before .before .before .before .before .before .before .before .pre in
+      let loop = c .before .before .before .before .before .before .before .before .before .before .before .before .before .before .before .before .before .before .before .loop in
+      let elem = c .before .before .before .before .before .before .before .before .before .before .before .before .before .elem in
+      let if2 = c .before .before .before .before .before .before .before .if2 in
       omega (arith, elem .ensures .1 .1 (if2 .left), loop .inv .1, pre)
 
   pub past-comma-requires : lts.Need-past-comma-requires (R t) (tuple-at t) tuple.Post Inv-loop μ-loop
   past-comma-requires c κs =
-      let pre = c .before .before .before .before .before .before .before .before .before .before .before .before .before .before .before .before .before .before .before .before .before .before .before .before .before .before .before .before .before .before .before .before .before .before .pre in
-      let none = c .before .before .before .before .before .before .before .before .before .before .before .before .before .before .before .before .before .before .before .before .before .before .before .before .before .before .before .none in
-      let elem = c .before .before .before .before .before .before .before .before .before .before .before .before .before .before .before .before .before .before .before .before .elem in
-      let if2 = c .before .before .before .before .before .before .before .before .before .before .before .before .if2 in
-      let checked = c .before .before .before .before .before .before .before .before .before .checked in
+      let pre = c .before .before .before .before .before .before .before .before .before .before .before .before .before .before .before .before .before .before .before .before .before .before .before .before .before .before .before .before .before .pre in
+      let none = c .before .before .before .before .before .before .before .before .before .before .before .before .before .before .before .before .before .before .before .before .before .before .before .none in
+      let elem = c .before .before .before .before .before .before .before .before .before .before .before .before .before .before .before .before .elem in
+      let if2 = c .before .before .before .before .before .before .before .before .before .before .if2 in
+      let checked = c .before .before .before .before .before .before .before .checked in
       (pre .1 .0 .sound, omega (arith, checked .ensures .1, elem .ensures .1 .1 (if2 .left), same-kids (none .ensures)))
 
   pub refused-requires-2 : lts.Need-refused-requires-2 (R t) (tuple-at t) tuple.Post Inv-loop μ-loop
   refused-requires-2 c κs =
       search needs
 
-  pub same-length-7 : lts.Need-same-length-7 (R t) (tuple-at t) tuple.Post Inv-loop μ-loop
-  same-length-7 c =
-      let loop = c .before .before .before .before .before .before .before .before .before .before .before .before .before .before .before .before .before .before .before .before .before .before .before .before .before .before .before .before .before .before .loop in
-      let elem = c .before .before .before .before .before .before .before .before .before .before .before .before .before .before .before .before .before .before .before .before .before .before .before .before .elem in
-      omega (arith, elem .kept, loop .inv .0)
+  pub same-length-5 : lts.Need-same-length-5 (R t) (tuple-at t) tuple.Post Inv-loop μ-loop
+  same-length-5 c =
+      let loop = c .before .before .before .before .before .before .before .before .before .before .before .before .before .before .before .before .before .before .before .before .before .before .before .before .before .before .loop in
+      let elem = c .before .before .before .before .before .before .before .before .before .before .before .before .before .before .before .before .before .before .before .before .elem in
+      let link = c .before .before .before .before .before .before .link in
+      link .kept .0 ∙ elem .kept .1 .1 .1 .0 ∙ loop .inv .0 .nodes
 
-  pub same-length-8 : lts.Need-same-length-8 (R t) (tuple-at t) tuple.Post Inv-loop μ-loop
-  same-length-8 c =
-      let loop = c .before .before .before .before .before .before .before .before .before .before .before .before .before .before .before .before .before .before .before .before .before .before .before .before .before .before .before .before .before .before .loop in
-      let elem = c .before .before .before .before .before .before .before .before .before .before .before .before .before .before .before .before .before .before .before .before .before .before .before .before .elem in
-      omega (arith, elem .kept, loop .inv .0)
-
-  pub same-length-9 : lts.Need-same-length-9 (R t) (tuple-at t) tuple.Post Inv-loop μ-loop
-  same-length-9 c =
-      let loop = c .before .before .before .before .before .before .before .before .before .before .before .before .before .before .before .before .before .before .before .before .before .before .before .before .before .before .before .before .before .before .loop in
-      let elem = c .before .before .before .before .before .before .before .before .before .before .before .before .before .before .before .before .before .before .before .before .before .before .before .before .elem in
-      let checked = c .before .before .before .before .before .before .before .before .before .before .before .before .before .checked in
-      omega (arith, checked .kept, elem .kept, loop .inv .0)
+  pub same-length-6 : lts.Need-same-length-6 (R t) (tuple-at t) tuple.Post Inv-loop μ-loop
+  same-length-6 c =
+      let loop = c .before .before .before .before .before .before .before .before .before .before .before .before .before .before .before .before .before .before .before .before .before .before .before .before .before .before .loop in
+      let elem = c .before .before .before .before .before .before .before .before .before .before .before .before .before .before .before .before .before .before .before .before .elem in
+      elem .kept .1 .1 .1 .1 .0 ∙ loop .inv .0 .names
 
   pub returns-3 : lts.Need-returns-3 (R t) (tuple-at t) tuple.Post Inv-loop μ-loop
   returns-3 c =
-      let pre = c .before .before .before .before .before .before .before .before .before .before .before .before .before .before .before .before .before .before .before .before .before .before .before .before .before .before .before .before .before .before .before .before .before .before .before .before .before .before .pre in
-      let args = c .before .before .before .before .before .before .before .before .before .before .before .before .before .before .before .before .before .before .before .before .before .before .before .before .before .before .before .before .before .before .before .before .before .before .before .before .before .before .args in
-      let none = c .before .before .before .before .before .before .before .before .before .before .before .before .before .before .before .before .before .before .before .before .before .before .before .before .before .before .before .before .before .before .before .none in
-      let loop = c .before .before .before .before .before .before .before .before .before .before .before .before .before .before .before .before .before .before .before .before .before .before .before .before .before .before .before .before .before .before .loop in
-      let kind-at = c .before .before .before .before .before .before .before .before .before .before .before .before .before .before .before .before .before .before .before .before .before .before .before .before .before .before .before .before .before .kind-at in
-      let if1 = c .before .before .before .before .before .before .before .before .before .before .before .before .before .before .before .before .before .before .before .before .before .before .before .before .before .before .before .before .if1 in
-      let elem = c .before .before .before .before .before .before .before .before .before .before .before .before .before .before .before .before .before .before .before .before .before .before .before .before .elem in
-      let if2 = c .before .before .before .before .before .before .before .before .before .before .before .before .before .before .before .before .if2 in
-      let checked = c .before .before .before .before .before .before .before .before .before .before .before .before .before .checked in
+      let pre = c .before .before .before .before .before .before .before .before .before .before .before .before .before .before .before .before .before .before .before .before .before .before .before .before .before .before .before .before .before .before .before .before .before .pre in
+      let args = c .before .before .before .before .before .before .before .before .before .before .before .before .before .before .before .before .before .before .before .before .before .before .before .before .before .before .before .before .before .before .before .before .before .args in
+      let none = c .before .before .before .before .before .before .before .before .before .before .before .before .before .before .before .before .before .before .before .before .before .before .before .before .before .before .before .none in
+      let loop = c .before .before .before .before .before .before .before .before .before .before .before .before .before .before .before .before .before .before .before .before .before .before .before .before .before .before .loop in
+      let kind-at = c .before .before .before .before .before .before .before .before .before .before .before .before .before .before .before .before .before .before .before .before .before .before .before .before .before .kind-at in
+      let if1 = c .before .before .before .before .before .before .before .before .before .before .before .before .before .before .before .before .before .before .before .before .before .before .before .before .if1 in
+      let elem = c .before .before .before .before .before .before .before .before .before .before .before .before .before .before .before .before .before .before .before .before .elem in
+      let if2 = c .before .before .before .before .before .before .before .before .before .before .before .before .before .before .if2 in
+      let checked = c .before .before .before .before .before .before .before .before .before .before .before .checked in
       let if3 = c .before .before .before .before .before .before .before .before .before .if3 in
       let past-comma = c .before .before .before .past-comma in
       let if4 = c .before .if4 in
@@ -218,23 +208,23 @@ module _ (t : ℕ) where
 
   pub loop-less : lts.Need-loop-less (R t) (tuple-at t) tuple.Post Inv-loop μ-loop
   loop-less c =
-      let none = c .before .before .before .before .before .before .before .before .before .before .before .before .before .before .before .before .before .before .before .before .before .before .before .before .before .before .before .before .before .before .before .none in
-      let elem = c .before .before .before .before .before .before .before .before .before .before .before .before .before .before .before .before .before .before .before .before .before .before .before .before .elem in
-      let if2 = c .before .before .before .before .before .before .before .before .before .before .before .before .before .before .before .before .if2 in
-      let checked = c .before .before .before .before .before .before .before .before .before .before .before .before .before .checked in
+      let none = c .before .before .before .before .before .before .before .before .before .before .before .before .before .before .before .before .before .before .before .before .before .before .before .before .before .before .before .none in
+      let elem = c .before .before .before .before .before .before .before .before .before .before .before .before .before .before .before .before .before .before .before .before .elem in
+      let if2 = c .before .before .before .before .before .before .before .before .before .before .before .before .before .before .if2 in
+      let checked = c .before .before .before .before .before .before .before .before .before .before .before .checked in
       omega (arith, checked .ensures .1, elem .ensures .1 .1 (if2 .left), same-kids (none .ensures))
 
   pub loop-again : lts.Need-loop-again (R t) (tuple-at t) tuple.Post Inv-loop μ-loop
   loop-again c =
-      let pre = c .before .before .before .before .before .before .before .before .before .before .before .before .before .before .before .before .before .before .before .before .before .before .before .before .before .before .before .before .before .before .before .before .before .before .before .before .before .before .pre in
-      let args = c .before .before .before .before .before .before .before .before .before .before .before .before .before .before .before .before .before .before .before .before .before .before .before .before .before .before .before .before .before .before .before .before .before .before .before .before .before .before .args in
-      let none = c .before .before .before .before .before .before .before .before .before .before .before .before .before .before .before .before .before .before .before .before .before .before .before .before .before .before .before .before .before .before .before .none in
-      let loop = c .before .before .before .before .before .before .before .before .before .before .before .before .before .before .before .before .before .before .before .before .before .before .before .before .before .before .before .before .before .before .loop in
-      let kind-at = c .before .before .before .before .before .before .before .before .before .before .before .before .before .before .before .before .before .before .before .before .before .before .before .before .before .before .before .before .before .kind-at in
-      let if1 = c .before .before .before .before .before .before .before .before .before .before .before .before .before .before .before .before .before .before .before .before .before .before .before .before .before .before .before .before .if1 in
-      let elem = c .before .before .before .before .before .before .before .before .before .before .before .before .before .before .before .before .before .before .before .before .before .before .before .before .elem in
-      let if2 = c .before .before .before .before .before .before .before .before .before .before .before .before .before .before .before .before .if2 in
-      let checked = c .before .before .before .before .before .before .before .before .before .before .before .before .before .checked in
+      let pre = c .before .before .before .before .before .before .before .before .before .before .before .before .before .before .before .before .before .before .before .before .before .before .before .before .before .before .before .before .before .before .before .before .before .pre in
+      let args = c .before .before .before .before .before .before .before .before .before .before .before .before .before .before .before .before .before .before .before .before .before .before .before .before .before .before .before .before .before .before .before .before .before .args in
+      let none = c .before .before .before .before .before .before .before .before .before .before .before .before .before .before .before .before .before .before .before .before .before .before .before .before .before .before .before .none in
+      let loop = c .before .before .before .before .before .before .before .before .before .before .before .before .before .before .before .before .before .before .before .before .before .before .before .before .before .before .loop in
+      let kind-at = c .before .before .before .before .before .before .before .before .before .before .before .before .before .before .before .before .before .before .before .before .before .before .before .before .before .kind-at in
+      let if1 = c .before .before .before .before .before .before .before .before .before .before .before .before .before .before .before .before .before .before .before .before .before .before .before .before .if1 in
+      let elem = c .before .before .before .before .before .before .before .before .before .before .before .before .before .before .before .before .before .before .before .before .elem in
+      let if2 = c .before .before .before .before .before .before .before .before .before .before .before .before .before .before .if2 in
+      let checked = c .before .before .before .before .before .before .before .before .before .before .before .checked in
       let if3 = c .before .before .before .before .before .before .before .before .before .if3 in
       let link = c .before .before .before .before .before .before .link in
       let past-comma = c .before .before .before .past-comma in
@@ -248,7 +238,7 @@ module _ (t : ℕ) where
             (past-comma .ensures .1)
             (omega (arith, elem .ensures .1 .1 (if2 .left)))
             (omega (arith, elem .ensures .1 .1 (if2 .left), elem .ensures .1 .0)) (link .ensures .0) (link .ensures .1 .1)
-            (omega (arith, elem .kept, checked .kept)),
+            (omega (arith, elem .kept)),
       )
 
   pub at-requires : lts.Need-at-requires (R t) (tuple-at t) tuple.Post Inv-loop μ-loop
@@ -257,25 +247,24 @@ module _ (t : ℕ) where
 
   pub tuple-node-requires : lts.Need-tuple-node-requires (R t) (tuple-at t) tuple.Post Inv-loop μ-loop
   tuple-node-requires c κs =
-      let pre = c .before .before .before .before .before .before .before .before .before .before .before .before .pre in
+      let pre = c .before .before .before .before .before .before .before .before .before .before .before .pre in
       (pre .1 .0 .sound, omega arith, omega arith, omega arith, omega arith, omega arith, omega arith)
 
-  pub same-length-10 : lts.Need-same-length-10 (R t) (tuple-at t) tuple.Post Inv-loop μ-loop
-  same-length-10 c =
-      omega arith
+  pub same-length-7 : lts.Need-same-length-7 (R t) (tuple-at t) tuple.Post Inv-loop μ-loop
+  same-length-7 c =
+      let loop = c .before .before .before .before .before .before .before .loop in
+      let tuple-node = c .before .before .tuple-node in
+      tuple-node .kept .1 .0 ∙ loop .inv .0 .nodes
 
-  pub same-length-11 : lts.Need-same-length-11 (R t) (tuple-at t) tuple.Post Inv-loop μ-loop
-  same-length-11 c =
-      omega arith
-
-  pub same-length-12 : lts.Need-same-length-12 (R t) (tuple-at t) tuple.Post Inv-loop μ-loop
-  same-length-12 c =
-      omega arith
+  pub same-length-8 : lts.Need-same-length-8 (R t) (tuple-at t) tuple.Post Inv-loop μ-loop
+  same-length-8 c =
+      let loop = c .before .before .before .before .before .before .before .loop in
+      loop .inv .0 .names
 
   pub returns-4 : lts.Need-returns-4 (R t) (tuple-at t) tuple.Post Inv-loop μ-loop
   returns-4 c =
-      let args = c .before .before .before .before .before .before .before .before .before .before .before .before .before .before .before .args in
-      let pre = c .before .before .before .before .before .before .before .before .before .before .before .before .before .before .before .pre in
+      let args = c .before .before .before .before .before .before .before .before .before .before .before .before .before .before .args in
+      let pre = c .before .before .before .before .before .before .before .before .before .before .before .before .before .before .pre in
       let loop = c .before .before .before .before .before .before .before .loop in
       let kind-at = c .before .before .before .before .before .before .kind-at in
       let if1 = c .before .before .before .before .before .if1 in
