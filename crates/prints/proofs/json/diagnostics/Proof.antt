@@ -1,0 +1,62 @@
+-- `json::diagnostics` is safe and ends: the place stays within the buffer, and the diagnostics that are left fall. Assumes nothing.
+use borrow.Author.Needs.{needs}
+use Prim.Native.Nat.{_<_, _-_}
+use Rattle.prints.proofs.json.diagnostics.Statement.{statement}
+use Rattle.prints.proofs.json.diagnostics.Tie as tie
+
+abbrev Inv-loop : tie.InvT-loop
+Inv-loop out₀ at notes n text line p₀ i₀ out p i = p < 65536
+
+abbrev μ-loop : tie.MeasureT-loop
+μ-loop out₀ at notes n text line p₀ i₀ out p i = n - i
+
+slice-aggregate-bytes : tie.Need-slice-aggregate-bytes Inv-loop μ-loop
+slice-aggregate-bytes c = search needs
+
+bytes-requires : tie.Need-bytes-requires Inv-loop μ-loop
+bytes-requires c κs = search needs
+
+loop-holds : tie.Need-loop-holds Inv-loop μ-loop
+loop-holds c = search needs
+
+comma-requires : tie.Need-comma-requires Inv-loop μ-loop
+comma-requires c κs = search needs
+
+note-at-requires : tie.Need-note-at-requires Inv-loop μ-loop
+note-at-requires c κs = search needs
+
+note-requires : tie.Need-note-requires Inv-loop μ-loop
+note-requires c κs = search needs
+
+add-i : tie.Need-add-i Inv-loop μ-loop
+add-i c = search needs
+
+loop-less : tie.Need-loop-less Inv-loop μ-loop
+loop-less c = search needs
+
+loop-again : tie.Need-loop-again Inv-loop μ-loop
+loop-again c = search needs
+
+byte-requires : tie.Need-byte-requires Inv-loop μ-loop
+byte-requires c κs = search needs
+
+returns : tie.Need-returns Inv-loop μ-loop
+returns c = search needs
+
+pub diagnostics-spec : {M : Type 1} → statement M
+diagnostics-spec =
+    tie.close
+    (tie.spec
+    Inv-loop
+    μ-loop
+    slice-aggregate-bytes
+    bytes-requires
+    loop-holds
+    comma-requires
+    note-at-requires
+    note-requires
+    add-i
+    loop-less
+    loop-again
+    byte-requires
+    returns)

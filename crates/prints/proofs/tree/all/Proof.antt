@@ -1,0 +1,42 @@
+-- `tree::all` is safe and ends: the place stays within the buffer, the open nodes keep their number of words, and the visits that are left fall. Assumes nothing.
+use borrow.Author.Needs.{needs}
+use Prim.Native.Nat.{_<_, _-_}
+use Rattle.prints.proofs.tree.all.Statement.{statement}
+use Rattle.prints.proofs.tree.all.Tie as tie
+
+abbrev Inv-loop : tie.InvT-loop
+Inv-loop out₀ at open₀ nodes names text visits n bare l₀ i₀ out «open» l i = l .at < 65536
+
+abbrev μ-loop : tie.MeasureT-loop
+μ-loop out₀ at open₀ nodes names text visits n bare l₀ i₀ out «open» l i = n - i
+
+loop-holds : tie.Need-loop-holds Inv-loop μ-loop
+loop-holds c = search needs
+
+visited-requires : tie.Need-visited-requires Inv-loop μ-loop
+visited-requires c κs = search needs
+
+add-i : tie.Need-add-i Inv-loop μ-loop
+add-i c = search needs
+
+loop-less : tie.Need-loop-less Inv-loop μ-loop
+loop-less c = search needs
+
+loop-again : tie.Need-loop-again Inv-loop μ-loop
+loop-again c = search needs
+
+returns : tie.Need-returns Inv-loop μ-loop
+returns c = search needs
+
+pub all-spec : {M : Type 1} → statement M
+all-spec =
+    tie.close
+    (tie.spec
+    Inv-loop
+    μ-loop
+    loop-holds
+    visited-requires
+    add-i
+    loop-less
+    loop-again
+    returns)
