@@ -22,7 +22,7 @@ use Rattle.rules.specs.Read as rules
 use Rattle.rules.specs.Read.{Lent, lend, given, denied, withKey, Called, written}
 use Rattle.rules.proofs.TokenLaws.{text-few, words-few, word-inside, word-sized}
 use Rattle.rules.proofs.Theorems.{tree-fits, tree-low, nodes-used, nodes-few, notes-few, key-short, names-spelled}
-use Rattle.marks.specs.State.{noteAt, notingWords, notesOf, view, Sound, Spelt}
+use Rattle.marks.specs.State.{notesOf, view, Sound, Spelt}
 use Rattle.marks.specs.Laid.{runIn, wasAt, Laid}
 use Rattle.marks.proofs.LaidLaws.{length-notes}
 use Rattle.marks.specs.declared.state.Mark.{Mark}
@@ -60,9 +60,9 @@ module _ (text W : List ℕ) (start : ℕ) (parens : Bool) (l : Lent) (passed : 
     pub few-used : q .used < 2 ^ 32
     few-used = omega (arith, nodes-few g start bytes passed is)
 
-    -- Its diagnostics stand in the call's own words.
-    pub noted-in : {n : ℕ} → notingWords ≤ n → noteAt (q .noted) ≤ n
-    noted-in h = omega (arith, notes-few g start bytes passed is, length-notes O' (q .noted))
+    -- It has few diagnostics.
+    pub few-noted : q .noted ≤ mostNotes
+    few-noted = omega (arith, notes-few g start bytes passed is, length-notes O' (q .noted))
 
     -- It stands in the slices.
     pub held : (N M O : List ℕ) {N' M' : List ℕ} → length M' ≡ length M → Laid (wasAt 0 0 0 N M O) (runIn 0 t) (q .used) (q .named) (q .noted) N' M' O' → HeldIn text N' M' q t

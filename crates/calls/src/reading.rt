@@ -2,11 +2,11 @@
 ghost use mathlib.Core.Path.{_≡_};
 ghost use Prim.Native.Nat.{_*_, _≤_, _<_, _^_};
 ghost use lib.ListN.{length};
+ghost use Rattle.words.specs.Limits.{mostNotes};
 ghost use Rattle.words.specs.Check.{sound, check as checkOf};
 ghost use Rattle.keys.specs.Limits.{recordWords};
 ghost use Rattle.keys.specs.Placed.{Placed};
 ghost use Rattle.rules.specs.Notes.{noteWidth};
-ghost use Rattle.marks.specs.State.{noteAt, notingWords};
 ghost use Rattle.calls.specs.Reading.{Reads, Refuses, NoSpace, Held, Finishes, Wrote};
 use key_out::out::put_key;
 use keys::store;
@@ -95,14 +95,14 @@ fn put(nodes: &[u64], names: &[u64], text: &[u8], root: usize, key: &mut [u8]) -
 // A tree that was read up to a mark gets its key; 11 where that or the names find no space.
 fn finish(
     text: &[u8],
-    noting: &[u64],
+    noting: &[u64; Noting::WORDS],
     nodes: &mut [u64],
     names: &mut [u64],
     notes: &mut [u64],
     key: &mut [u8],
     q: Mark,
 ) -> Reading
-    requires { ⌜ (0 < q .used) × (q .used < 2 ^ 32) × (q .used * recordWords ≤ length (now nodes)) × (noteAt (q .noted) ≤ length (now noting)) × (q .noted * noteWidth ≤ length (now notes)) ⌝ }
+    requires { ⌜ (0 < q .used) × (q .used < 2 ^ 32) × (q .used * recordWords ≤ length (now nodes)) × (q .noted ≤ mostNotes) × (q .noted * noteWidth ≤ length (now notes)) ⌝ }
     ensures { λ r. ⌜ ((t : Placed) → Held text nodes names q t → Finishes noting nodes names notes key q t r) ⌝ }
 {
     if names.len() < q.named {
@@ -132,13 +132,13 @@ fn read_noting(
     tokens: &[u64],
     start: usize,
     preserve_parens: bool,
-    noting: &mut [u64],
+    noting: &mut [u64; Noting::WORDS],
     nodes: &mut [u64],
     names: &mut [u64],
     notes: &mut [u64],
     key: &mut [u8],
 ) -> Reading
-    requires { ⌜ (checkOf (now text) (now tokens) start ≡ sound) × (notingWords ≤ length (now noting)) ⌝ }
+    requires { ⌜ checkOf (now text) (now tokens) start ≡ sound ⌝ }
     ensures { λ r. ⌜ Reads nodes names notes key text tokens start «preserve_parens» r ⌝ }
 {
     let classes = class_words();
