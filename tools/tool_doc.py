@@ -1,16 +1,17 @@
 #!/usr/bin/env python3
-"""Keeps what docs/TOOL.md and the gate show of the tool as the tool prints it, run over target/bin/typekey (build_tool.sh).
+"""Keeps what docs/TOOL.md, tests/tool/diff.md and the gate show of the tool as the tool prints it, run over target/bin/typekey (build_tool.sh).
 
-    tool_doc.py           run each command of docs/TOOL.md and write its output below it; write crates/tool/stdin and stdout
-    tool_doc.py --check   say whether all three are as this would write them, and write nothing
+    tool_doc.py           run each command of the two pages and write its output below it; write crates/tool/stdin and stdout
+    tool_doc.py --check   say whether all four are as this would write them, and write nothing
 
-A command is a line that begins `$ ` in a block of the page; what the tool prints for it stands below, up to the next one
+A command is a line that begins `$ ` in a block of a page; what the tool prints for it stands below, up to the next one
 or the end of the block. The gate runs the tool on crates/tool/stdin with crates/tool/args: the twelve rows, then a text for
 each refusal that a line can meet, and one for each diagnostic.
 """
 import os
 import subprocess
 import sys
+from concurrent.futures import ThreadPoolExecutor
 
 ROOT = os.path.dirname(os.path.dirname(os.path.abspath(__file__)))
 sys.path.insert(0, os.path.join(ROOT, "tools"))
@@ -57,15 +58,18 @@ def shell(command):
     return r.stdout.decode()
 
 
-def page():
-    at = os.path.join(ROOT, "docs", "TOOL.md")
+def page(*path):
+    at = os.path.join(ROOT, *path)
+    lines = open(at).read().split("\n")
+    with ThreadPoolExecutor(os.cpu_count()) as pool:
+        said = {c: pool.submit(shell, c[2:]) for c in lines if c.startswith("$ ")}
     out, inside, skip = [], False, False
-    for line in open(at).read().split("\n"):
+    for line in lines:
         if line.startswith("```"):
             inside, skip = not inside, False
         if inside and line.startswith("$ "):
             out.append(line)
-            out.extend(shell(line[2:]).rstrip("\n").split("\n"))
+            out.extend(said[line].result().rstrip("\n").split("\n"))
             skip = True
         elif not skip:
             out.append(line)
@@ -78,7 +82,7 @@ def main():
     if not os.path.exists(TOOL):
         sys.exit("no target/bin/typekey: run tools/build_tool.sh")
     wrong = 0
-    for path, want in {**gate(), **page()}.items():
+    for path, want in {**gate(), **page("docs", "TOOL.md"), **page("tests", "tool", "diff.md")}.items():
         have = open(path, "rb").read() if os.path.exists(path) else None
         name = os.path.relpath(path, ROOT)
         if sys.argv[1:]:

@@ -1,7 +1,8 @@
 #!/bin/sh
 # try_bindings.sh: runs the tests and examples of C, Rust, Python and JavaScript over the library in target/lib, or in the
-# folder that TYPEKEY_LIB names. If it is not in target/lib, it is built there first, without proof. One line for each part; a
-# part that can't be run here is skipped and says so; of a part that fails all that it printed is shown. Exit 1 if one fails.
+# folder that TYPEKEY_LIB names; if it is not in target/lib, it is built there first, without proof. Then the cases of the tool.
+# One line for each part; a part that can't be run here is skipped and says so; of a part that fails all that it printed is
+# shown. Exit 1 if one fails.
 set -eu
 root=$(cd "$(dirname "$0")/.." && pwd -P)
 if [ -z "${TYPEKEY_LIB:-}" ]; then
@@ -38,5 +39,6 @@ part python3 bindings/python/run_tests.sh
 part python3 examples/python/run.sh
 part node bindings/js/run_tests.sh "$TYPEKEY_LIB/typekey.wasm"
 part node examples/js/run.sh "$TYPEKEY_LIB/typekey.wasm"
+part python3 tools/try_tool.sh
 echo "bindings: $tried tried, $failed failed, $skipped skipped"
 [ "$failed" = 0 ]

@@ -12,6 +12,7 @@ use speech::put::Shape;
 use speech::put::copy;
 use speech::put::more;
 use speech::put::numbered;
+use speech::put::pick;
 use speech::put::times;
 use speech::say;
 use speech::say::Note;
@@ -53,7 +54,7 @@ fn node(
 }
 
 // A comma, unless what follows is the first.
-fn comma(out: &mut [u8; 65536], at: usize, first: bool) -> usize
+pub fn comma(out: &mut [u8; 65536], at: usize, first: bool) -> usize
     requires { ⌜ at < 65536 ⌝ }
     ensures { λ r. ⌜ r < 65536 ⌝ }
 {
@@ -275,12 +276,26 @@ pub fn key(out: &mut [u8; 65536], at: usize, key: &[u8], n: usize) -> usize
     byte(out, q, b'"')
 }
 
-// How a refusal begins: its number, its name and what it means.
-pub fn refusal(out: &mut [u8; 65536], at: usize, number: usize, ends: bool) -> usize
+// How an answer begins that is none: its side if there are two.
+pub fn failed(out: &mut [u8; 65536], at: usize, side: usize) -> usize
     requires { ⌜ at < 65536 ⌝ }
     ensures { λ r. ⌜ r < 65536 ⌝ }
 {
-    let p = numbered(out, at, b"{\"ok\":false,\"refused\":{\"number\":", number);
+    pick(
+        out,
+        at,
+        b"{\"ok\":false,|{\"ok\":false,\"side\":\"left\",|{\"ok\":false,\"side\":\"right\",|",
+        side,
+    )
+}
+
+// How a refusal begins: its side if there are two, its number, its name and what it means.
+pub fn refusal(out: &mut [u8; 65536], at: usize, side: usize, number: usize, ends: bool) -> usize
+    requires { ⌜ at < 65536 ⌝ }
+    ensures { λ r. ⌜ r < 65536 ⌝ }
+{
+    let o = failed(out, at, side);
+    let p = numbered(out, o, b"\"refused\":{\"number\":", number);
     let q = bytes(out, p, b",\"name\":\"");
     let r = say::refusal(out, q, number);
     let s = bytes(out, r, b"\",\"why\":\"");

@@ -46,7 +46,7 @@ fn end_byte(tokens: &[u64], c: Extent) -> usize {
 }
 
 // Whether nothing is left.
-fn is_whole(tokens: &[u64], at: usize) -> bool {
+pub fn is_whole(tokens: &[u64], at: usize) -> bool {
     token::kind(word_at(tokens, at)) == 0
 }
 
@@ -479,18 +479,19 @@ fn refused_json(
     tokens: &[u64],
     x: Stop,
     line: usize,
+    side: usize,
 ) -> usize
     requires { ⌜ at < 65536 ⌝ }
     ensures { λ r. ⌜ r < 65536 ⌝ }
 {
     let first = refused_at(tokens, x);
-    let p = json::refusal(out, at, x.number, is_whole(tokens, x.token));
+    let p = json::refusal(out, at, side, x.number, is_whole(tokens, x.token));
     let q = refused_place(out, p, x, first);
     let r = place::json(out, q, place_of(text, first, line));
     bytes(out, r, b"}}\n")
 }
 
-// A refusal, in the form that is asked for.
+// A refusal, in the form that is asked for, with its side if there are two.
 pub fn refused(
     out: &mut [u8; 65536],
     at: usize,
@@ -502,11 +503,52 @@ pub fn refused(
     requires { ⌜ at < 65536 ⌝ }
     ensures { λ r. ⌜ r < 65536 ⌝ }
 {
-    if job.form == Form::KEY {
-        return refused_line(out, at, text, tokens, x, job.line);
-    }
     if job.form == Form::JSON {
-        return refused_json(out, at, text, tokens, x, job.line);
+        return refused_json(out, at, text, tokens, x, job.line, job.side);
     }
-    refused_all(out, at, text, tokens, x, job.line)
+    let p = say::side(out, at, job.side);
+    if job.form == Form::KEY {
+        return refused_line(out, p, text, tokens, x, job.line);
+    }
+    refused_all(out, p, text, tokens, x, job.line)
+}
+
+// ---- A type that is compared
+
+fn unread_json(
+    out: &mut [u8; 65536],
+    at: usize,
+    text: &[u8],
+    tokens: &[u64],
+    c: Extent,
+    job: Job,
+) -> usize
+    requires { ⌜ at < 65536 ⌝ }
+    ensures { λ r. ⌜ r < 65536 ⌝ }
+{
+    let p = json::failed(out, at, job.side);
+    let q = numbered(out, p, b"\"rest\":{\"token\":", c.at);
+    let r = numbered(out, q, b",\"half\":", c.half);
+    let s = byte(out, r, b',');
+    let t = place::json(out, s, place_of(text, end_byte(tokens, c), job.line));
+    bytes(out, t, b"}}\n")
+}
+
+// What stands behind a type that is to be compared whole.
+pub fn unread(
+    out: &mut [u8; 65536],
+    at: usize,
+    text: &[u8],
+    tokens: &[u64],
+    c: Extent,
+    job: Job,
+) -> usize
+    requires { ⌜ at < 65536 ⌝ }
+    ensures { λ r. ⌜ r < 65536 ⌝ }
+{
+    if job.form == Form::JSON {
+        return unread_json(out, at, text, tokens, c, job);
+    }
+    let p = say::side(out, at, job.side);
+    rest(out, p, text, tokens, c, job.line)
 }

@@ -29,7 +29,17 @@ fn refused_all(out: &mut [u8; 65536], at: usize, key: &[u8], number: usize, bit:
     pointed(out, u, key, bit)
 }
 
-// A refusal, in the form that is asked for.
+fn refused_line(out: &mut [u8; 65536], at: usize, number: usize, bit: usize) -> usize
+    requires { ⌜ at < 65536 ⌝ }
+    ensures { λ r. ⌜ r < 65536 ⌝ }
+{
+    let p = bytes(out, at, b"refused ");
+    let q = say::refusal(out, p, number);
+    let r = numbered(out, q, b" at bit ", bit);
+    byte(out, r, b'\n')
+}
+
+// A refusal, in the form that is asked for, with its side if there are two.
 pub fn refused(
     out: &mut [u8; 65536],
     at: usize,
@@ -37,22 +47,21 @@ pub fn refused(
     number: usize,
     bit: usize,
     form: usize,
+    side: usize,
 ) -> usize
     requires { ⌜ at < 65536 ⌝ }
     ensures { λ r. ⌜ r < 65536 ⌝ }
 {
-    if form == Form::KEY {
-        let p = bytes(out, at, b"refused ");
-        let q = say::refusal(out, p, number);
-        let r = numbered(out, q, b" at bit ", bit);
-        return byte(out, r, b'\n');
-    }
     if form == Form::JSON {
-        let p = json::refusal(out, at, number, false);
+        let p = json::refusal(out, at, side, number, false);
         let q = numbered(out, p, b",\"bit\":", bit);
         return bytes(out, q, b"}}\n");
     }
-    refused_all(out, at, key, number, bit)
+    let p = say::side(out, at, side);
+    if form == Form::KEY {
+        return refused_line(out, p, number, bit);
+    }
+    refused_all(out, p, key, number, bit)
 }
 
 // A tree without bytes of a text, in the form that is asked for.

@@ -26,12 +26,14 @@ impl Tag {
     pub const PARAMETER: usize = 26;
 }
 
-// What is known of an open node: its tag, how far its choices are, whether it has a name yet, its children so far, 7 for more.
-struct Known {
-    tag: usize,
-    phase: usize,
-    named: bool,
-    kids: usize,
+// What is known of an open node: its tag, how far its choices are, whether it has a child yet, its children and its names
+// since the last choice.
+pub struct Known {
+    pub tag: usize,
+    pub phase: usize,
+    pub any: bool,
+    pub kids: usize,
+    pub names: usize,
 }
 
 // The place in the buffer, and whose line is being written: the depth of its names, 0 if nobody's.
@@ -42,13 +44,14 @@ struct Line {
 
 // ---- Open nodes, a word for each depth
 
-fn known_at(open: &[u64], depth: usize) -> Known {
+pub fn known_at(open: &[u64], depth: usize) -> Known {
     let w = word_at(open, depth);
     Known {
         tag: (w % 64) as usize,
         phase: (w / 64 % 16) as usize,
-        named: w / 1024 % 2 == 1,
-        kids: (w / 2048 % 8) as usize,
+        any: w / 1024 % 2 == 1,
+        kids: (w / 2048 % 65536) as usize,
+        names: (w / 134217728 % 65536) as usize,
     }
 }
 
@@ -60,21 +63,20 @@ fn keep(open: &mut [u64; 260], depth: usize, k: Known) {
     if depth < 260 {
         open[depth] = (k.tag % 64
             + 64 * (k.phase % 16)
-            + 1024 * (bit(k.named) % 2)
-            + 2048 * (k.kids % 8)) as u64;
+            + 1024 * (bit(k.any) % 2)
+            + 2048 * (k.kids % 65536)
+            + 134217728 * (k.names % 65536)) as u64;
         return;
     }
 }
 
 fn one_more_kid(k: Known) -> Known {
-    if 7 <= k.kids {
-        return k;
-    }
     Known {
         tag: k.tag,
         phase: k.phase,
-        named: k.named,
-        kids: k.kids + 1,
+        any: true,
+        kids: more(k.kids),
+        names: k.names,
     }
 }
 
@@ -122,7 +124,7 @@ fn role_of(k: Known, child: usize) -> usize {
     }
 }
 
-fn role(out: &mut [u8; 65536], at: usize, k: Known, child: usize) -> usize
+pub fn role(out: &mut [u8; 65536], at: usize, k: Known, child: usize) -> usize
     requires { ⌜ at < 65536 ⌝ }
     ensures { λ r. ⌜ r < 65536 ⌝ }
 {
@@ -213,7 +215,7 @@ fn arguments_word(phase: usize, number: usize) -> usize {
     0
 }
 
-fn choice_word(tag: usize, phase: usize, number: usize) -> usize {
+pub fn choice_word(tag: usize, phase: usize, number: usize) -> usize {
     if phase == 0 {
         return 0;
     }
@@ -333,8 +335,9 @@ fn fresh(tag: usize) -> Known {
     Known {
         tag,
         phase: 0,
-        named: false,
+        any: false,
         kids: 0,
+        names: 0,
     }
 }
 
@@ -345,6 +348,43 @@ fn above(open: &mut [u64; 260], depth: usize) -> Known {
     }
     let k = known_at(open, depth - 1);
     keep(open, depth - 1, one_more_kid(k));
+    k
+}
+
+// A node is met; what is known of the one above.
+pub fn entered(open: &mut [u64; 260], v: Visit, tag: usize) -> Known {
+    let k = above(open, v.depth);
+    keep(open, v.depth, fresh(tag));
+    k
+}
+
+// A choice is met; what is known of its node so far.
+pub fn choosing(open: &mut [u64; 260], v: Visit) -> Known {
+    let d = owner(v.depth);
+    let k = known_at(open, d);
+    let next = Known {
+        tag: k.tag,
+        phase: next_phase(k.tag, k.phase, v.number),
+        any: k.any,
+        kids: 0,
+        names: 0,
+    };
+    keep(open, d, next);
+    k
+}
+
+// A name is met; what is known of its node so far.
+pub fn naming(open: &mut [u64; 260], v: Visit) -> Known {
+    let d = owner(v.depth);
+    let k = known_at(open, d);
+    let next = Known {
+        tag: k.tag,
+        phase: k.phase,
+        any: k.any,
+        kids: k.kids,
+        names: more(k.names),
+    };
+    keep(open, d, next);
     k
 }
 
@@ -361,9 +401,8 @@ fn node(
     ensures { λ r. ⌜ r .at < 65536 ⌝ }
 {
     let p = ended(out, l);
-    let k = above(open, v.depth);
+    let k = entered(open, v, tag);
     let q = headed(out, p, v.depth, k, tag);
-    keep(open, v.depth, fresh(tag));
     let r = span(out, q, nodes, v.number, bare);
     Line {
         at: r,
@@ -372,14 +411,14 @@ fn node(
 }
 
 // The depth of the node that a choice or a name belongs to.
-fn owner(depth: usize) -> usize {
+pub fn owner(depth: usize) -> usize {
     if depth == 0 {
         return 0;
     }
     depth - 1
 }
 
-fn chosen(out: &mut [u8; 65536], at: usize, word: usize) -> usize
+pub fn chosen(out: &mut [u8; 65536], at: usize, word: usize) -> usize
     requires { ⌜ at < 65536 ⌝ }
     ensures { λ r. ⌜ r < 65536 ⌝ }
 {
@@ -397,8 +436,9 @@ fn choice_said(out: &mut [u8; 65536], l: Line, depth: usize, k: Known, number: u
 {
     if k.phase == 1 {
         if k.tag == 2 {
+            let q = byte(out, l.at, b' ');
             return Line {
-                at: say::keyword(out, l.at, number),
+                at: say::keyword(out, q, number),
                 of: l.of,
             };
         }
@@ -418,23 +458,15 @@ fn choice(out: &mut [u8; 65536], l: Line, open: &mut [u64; 260], v: Visit) -> Li
     requires { ⌜ l .at < 65536 ⌝ }
     ensures { λ r. ⌜ r .at < 65536 ⌝ }
 {
-    let d = owner(v.depth);
-    let k = known_at(open, d);
-    let next = Known {
-        tag: k.tag,
-        phase: next_phase(k.tag, k.phase, v.number),
-        named: k.named,
-        kids: k.kids,
-    };
-    keep(open, d, next);
+    let k = choosing(open, v);
     choice_said(out, l, v.depth, k, v.number)
 }
 
 // What stands before a name on its node's line: a dot behind another name, nothing behind a minus, else a space.
-fn name_lead(k: Known) -> usize {
+pub fn name_lead(k: Known) -> usize {
     let tag = k.tag;
     match tag {
-        1 | 17 => bit(k.named),
+        1 | 17 => bit(k.names != 0),
         18 => bit(k.phase == 3),
         3 => { if k.phase == 3 { 2 } else { 0 } }
         _ => 0,
@@ -482,15 +514,7 @@ fn name(
     requires { ⌜ l .at < 65536 ⌝ }
     ensures { λ r. ⌜ r .at < 65536 ⌝ }
 {
-    let d = owner(v.depth);
-    let k = known_at(open, d);
-    let next = Known {
-        tag: k.tag,
-        phase: k.phase,
-        named: true,
-        kids: k.kids,
-    };
-    keep(open, d, next);
+    let k = naming(open, v);
     let p = led(out, l, v.depth, k);
     Line {
         at: spelling(out, p, names, text, v.number, Shape::SHOWN),

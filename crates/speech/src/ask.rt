@@ -40,6 +40,10 @@ impl From {
     pub const HELP: usize = 6;
 
     pub const VERSION: usize = 7;
+
+    pub const KEYS: usize = 8;
+
+    pub const TYPES: usize = 9;
 }
 
 // The numbers of the options that take a value, in the list of options.
@@ -51,6 +55,14 @@ impl Valued {
     const BACK: usize = 10;
 
     const ROOM: usize = 11;
+
+    const DIFF: usize = 15;
+
+    const DIFF_TYPES: usize = 16;
+
+    const SECOND_KEY: usize = 17;
+
+    const SECOND_TYPE: usize = 18;
 }
 
 // What was wrong, as numbers of a list.
@@ -70,12 +82,13 @@ impl Wrong {
     const LONG: usize = 6;
 }
 
-// All that was asked: what to print and to read, and the argument that names it; brackets, nodes and bytes to lend; the option
-// that waits for its value; whether only texts follow; what was wrong, and in which argument.
+// All that was asked: what to print and to read, the argument that names it, and the first where two are compared; brackets, nodes
+// and bytes to lend; the option that waits for its value; whether only texts follow; what was wrong, and in which argument.
 pub struct Asked {
     pub form: usize,
     pub from: usize,
     pub argument: usize,
+    pub first: usize,
     pub parens: bool,
     pub room: usize,
     pub space: usize,
@@ -90,6 +103,7 @@ fn nothing() -> Asked {
         form: 0,
         from: From::NOTHING,
         argument: 0,
+        first: 0,
         parens: false,
         room: 1_000_000_000,
         space: 1_000_000_000,
@@ -207,6 +221,28 @@ fn lending(a: Asked, i: usize, n: usize) -> Asked {
     b
 }
 
+// The first of two; the second is waited for.
+fn halved(a: Asked, i: usize, wants: usize) -> Asked {
+    let mut b = a;
+    b.first = i;
+    b.wants = wants;
+    b
+}
+
+// The value that an option of two values waits for.
+fn with_two(a: Asked, i: usize) -> Asked {
+    if a.wants == Valued::DIFF {
+        return halved(a, i, Valued::SECOND_KEY);
+    }
+    if a.wants == Valued::DIFF_TYPES {
+        return halved(a, i, Valued::SECOND_TYPE);
+    }
+    if a.wants == Valued::SECOND_KEY {
+        return sourced(a, From::KEYS, i);
+    }
+    sourced(a, From::TYPES, i)
+}
+
 // The value that an option waits for.
 fn with_value(a: Asked, i: usize, word: &[u8]) -> Asked {
     if a.wants == Valued::FILE {
@@ -214,6 +250,9 @@ fn with_value(a: Asked, i: usize, word: &[u8]) -> Asked {
     }
     if a.wants == Valued::BACK {
         return sourced(a, From::KEY, i);
+    }
+    if Valued::DIFF <= a.wants {
+        return with_two(a, i);
     }
     lending(a, i, number(word))
 }
@@ -232,7 +271,7 @@ fn free(a: Asked, i: usize, word: &[u8]) -> Asked {
         return sourced(a, From::ARGUMENT, i);
     }
     let k = entry_of(
-        b"--key|--tree|--json|--all|--parens|--batch|--help|--version|--file|--back|--room|--space|--|-|",
+        b"--key|--tree|--json|--all|--parens|--batch|--help|--version|--file|--back|--room|--space|--|-|--diff|--diff-types|",
         word,
         0,
         word.len(),
@@ -327,13 +366,15 @@ pub fn complain(out: &mut [u8; 65536], a: Asked, buffer: &mut [u8]) {
 
 // ---- A job
 
-// How a type is read and printed: the form, brackets, the most nodes and bytes of key to lend, the number of the text's first line.
+// How a type is read and printed: the form, brackets, the most nodes and bytes of key to lend, the number of the text's first line;
+// the side, 1 or 2, where two are compared.
 pub struct Job {
     pub form: usize,
     pub parens: bool,
     pub room: usize,
     pub space: usize,
     pub line: usize,
+    pub side: usize,
 }
 
 // The form, where none was asked for: keys for lines, all for one type.
@@ -355,5 +396,20 @@ pub fn job_of(a: Asked) -> Job {
         room: a.room,
         space: a.space,
         line: 1,
+        side: 0,
     }
+}
+
+// A job for the line of a number.
+pub fn for_line(job: Job, line: usize) -> Job {
+    let mut j = job;
+    j.line = line;
+    j
+}
+
+// A job for one of two sides.
+pub fn on_side(job: Job, side: usize) -> Job {
+    let mut j = job;
+    j.side = side;
+    j
 }

@@ -172,14 +172,3 @@ pub fn trimmed(text: &[u8], size: usize) -> usize {
     }
     size
 }
-
-// A job for the line of a number.
-pub fn for_line(job: Job, line: usize) -> Job {
-    Job {
-        form: job.form,
-        parens: job.parens,
-        room: job.room,
-        space: job.space,
-        line,
-    }
-}

@@ -36,3 +36,10 @@ pub fn note_room() -> [u64; 96]
 {
     [0; 96]
 }
+
+// The words of 4,096 pairs of places.
+pub fn list_room() -> [u64; 8192]
+    ensures { λ r. ⌜ 8192 ≡ length r ⌝ }
+{
+    [0; 8192]
+}

@@ -6,6 +6,14 @@ use crate::put::pick;
 use crate::put::thrice;
 use words::cursor::word_at;
 
+// Which of two things is spoken of, if there are two.
+pub fn side(out: &mut [u8; 65536], at: usize, number: usize) -> usize
+    requires { ⌜ at < 65536 ⌝ }
+    ensures { λ r. ⌜ r < 65536 ⌝ }
+{
+    pick(out, at, b"|left: |right: |", number)
+}
+
 // The name of a refusal.
 pub fn refusal(out: &mut [u8; 65536], at: usize, number: usize) -> usize
     requires { ⌜ at < 65536 ⌝ }
@@ -87,7 +95,7 @@ pub fn tag(out: &mut [u8; 65536], at: usize, number: usize) -> usize
     )
 }
 
-// The word of a keyword, after a space.
+// The word of a keyword.
 pub fn keyword(out: &mut [u8; 65536], at: usize, number: usize) -> usize
     requires { ⌜ at < 65536 ⌝ }
     ensures { λ r. ⌜ r < 65536 ⌝ }
@@ -95,7 +103,7 @@ pub fn keyword(out: &mut [u8; 65536], at: usize, number: usize) -> usize
     pick(
         out,
         at,
-        b" any| bigint| boolean| never| null| number| object| string| symbol| this| undefined| unknown| void|",
+        b"any|bigint|boolean|never|null|number|object|string|symbol|this|undefined|unknown|void|",
         number,
     )
 }

@@ -43,7 +43,7 @@ fn takes(
             );
         }
         Taking::Refused(x) => {
-            return refused(out, at, key, x.number, x.bit, form);
+            return refused(out, at, key, x.number, x.bit, form, 0);
         }
     }
 }

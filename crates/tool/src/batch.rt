@@ -2,9 +2,9 @@
 ghost use Prim.Native.Nat.{_<_};
 use crate::show;
 use speech::ask::Job;
+use speech::ask::for_line;
 use speech::feed::Feed;
 use speech::feed::footed;
-use speech::feed::for_line;
 use speech::feed::headed;
 use speech::feed::line;
 use speech::feed::progress;

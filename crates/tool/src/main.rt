@@ -1,6 +1,7 @@
-// typekey: reads a TypeScript type and prints its tree, its diagnostics and its key, or takes a key back.
+// typekey: reads a TypeScript type and prints its tree, its diagnostics and its key, takes a key back, or says where two differ.
 mod back;
 mod batch;
+mod diff;
 mod show;
 
 ghost use Prim.Native.Nat.{_<_};
@@ -109,6 +110,9 @@ fn given(
             key,
             job_of(a),
         );
+    }
+    if From::KEYS <= a.from {
+        return diff::told(out, text, words, nodes, names, visits, key, a, job_of(a));
     }
     one(out, text, words, nodes, names, visits, key, a)
 }

@@ -17,7 +17,7 @@ use typekey::reading::Refused;
 use typekey::reading::read;
 
 // What the library answers, as it is printed.
-fn extent(c: Counts) -> Extent {
+pub fn extent(c: Counts) -> Extent {
     Extent {
         nodes: c.nodes,
         names: c.names,
@@ -29,7 +29,7 @@ fn extent(c: Counts) -> Extent {
 }
 
 // A refusal of the library, as it is printed.
-fn stop(x: Refused) -> Stop {
+pub fn stop(x: Refused) -> Stop {
     Stop {
         number: x.number,
         token: x.token,
@@ -78,12 +78,12 @@ fn reads(
 }
 
 // The words for nodes that so many tokens can need, and no more than asked.
-fn node_words(tokens: usize, room: usize) -> usize {
+pub fn node_words(tokens: usize, room: usize) -> usize {
     4 * least(least(tokens, 1_000_000) + 4, least(room, 1_000_000))
 }
 
 // The bytes for a key that a text and its tokens can need, and no more than asked.
-fn key_bytes(text: usize, tokens: usize, space: usize) -> usize {
+pub fn key_bytes(text: usize, tokens: usize, space: usize) -> usize {
     least(
         least(text, 1_000_000) + 12 * least(tokens, 1_000_000) + 16,
         space,
