@@ -11,8 +11,8 @@ use Rattle.words.specs.Cursor.{wordAt}
 use Rattle.keys.specs.Placed.{Spelling}
 use Rattle.rules.specs.Refusal.{unexpected}
 use Rattle.rules.specs.Names as names
-use Rattle.rules.specs.State.{Given, State, Result, read, refuse, refused, next, kind, spelling, turns}
-use Rattle.marks.specs.State.{AnyGiven, view, givenOf, Sound, Spelt, Inside, namedMark}
+use Rattle.rules.specs.State.{Given, State, Result, read, refused, next, kind, spelling, turns}
+use Rattle.marks.specs.State.{AnyGiven, view, givenOf, Declined, Sound, Spelt, Inside, namedMark}
 use Rattle.marks.specs.Laid.{Spoken}
 use Rattle.marks.specs.declared.state.Mark.{Mark}
 use Rattle.marks.specs.declared.state.Answer.{Answer}
@@ -38,7 +38,7 @@ pub record GotDots (l : List Spelling) (x : Result (List Spelling)) (m q : Mark)
 -- They were read, or refused.
 pub record SaysDots (l : List Spelling) (x : Result (List Spelling)) (why : ℕ) (m q : Mark) (M M' O : List ℕ) : Type 0 where
   pub done : why ≡ 0 → GotDots l x m q M M' O
-  pub refused : (why ≡ 0 → ⊥) → x ≡ refuse why (q .at) (q .half)
+  pub refused : Declined x why q
 
 -- Dots, each with a name, from a mark on, behind any names l.
 abbrev pub StartsDots : (W : List ℕ) (m : Mark) (M : List ℕ) (a : Answer) (M' : List ℕ) → Type 0

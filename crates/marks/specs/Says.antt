@@ -7,9 +7,9 @@ use Rattle.keys.specs.Bits.{unit}
 use Rattle.keys.specs.Placed.{Placed, Spelling, Opt, absent, present}
 use Rattle.keys.specs.Store.{Run, _⊕_}
 use Rattle.rules.specs.State as rule
-use Rattle.rules.specs.State.{State, Result, read, refuse}
+use Rattle.rules.specs.State.{State, Result, read}
 use Rattle.rules.specs.List.{count}
-use Rattle.marks.specs.State.{view, givenOf, Spelt}
+use Rattle.marks.specs.State.{view, givenOf, Spelt, Declined}
 use Rattle.marks.specs.Laid.{runIn, runOpt, optBit, runsOpt, IsNode, IsOpt, AllOpt, Was, was, BuiltAt, Stands, Spoken}
 use Rattle.marks.specs.declared.state.Given.{Given}
 use Rattle.marks.specs.declared.state.Mark.{Mark}
@@ -29,7 +29,7 @@ pub record Got (c : ℕ) (B : Was) (x : Result Placed) (high : ℕ) (m : Mark) (
 -- It was read, or refused.
 pub record Says (c : ℕ) (B : Was) (x : Result Placed) (a : Answer) (N M O : List ℕ) : Type 0 where
   pub done : a .why ≡ 0 → Got c B x (a .high) (a .m) N M O
-  pub refused : (a .why ≡ 0 → ⊥) → x ≡ refuse (a .why) (a .m .at) (a .m .half)
+  pub refused : Declined x (a .why) (a .m)
 
 -- A rule that begins at a mark: what it reads, from any text that is spelled so.
 abbrev pub Starts : (c : ℕ) (rule : rule.Given → State → Result Placed) (W : List ℕ) (given : Given) (m : Mark) (N M O : List ℕ) (a : Answer) (N' M' O' : List ℕ) → Type 0
@@ -46,7 +46,7 @@ pub record GotChild (B : Was) (t : Run) (x : Result Placed) (k : Kids) (m : Mark
 
 pub record SaysChild (B : Was) (t : Run) (x : Result Placed) (l : Listed) (N M O : List ℕ) : Type 0 where
   pub done : l .why ≡ 0 → GotChild B t x (l .kids) (l .m) N M O
-  pub refused : (l .why ≡ 0 → ⊥) → x ≡ refuse (l .why) (l .m .at) (l .m .half)
+  pub refused : Declined x (l .why) (l .m)
 
 -- The same of a type that may be absent.
 pub record GotOption (B : Was) (t : Run) (x : Result (Opt Placed)) (there : Bool) (k : Kids) (m : Mark) (N M O : List ℕ) : Type 0 where
@@ -58,7 +58,7 @@ pub record GotOption (B : Was) (t : Run) (x : Result (Opt Placed)) (there : Bool
 
 pub record SaysOption (B : Was) (t : Run) (x : Result (Opt Placed)) (l : Listed) (N M O : List ℕ) : Type 0 where
   pub done : l .why ≡ 0 → GotOption B t x (l .there) (l .kids) (l .m) N M O
-  pub refused : (l .why ≡ 0 → ⊥) → x ≡ refuse (l .why) (l .m .at) (l .m .half)
+  pub refused : Declined x (l .why) (l .m)
 
 -- ---- Names
 
@@ -71,7 +71,7 @@ pub record GotNames {A : Type 0} (R : A → List Spelling) (P : A → Type 0) (x
 
 pub record SaysNames {A : Type 0} (R : A → List Spelling) (P : A → Type 0) (x : Result A) (why : ℕ) (m q : Mark) (M M' O : List ℕ) : Type 0 where
   pub done : why ≡ 0 → GotNames R P x m q M M' O
-  pub refused : (why ≡ 0 → ⊥) → x ≡ refuse why (q .at) (q .half)
+  pub refused : Declined x why q
 
 -- A rule that begins at a mark and reads names alone: what it reads, from any text that is spelled so.
 abbrev pub StartsNames : {A : Type 0} (R : A → List Spelling) (P : A → Type 0) (rule : rule.Given → State → Result A) (W : List ℕ) (m : Mark) (M : List ℕ) (why : ℕ) (q : Mark) (M' : List ℕ) → Type 0
@@ -97,7 +97,7 @@ optNames (present s) = s ∷ []
 -- Only the cursor moved: a number was read, or refused.
 pub record SaysNumber (x : Result ℕ) (h : Head) (O : List ℕ) : Type 0 where
   pub done : h .why ≡ 0 → x ≡ read (h .choices) (view (h .m) O)
-  pub refused : (h .why ≡ 0 → ⊥) → x ≡ refuse (h .why) (h .m .at) (h .m .half)
+  pub refused : Declined x (h .why) (h .m)
 
 -- ---- Lists
 
@@ -117,4 +117,4 @@ pub record GotList (c : ℕ) (B : Was) (t : Run) (x : Result (Opt (List Placed))
 
 pub record SaysList (c : ℕ) (B : Was) (t : Run) (x : Result (Opt (List Placed))) (l : Listed) (N M O : List ℕ) : Type 0 where
   pub done : l .why ≡ 0 → GotList c B t x (l .there) (l .kids) (l .m) N M O
-  pub refused : (l .why ≡ 0 → ⊥) → x ≡ refuse (l .why) (l .m .at) (l .m .half)
+  pub refused : Declined x (l .why) (l .m)

@@ -12,7 +12,7 @@ use Rattle.words.specs.Check.{spelled}
 use Rattle.keys.specs.Limits.{recordWords}
 use Rattle.rules.specs.Notes.{Note, note, noteWidth}
 use Rattle.rules.specs.State as rule
-use Rattle.rules.specs.State.{State}
+use Rattle.rules.specs.State.{State, Result, refuse}
 use Rattle.marks.specs.declared.state.Given.{Given}
 use Rattle.marks.specs.declared.state.Mark.{Mark}
 use Rattle.marks.specs.declared.state.Kids.{Kids}
@@ -43,6 +43,10 @@ view m O = record { at = m .at; half = m .half; nodes = m .used; notes = notesOf
 -- What a reading is given, of a text.
 abbrev pub givenOf : List ℕ → List ℕ → Given → rule.Given
 givenOf text W g = record { text = text; words = W; parens = g .parens; room = g .room; records = g .records }
+
+-- A rule is refused as an answer says whose number is not 0: with that number, where the answer's mark stands.
+abbrev pub Declined : {A : Type 0} → Result A → (why : ℕ) → Mark → Type 0
+Declined x why q = (why ≡ 0 → ⊥) → x ≡ refuse why (q .at) (q .half)
 
 -- ---- Steps of a mark
 

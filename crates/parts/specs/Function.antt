@@ -14,12 +14,12 @@ use Rattle.keys.specs.Placed.{Placed, Spelling, Opt, absent, present}
 use Rattle.keys.specs.Store.{Run, done, _⊕_}
 use Rattle.rules.specs.Refusal.{unexpected, unsupported}
 use Rattle.rules.specs.State as rule
-use Rattle.rules.specs.State.{State, Result, Reader, read, refuse, refused, then, stands, past}
+use Rattle.rules.specs.State.{State, Result, Reader, read, refused, then, stands, past}
 use Rattle.rules.specs.List.{count}
 use Rattle.rules.specs.TypeParameters as types
 use Rattle.rules.specs.Function as function
 use Rattle.rules.specs.Function.{ThisParameter, Parameters}
-use Rattle.marks.specs.State.{view, givenOf, nextMark, pastMark, Sound, Spelt, Fine, Under}
+use Rattle.marks.specs.State.{view, givenOf, Declined, nextMark, pastMark, Sound, Spelt, Fine, Under}
 use Rattle.marks.specs.Laid.{runIn, runOpt, runs, runsOpt, IsNode, IsOpt, AllNodes, AllOpt, Was, BuiltAt}
 use Rattle.marks.specs.Says.{Says, SaysNames, one, isThere}
 use Rattle.marks.specs.Node.{Links, optList}
@@ -86,7 +86,7 @@ pub record GotParams (B : Was) (t : Run) (R : Opt ThisParameter → Run) (x : Re
 
 pub record SaysParams (B : Was) (t : Run) (R : Opt ThisParameter → Run) (x : Result Parameters) (p : Params) (N M O : List ℕ) : Type 0 where
   pub done : p .why ≡ 0 → GotParams B t R x p N M O
-  pub refused : (p .why ≡ 0 → ⊥) → x ≡ refuse (p .why) (p .m .at) (p .m .half)
+  pub refused : Declined x (p .why) (p .m)
 
 -- Parameters p with one child more, the tree that was read from q to a.
 abbrev pub LinksParams : (p : Params) (q : Mark) (a : Answer) (N : List ℕ) (r : Params) (N' : List ℕ) → Type 0

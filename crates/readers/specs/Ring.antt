@@ -11,11 +11,11 @@ use Rattle.words.specs.Class.{classWords}
 use Rattle.keys.specs.Placed.{Placed, Opt}
 use Rattle.keys.specs.Store.{Run, done, _⊕_}
 use Rattle.rules.specs.State as rule
-use Rattle.rules.specs.State.{State, Result, Reader, read, refuse, turns}
+use Rattle.rules.specs.State.{State, Result, Reader, read, turns}
 use Rattle.rules.specs.Function as function
 use Rattle.rules.specs.Function.{ThisParameter, Parameters, parametersOf}
 use Rattle.rules.specs.Reading.{readType}
-use Rattle.marks.specs.State.{view, givenOf, Sound, Spelt, Room, Fine, Under, placeOf}
+use Rattle.marks.specs.State.{view, givenOf, Declined, Sound, Spelt, Room, Fine, Under, placeOf}
 use Rattle.marks.specs.Laid.{runs, AllNodes, Was, was, BuiltAt, Stands}
 use Rattle.marks.specs.Says.{Says, SaysList, SaysChild, SaysOption}
 use Rattle.parts.specs.Function.{ThisIs, thisRun, SaysParams}
@@ -55,7 +55,7 @@ pub record GotRest (B : Was) (t : Run) (th : Opt ThisParameter) (x : Result Para
 -- They were read, or refused.
 pub record SaysRest (B : Was) (t : Run) (th : Opt ThisParameter) (x : Result Parameters) (p : Params) (N M O : List ℕ) : Type 0 where
   pub done : p .why ≡ 0 → GotRest B t th x p N M O
-  pub refused : (p .why ≡ 0 → ⊥) → x ≡ refuse (p .why) (p .m .at) (p .m .half)
+  pub refused : Declined x (p .why) (p .m)
 
 -- ---- What is asked
 
