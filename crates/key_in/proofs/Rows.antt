@@ -7,7 +7,7 @@ use native.Mathlib.Omega.{arith}
 use lib.Dec.{leb, ltb}
 use Rattle.keys.specs.Form.{Form, never, one, word, choose, both, child, Grammar, isNever}
 use Rattle.keys.specs.Limits.{newest, countWidth, tagWide, choicesWide}
-use Rattle.keys.specs.Table.{when, oneOf, times, flag, below, opt, needed, spelling, subject, list, args, rows, rowsOf, table, namedRow, typeParamRow, paramRow, literals, type, underRest}
+use Rattle.keys.specs.Table.{when, oneOf, times, flag, below, opt, needed, spelling, subject, list, args, rows, rowsOf, table, namedRow, typeParamRow, paramRow, propertyKey, signatureRow, literals, type, underRest}
 use Rattle.keys.specs.Key.{nodeTable}
 use Rattle.keys.specs.Lines.{inLine, lined}
 use Rattle.node_table.specs.Forms.{grammarOf, tableWords}
@@ -82,6 +82,32 @@ function-fine =
     both-at 13 14 refl refl (opt-fine (list-fine 12 0 refl child-fine))
     (both-at 2 12 refl refl (opt-fine opt-type-fine) (both-at 12 0 refl refl (list-fine 12 0 refl child-fine) child-fine))
 
+opt-params-fine : Fine (opt (list 12 0 (child 4))) 13
+opt-params-fine = opt-fine (list-fine 12 0 refl child-fine)
+
+params-fine : Fine (list 12 0 (child 5)) 12
+params-fine = list-fine 12 0 refl child-fine
+
+signature-fine : Fine (signatureRow 12) 28
+signature-fine =
+    both-at 13 15 refl refl opt-params-fine (both-at 2 13 refl refl (opt-fine opt-type-fine) (both-at 12 1 refl refl params-fine opt-type-fine))
+
+construct-fine : Fine (both (opt (list 12 0 (child 4))) (both (list 12 0 (child 5)) (opt type))) 26
+construct-fine = both-at 13 13 refl refl opt-params-fine (both-at 12 1 refl refl params-fine opt-type-fine)
+
+key-fine : Fine propertyKey 2
+key-fine = choose-at 0 (λ k. one-of-fine (more-fine word-fine (more-fine word-fine (more-fine word-fine none-fine))) k)
+
+property-fine : Fine (both flag (both propertyKey (both flag (opt type)))) 5
+property-fine = both-at 1 4 refl refl flag-fine (both-at 2 2 refl refl key-fine (both-at 1 1 refl refl flag-fine opt-type-fine))
+
+method-fine : Fine (both propertyKey (both flag (signatureRow 12))) 31
+method-fine = both-at 2 29 refl refl key-fine (both-at 1 28 refl refl flag-fine signature-fine)
+
+index-fine : Fine (both flag (both (opt (both spelling type)) type)) 2
+index-fine =
+    both-at 1 1 refl refl flag-fine (both-at 1 0 refl refl (opt-fine {n = 0} (both-at 0 0 refl refl word-fine child-fine)) child-fine)
+
 constructor-fine : Fine (both flag (both (opt (list 12 0 (child 4))) (both (list 12 0 (child 5)) type))) 26
 constructor-fine =
     both-at 1 25 refl refl flag-fine
@@ -128,7 +154,8 @@ rows-fine p q r =
     also (both-at 0 1 refl refl word-fine opt-type-fine, omega arith) also (both-at 2 0 refl refl (below-fine 2 3) child-fine, omega arith)
     also (function-fine, omega arith) also (constructor-fine, omega arith) also (mapped-fine, omega arith) also (template-fine, omega arith)
     also (predicate-fine, omega arith) also (dotted-fine, omega arith) also (import-fine, omega arith) also (list-fine 12 0 refl child-fine, omega arith)
-    also (p, omega arith) also (q, omega arith) also (r, omega arith) also (child-fine {n = 0}, omega arith) also (child-fine {n = 0}, omega arith) also none-fine
+    also (p, omega arith) also (q, omega arith) also (r, omega arith) also (child-fine {n = 0}, omega arith) also (child-fine {n = 0}, omega arith)
+    also (list-fine 12 0 refl child-fine, omega arith) also none-fine
 
 named-fine : Fine namedRow 54
 named-fine = fine-more (both-at 0 1 refl refl word-fine (both-at 1 0 refl refl flag-fine child-fine)) 54 (omega arith)
@@ -147,7 +174,10 @@ class-fine (suc (suc zero)) = rows-fine never-fine never-fine named-fine
 class-fine (suc (suc (suc zero))) = rows-fine child-fine child-fine never-fine
 class-fine (suc (suc (suc (suc zero)))) = more-fine type-param-fine none-fine
 class-fine (suc (suc (suc (suc (suc zero))))) = more-fine param-fine none-fine
-class-fine (suc (suc (suc (suc (suc (suc k)))))) = none-fine
+class-fine (suc (suc (suc (suc (suc (suc zero)))))) =
+    (property-fine, omega arith) also (method-fine, omega arith) also (signature-fine, omega arith) also (construct-fine, omega arith)
+    also (index-fine, omega arith) also none-fine
+class-fine (suc (suc (suc (suc (suc (suc (suc k))))))) = none-fine
 
 -- Every row of our node table is fine.
 pub table-fine : (c t : ℕ) → Fine (nodeTable .row c t) 54
@@ -158,7 +188,10 @@ tag-small zero = omega arith
 tag-small (suc zero) = omega arith
 tag-small (suc (suc zero)) = omega arith
 tag-small (suc (suc (suc zero))) = omega arith
-tag-small (suc (suc (suc (suc c)))) = omega arith
+tag-small (suc (suc (suc (suc zero)))) = omega arith
+tag-small (suc (suc (suc (suc (suc zero))))) = omega arith
+tag-small (suc (suc (suc (suc (suc (suc zero)))))) = omega arith
+tag-small (suc (suc (suc (suc (suc (suc (suc c))))))) = omega arith
 
 row-spans : (c t : ℕ) → Spans (lined nodeTable .row c t) (choicesWide - lined nodeTable .tagWidth c)
 row-spans c t =

@@ -5,7 +5,7 @@ use lib.ListN.{length}
 use Rattle.keys.specs.Form.{Form, Fits, Bytes}
 use Rattle.keys.specs.Limits.{countWidth, lengthWidth}
 use Rattle.keys.specs.Table.{type}
-use Rattle.keys.specs.Placed.{Placed, bare, Spelling, Opt, absent, present}
+use Rattle.keys.specs.Placed.{Placed, bare, Spelling, PropertyKey, Opt, absent, present}
 use Rattle.keys.specs.Key.{nodeTable}
 
 -- It has the form, positions aside: `Is type p` says that p is a type of the node table.
@@ -48,3 +48,13 @@ pub record IsNames (least : ℕ) (ss : List Spelling) : Type 0 where
 pub record IsPiece (p : Placed × Spelling) : Type 0 where
   pub type-is : Is type (p .0)
   pub spelling-is : IsSpelling (p .1)
+
+-- The key of a property that is a name, a string or a number.
+pub record IsPropertyKey (k : PropertyKey) : Type 0 where
+  pub known : k .which < 3
+  pub spelling-is : IsSpelling (k .spelling)
+
+-- A name and its type.
+pub record IsNamed (p : Spelling × Placed) : Type 0 where
+  pub name-is : IsSpelling (p .0)
+  pub type-is : Is type (p .1)

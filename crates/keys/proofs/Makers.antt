@@ -10,10 +10,10 @@ use lib.ListN.{length, length-append}
 use Rattle.keys.specs.Bits.{unit}
 use Rattle.keys.specs.Form.{Value, Form, never, one, choose, child, Fits, fits-one, fits-word, fits-choose, fits-both, fits-child}
 use Rattle.keys.specs.Limits.{countWidth}
-use Rattle.keys.specs.Table.{_⊗_, when, oneOf, times, flag, below, opt, spelling, type, element, underRest, underName, typeParam, param, literals, subject, namedRow, list, rows, rowsOf}
-use Rattle.keys.specs.Placed.{Placed, void, said, pick, join, tree, bare, Spelling, Opt, absent, present, spell, bit, number, entries, listed, spellings, listedNames, maybe, maybeList, maybeThis, subjectOf, pieces, reference, keyword, literal, parens, union, intersection, array, indexed, conditional, infer, operator, function, constructor, mapped, template, predicate, typeof, importType, tuple, optional, rest, named, nonNull, asked, typeParameter, parameter, tagOf, isAsked, optionalIf, asElement}
+use Rattle.keys.specs.Table.{_⊗_, when, oneOf, times, flag, below, opt, spelling, type, element, underRest, underName, typeParam, param, literals, subject, namedRow, propertyKey, member, signatureRow, list, rows, rowsOf}
+use Rattle.keys.specs.Placed.{Placed, void, said, pick, join, tree, bare, Spelling, Opt, absent, present, spell, bit, number, entries, listed, spellings, listedNames, maybe, maybeList, maybeThis, subjectOf, pieces, reference, keyword, literal, parens, union, intersection, array, indexed, conditional, infer, operator, function, constructor, mapped, template, predicate, typeof, importType, tuple, optional, rest, named, nonNull, asked, typeParameter, parameter, PropertyKey, spellKey, maybeNamed, signature, object, property, method, callSignature, constructSignature, indexSignature, tagOf, isAsked, optionalIf, asElement}
 use Rattle.keys.specs.Key.{nodeTable}
-use Rattle.keys.proofs.Fitting.{Is, IsSpelling, Each, IfAny, Few, IsList, IsNames, IsPiece}
+use Rattle.keys.proofs.Fitting.{Is, IsSpelling, Each, IfAny, Few, IsList, IsNames, IsPiece, IsPropertyKey, IsNamed}
 use Rattle.keys.proofs.BitsLaws.{clash}
 use Rattle.keys.proofs.FormLaws.{some}
 
@@ -34,8 +34,11 @@ bit-0 = omega arith
 bit-1 : 1 < 2 ^ 1
 bit-1 = omega arith
 
-tag : (t : ℕ) → T (ltb t 25) → t < 2 ^ 6
-tag t h = omega (arith, ltb→lt t 25 h)
+tag : (t : ℕ) → T (ltb t 26) → t < 2 ^ 6
+tag t h = omega (arith, ltb→lt t 26 h)
+
+sort : (t : ℕ) → T (ltb t 5) → t < 2 ^ 3
+sort t h = omega (arith, ltb→lt t 5 h)
 
 no-tag : 0 < 2 ^ 0
 no-tag = omega arith
@@ -99,6 +102,24 @@ subject-fits (present s) h = fits-choose bit-0 (spell-fits h)
 pieces-fit : (ps : List (Placed × Spelling)) → Each IsPiece ps → Has (times (length ps) (type ⊗ spelling)) (entries (pieces ps))
 pieces-fit [] h = fits-one
 pieces-fit (p ∷ ps) h = fits-both (fits-both (h .0 .type-is .fits) (spell-fits (h .0 .spelling-is))) (pieces-fit ps (h .1))
+
+key-by : (k : ℕ) {s : Spelling} → k < 3 → IsSpelling s → Has propertyKey (pick k (spell s))
+key-by zero h a = fits-choose {w = 2} {k = 0} (omega arith) (spell-fits a)
+key-by (suc zero) h a = fits-choose {w = 2} {k = 1} (omega arith) (spell-fits a)
+key-by (suc (suc zero)) h a = fits-choose {w = 2} {k = 2} (omega arith) (spell-fits a)
+key-by (suc (suc (suc k))) h a = absurd (omega arith)
+
+key-fits : {k : PropertyKey} → IsPropertyKey k → Has propertyKey (spellKey k)
+key-fits {k} h = key-by (k .which) (h .known) (h .spelling-is)
+
+maybeNamed-fits : (p : Opt (Spelling × Placed)) → IfAny IsNamed p → Has (opt (spelling ⊗ type)) (maybeNamed p)
+maybeNamed-fits absent h = fits-choose bit-0 fits-one
+maybeNamed-fits (present p) h = fits-choose bit-1 (fits-both (spell-fits (h .name-is)) (h .type-is .fits))
+
+signature-fits : (params : Opt (List Placed)) (this : Opt (Opt Placed)) {ps : List Placed} (r : Opt Placed)
+    → IfAny (IsList 0 typeParam) params → IfAny (IfAny (Is type)) this → IsList 0 param ps → IfAny (Is type) r → Has (signatureRow countWidth) (signature params this ps r)
+signature-fits params this r a b c d =
+    fits-both (maybeList-fits typeParam params a) (fits-both (maybeThis-fits this b) (fits-both (list-fits c) (maybe-fits type r d)))
 
 -- ---- One lemma for each entry of the node table
 module _ (first end : ℕ) where
@@ -207,6 +228,34 @@ module _ (first end : ℕ) where
   pub asked-is : {t : Placed} → Is type t → Is type (asked first end t)
   asked-is h = is (fits-child (tag 24 tt) (h .fits))
 
+  pub object-is : {ms : List Placed} → IsList 0 member ms → Is type (object first end ms)
+  object-is h = is (fits-child (tag 25 tt) (list-fits h))
+
+  pub property-is : (readonly : Bool) {k : PropertyKey} (question : Bool) (t : Opt Placed) → IsPropertyKey k → IfAny (Is type) t
+      → Is member (property first end readonly k question t)
+  property-is readonly question t a h =
+      is (fits-child (sort 0 tt) (fits-both (bit-fits readonly) (fits-both (key-fits a) (fits-both (bit-fits question) (maybe-fits type t h)))))
+
+  pub method-is : {k : PropertyKey} (question : Bool) (params : Opt (List Placed)) (this : Opt (Opt Placed)) {ps : List Placed} (r : Opt Placed)
+      → IsPropertyKey k → IfAny (IsList 0 typeParam) params → IfAny (IfAny (Is type)) this → IsList 0 param ps → IfAny (Is type) r
+      → Is member (method first end k question params this ps r)
+  method-is question params this r k a b c d =
+      is (fits-child (sort 1 tt) (fits-both (key-fits k) (fits-both (bit-fits question) (signature-fits params this r a b c d))))
+
+  pub callSignature-is : (params : Opt (List Placed)) (this : Opt (Opt Placed)) {ps : List Placed} (r : Opt Placed)
+      → IfAny (IsList 0 typeParam) params → IfAny (IfAny (Is type)) this → IsList 0 param ps → IfAny (Is type) r
+      → Is member (callSignature first end params this ps r)
+  callSignature-is params this r a b c d = is (fits-child (sort 2 tt) (signature-fits params this r a b c d))
+
+  pub constructSignature-is : (params : Opt (List Placed)) {ps : List Placed} (r : Opt Placed)
+      → IfAny (IsList 0 typeParam) params → IsList 0 param ps → IfAny (Is type) r → Is member (constructSignature first end params ps r)
+  constructSignature-is params r a c d =
+      is (fits-child (sort 3 tt) (fits-both (maybeList-fits typeParam params a) (fits-both (list-fits c) (maybe-fits type r d))))
+
+  pub indexSignature-is : (readonly : Bool) (p : Opt (Spelling × Placed)) {t : Placed} → IfAny IsNamed p → Is type t
+      → Is member (indexSignature first end readonly p t)
+  indexSignature-is readonly p a h = is (fits-child (sort 4 tt) (fits-both (bit-fits readonly) (fits-both (maybeNamed-fits p a) (h .fits))))
+
   pub typeParameter-is : {s : Spelling} (x d : Opt Placed) → IsSpelling s → IfAny (Is type) x → IfAny (Is type) d
       → Is typeParam (typeParameter first end s x d)
   typeParameter-is x d a b c = is (fits-child no-tag (fits-both (spell-fits a) (fits-both (maybe-fits type x b) (maybe-fits type d c))))
@@ -234,7 +283,7 @@ fewer-fits (more d) (suc t) h = fewer-fits d t h
 rows-fewer : (a b c : Form) → Fewer (rows countWidth never never never) (rows countWidth a b c)
 rows-fewer a b c =
     same (same (same (same (same (same (same (same (same (same (same (same (same (same (same (same (same (same (same (same
-    (more (more (more (same (same none))))))))))))))))))))))))
+    (more (more (more (same (same (same none)))))))))))))))))))))))))
 
 -- A class with a tag whose rows are those of a type, or more.
 widen : (c : ℕ) → nodeTable .tagWidth c ≡ 6 → Fewer (rowsOf countWidth 0) (rowsOf countWidth c) → {v : Value} → Fits nodeTable type v → Fits nodeTable (child c) v

@@ -51,6 +51,10 @@ lengthWidth = 16
 abbrev pub tagWide : ℕ
 tagWide = 6
 
+-- The width of a member's sort, which stands in the place of a tag.
+abbrev pub sortWide : ℕ
+sortWide = 3
+
 -- The widest field that is put or taken.
 abbrev pub widest : ℕ
 widest = 24

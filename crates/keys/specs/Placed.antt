@@ -1,5 +1,5 @@
 -- Trees with positions, as a reading makes them: one maker for each entry of the node table, and the tests that rules ask of a node (01, The key; Reading rules).
-use mathlib.Core.Bool.{Bool, true, false, _&&_}
+use mathlib.Core.Bool.{Bool, true, false, not, _&&_, _||_}
 use mathlib.Core.List.{List, [], _∷_, _++_}
 use Prim.Native.Nat.{ℕ, zero, suc, _+_}
 use lib.Dec.{eqb}
@@ -102,6 +102,24 @@ abbrev pub pieces : List (Placed × Spelling) → List Placed
 pieces [] = []
 pieces (p ∷ ps) = join (p .0) (spell (p .1)) ∷ pieces ps
 
+-- The key of a property: which of name, string, number it is, from 0, and its spelling.
+pub record PropertyKey : Type 0 where
+  pub which : ℕ
+  pub spelling : Spelling
+
+-- Its value.
+abbrev pub spellKey : PropertyKey → Placed
+spellKey k = pick (k .which) (spell (k .spelling))
+
+-- The parameter of an index signature, which may be absent: its name and its type.
+abbrev pub maybeNamed : Opt (Spelling × Placed) → Placed
+maybeNamed absent = pick 0 void
+maybeNamed (present p) = pick 1 (join (spell (p .0)) (p .1))
+
+-- What a call signature has: opt type parameters, opt `this` with its opt type, parameters, opt return.
+abbrev pub signature : Opt (List Placed) → Opt (Opt Placed) → List Placed → Opt Placed → Placed
+signature params this ps r = join (maybeList params) (join (maybeThis this) (join (listed ps) (maybe r)))
+
 -- ---- The node table's entries by name; first and end are the node's first and end byte
 module _ (first end : ℕ) where
   -- 1: names and opt args.
@@ -201,6 +219,30 @@ module _ (first end : ℕ) where
   abbrev pub asked : Placed → Placed
   asked t = tree 24 first end t
 
+  -- 25: its members.
+  abbrev pub object : List Placed → Placed
+  object ms = tree 25 first end (listed ms)
+
+  -- Member, sort 0: readonly bit, key, `?` bit, opt type.
+  abbrev pub property : Bool → PropertyKey → Bool → Opt Placed → Placed
+  property readonly key question t = tree 0 first end (join (bit readonly) (join (spellKey key) (join (bit question) (maybe t))))
+
+  -- Member, sort 1: key, `?` bit, what a call signature has.
+  abbrev pub method : PropertyKey → Bool → Opt (List Placed) → Opt (Opt Placed) → List Placed → Opt Placed → Placed
+  method key question params this ps r = tree 1 first end (join (spellKey key) (join (bit question) (signature params this ps r)))
+
+  -- Member, sort 2: what a call signature has.
+  abbrev pub callSignature : Opt (List Placed) → Opt (Opt Placed) → List Placed → Opt Placed → Placed
+  callSignature params this ps r = tree 2 first end (signature params this ps r)
+
+  -- Member, sort 3: opt type parameters, parameters, opt return.
+  abbrev pub constructSignature : Opt (List Placed) → List Placed → Opt Placed → Placed
+  constructSignature params ps r = tree 3 first end (join (maybeList params) (join (listed ps) (maybe r)))
+
+  -- Member, sort 4: readonly bit, opt parameter with its name and type, type.
+  abbrev pub indexSignature : Bool → Opt (Spelling × Placed) → Placed → Placed
+  indexSignature readonly p t = tree 4 first end (join (bit readonly) (join (maybeNamed p) t))
+
   -- Type parameter: name, opt constraint, opt default.
   abbrev pub typeParameter : Spelling → Opt Placed → Opt Placed → Placed
   typeParameter s x d = tree 0 first end (join (spell s) (join (maybe x) (maybe d)))
@@ -274,6 +316,24 @@ isNamed p = eqb (tagOf p) 22
 -- Is it a 22 with its `?` bit?
 abbrev pub isNamedAsked : Placed → Bool
 isNamedAsked p = isNamed p && isSet (second (content p))
+
+-- Its first choice; 0 where it has none.
+abbrev pub chosen : Placed → ℕ
+chosen void = 0
+chosen (said x s) = 0
+chosen (pick k p) = k
+chosen (join a b) = 0
+chosen (tree t first end p) = 0
+
+-- Is it a literal: a 3, or a 15 with no types (02, W1, diagnostic 10)?
+abbrev pub isLiteral : Placed → Bool
+isLiteral p = eqb (tagOf p) 3 || (eqb (tagOf p) 15 && eqb (chosen (content p)) 0)
+
+-- Is it a keyword other than any, number, string, symbol and this (02, W1, diagnostic 11)?
+abbrev pub isNoIndex : Placed → Bool
+isNoIndex p =
+    eqb (tagOf p) 2
+    && not (eqb (chosen (content p)) 0 || eqb (chosen (content p)) 5 || eqb (chosen (content p)) 7 || eqb (chosen (content p)) 8 || eqb (chosen (content p)) 9)
 
 -- Is it a 24?
 abbrev pub isAsked : Placed → Bool

@@ -5,7 +5,7 @@ use Prim.Native.Nat.{ℕ, zero, suc}
 use lib.Dec.{leb, ltb, eqb}
 use lib.ListN.{getD}
 use Rattle.keys.specs.Form.{Form, never, one, word, choose, both, child, Grammar}
-use Rattle.keys.specs.Limits.{lengthWidth, tagWide, editionWidth, Edition, numbered, countWide, newest}
+use Rattle.keys.specs.Limits.{lengthWidth, tagWide, sortWide, editionWidth, Edition, numbered, countWide, newest}
 
 infixr 5 _⊗_
 -- One field and then the others.
@@ -50,9 +50,13 @@ needed f = select 1 (oneOf (never ∷ f ∷ []))
 abbrev pub spelling : Form
 spelling = word lengthWidth
 
--- ---- The six classes of nodes: 20 to 22 stand in tuples alone (The key)
+-- The key of a property: which of name, string and number it is, and its spelling (02, W1).
+abbrev pub propertyKey : Form
+propertyKey = select 2 (oneOf (spelling ∷ spelling ∷ spelling ∷ []))
 
--- A type: 1 to 19, 23, 24.
+-- ---- The seven classes of nodes: 20 to 22 stand in tuples alone, members in object types (The key; 02, W1)
+
+-- A type: 1 to 19, 23 to 25.
 abbrev pub type : Form
 type = child 0
 
@@ -75,6 +79,10 @@ typeParam = child 4
 -- A parameter.
 abbrev pub param : Form
 param = child 5
+
+-- A member of an object type, whose sort stands in the place of a tag.
+abbrev pub member : Form
+member = child 6
 
 -- What follows each kind of literal: string, number, bigint, true, false, -number, -bigint; no spelling after true and false.
 abbrev pub literals : List Form
@@ -110,7 +118,25 @@ module _ (c : ℕ) where
   abbrev pub args : Form
   args = list 0 type
 
-  -- The rows of tags 0 to 24, where those of 20, 21 and 22 are handed over.
+  -- Opt type parameters.
+  abbrev pub optTypeParams : Form
+  optTypeParams = opt (list 0 typeParam)
+
+  -- What a call signature has: opt type parameters, opt `this` with its opt type, parameters, opt return.
+  abbrev pub signatureRow : Form
+  signatureRow = optTypeParams ⊗ opt (opt type) ⊗ list 0 param ⊗ opt type
+
+  -- The rows of a member, by its sort from 0 (02, W1).
+  abbrev pub memberRows : List Form
+  memberRows =
+      (flag ⊗ propertyKey ⊗ flag ⊗ opt type)  -- 0 property: readonly bit, key, `?` bit, opt type
+      ∷ (propertyKey ⊗ flag ⊗ signatureRow)  -- 1 method: key, `?` bit, what a call signature has
+      ∷ signatureRow  -- 2 call signature
+      ∷ (optTypeParams ⊗ list 0 param ⊗ opt type)  -- 3 construct signature
+      ∷ (flag ⊗ opt (spelling ⊗ type) ⊗ type)  -- 4 index signature: readonly bit, opt parameter, type
+      ∷ []
+
+  -- The rows of tags 0 to 25, where those of 20, 21 and 22 are handed over.
   abbrev pub rows : Form → Form → Form → List Form
   rows row20 row21 row22 =
       never  -- 0 is no tag
@@ -138,6 +164,7 @@ module _ (c : ℕ) where
       ∷ row22  -- 22 named
       ∷ type  -- 23 `!`
       ∷ type  -- 24 `?`
+      ∷ list 0 member  -- 25 object
       ∷ []
 
   -- The rows of each class: 20 to 22 only in tuples; under 21 a type or 22, under 22 a type, 20 or 21.
@@ -148,11 +175,12 @@ module _ (c : ℕ) where
   rowsOf (suc (suc (suc zero))) = rows type underRest never  -- under a name
   rowsOf (suc (suc (suc (suc zero)))) = typeParamRow ∷ []
   rowsOf (suc (suc (suc (suc (suc zero))))) = paramRow ∷ []
-  rowsOf (suc (suc (suc (suc (suc (suc k)))))) = []
+  rowsOf (suc (suc (suc (suc (suc (suc zero)))))) = memberRows
+  rowsOf (suc (suc (suc (suc (suc (suc (suc k))))))) = []
 
--- The width of a class's tag: four classes have one of 6 bits, two have none.
+-- The width of a class's tag: four classes have one of 6 bits, two have none, and a member's sort has 3.
 abbrev pub tagWidthOf : ℕ → ℕ
-tagWidthOf k = getD (tagWide ∷ tagWide ∷ tagWide ∷ tagWide ∷ []) k 0
+tagWidthOf k = getD (tagWide ∷ tagWide ∷ tagWide ∷ tagWide ∷ 0 ∷ 0 ∷ sortWide ∷ []) k 0
 
 -- ---- The table of an edition
 

@@ -66,9 +66,9 @@ module _ (c : ℕ) where
   abbrev told : ℕ → List Form
   told k = listed (tableWords c) (λ f. formOf (tableWords c) (stepsOf (tableWords c)) 1 f) (classAt (tableWords c) k .a) (classAt (tableWords c) k .b)
 
-  no-class : (k : ℕ) → classAt (tableWords c) (suc (suc (suc (suc (suc (suc k)))))) ≡ entry 0 0 0 0
+  no-class : (k : ℕ) → classAt (tableWords c) (suc (suc (suc (suc (suc (suc (suc k))))))) ≡ entry 0 0 0 0
   unfolding tableWords
-  no-class k = ap (entryBy (tableWords c) (suc (suc (suc (suc (suc (suc k))))) + 1)) (le-ltb (suc (suc (suc (suc (suc (suc k)))))) 6 (omega arith))
+  no-class k = ap (entryBy (tableWords c) (suc (suc (suc (suc (suc (suc (suc k)))))) + 1)) (le-ltb (suc (suc (suc (suc (suc (suc (suc k))))))) 7 (omega arith))
 
   -- The rows that four classes share, with those of 20, 21 and 22 between them.
   shared : Form → Form → Form → List Form
@@ -87,7 +87,8 @@ module _ (c : ℕ) where
   rows-are (suc (suc (suc zero))) = shared-are type underRest never
   rows-are (suc (suc (suc (suc zero)))) = simp line-two
   rows-are (suc (suc (suc (suc (suc zero))))) = simp line-two
-  rows-are (suc (suc (suc (suc (suc (suc k)))))) =
+  rows-are (suc (suc (suc (suc (suc (suc zero)))))) = simp (line-two, line-oneOf, line-nodes, line-when)
+  rows-are (suc (suc (suc (suc (suc (suc (suc k))))))) =
       ap (λ (e : Entry). listed (tableWords c) (λ f. formOf (tableWords c) (stepsOf (tableWords c)) 1 f) (e .a) (e .b)) (sym (no-class k))
 
   tags-are : (k : ℕ) → classAt (tableWords c) k .w ≡ tagWidthOf k
@@ -98,7 +99,8 @@ module _ (c : ℕ) where
   tags-are (suc (suc (suc zero))) = refl
   tags-are (suc (suc (suc (suc zero)))) = refl
   tags-are (suc (suc (suc (suc (suc zero))))) = refl
-  tags-are (suc (suc (suc (suc (suc (suc k)))))) = ap (λ (e : Entry). e .w) (no-class k)
+  tags-are (suc (suc (suc (suc (suc (suc zero)))))) = refl
+  tags-are (suc (suc (suc (suc (suc (suc (suc k))))))) = ap (λ (e : Entry). e .w) (no-class k)
 
   row-is : (k t : ℕ) → oneOf (told k) t ≡ inLine (oneOf (rowsOf c k) t) one
   row-is k t = sym (line-oneOf (rowsOf c k) t one ∙ ap (λ (l : List Form). oneOf l t) (rows-are k))
@@ -143,7 +145,10 @@ tag-small zero = omega arith
 tag-small (suc zero) = omega arith
 tag-small (suc (suc zero)) = omega arith
 tag-small (suc (suc (suc zero))) = omega arith
-tag-small (suc (suc (suc (suc c)))) = omega arith
+tag-small (suc (suc (suc (suc zero)))) = omega arith
+tag-small (suc (suc (suc (suc (suc zero))))) = omega arith
+tag-small (suc (suc (suc (suc (suc (suc zero)))))) = omega arith
+tag-small (suc (suc (suc (suc (suc (suc (suc c))))))) = omega arith
 
 -- A choice has at most 24 bits.
 pub words-narrow : Narrow (tableWords countWidth)

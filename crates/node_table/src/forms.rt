@@ -32,7 +32,7 @@ pub const CHOICE: usize = 5;
 pub const TIMES: usize = 6;
 
 // The whole table, to be taken once a call and lent.
-pub fn words() -> [u16; 413]
+pub fn words() -> [u16; 526]
     ensures { λ r. ⌜ r ≡ tableWords countWidth ⌝ }
 {
     tables::WORDS

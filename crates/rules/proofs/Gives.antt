@@ -53,9 +53,9 @@ sizeOf t = nodes (bare t)
 abbrev pub weightOf : Placed → ℕ
 weightOf t = weight (bare t)
 
--- What the tokens before the cursor are worth: ten bytes of a key for each, and their own.
+-- What the tokens before the cursor are worth: twelve bytes of a key for each, and their own; a property may be one token.
 abbrev pub worth : Given → State → ℕ
-worth g s = 10 * s .at + endByte (g .words) (s .at) 0
+worth g s = 12 * s .at + endByte (g .words) (s .at) 0
 
 -- A value that was read, from byte lo on, where n nodes were in use before it: as many more are in use as it has, and it stands in order.
 pub record Has (g : Given) (n lo : ℕ) (p : Placed) (q : State) : Type 0 where
@@ -145,7 +145,7 @@ module _ {g : Given} {A : Type 0} {P : A → State → Type 0} where
 pub record Step (g : Given) (n : ℕ) (s : State) : Type 0 where
   pub at : At g n (next s)
   pub rise : first g s < end g (next s)
-  pub more : worth g s + 10 + length (spelling g s .1) ≤ worth g (next s)
+  pub more : worth g s + 12 + length (spelling g s .1) ≤ worth g (next s)
 
 end-next : (g : Given) (s : State) → end g (next s) ≡ wordEnd (wordAt (g .words) (s .at))
 end-next g s = ap (λ (i : ℕ). endByte (g .words) i 0) (add-one (s .at))

@@ -10,7 +10,7 @@ use borrow.Author.Tests.{leb-true}
 use lib.Dec.{eqb, leb}
 use lib.ListN.{length}
 use Rattle.words.specs.Test.{_and_, _or_, between, among, test}
-use Rattle.words.specs.Kind.{NumberLiteral, BigIntLiteral, Dot, Any, Unknown, True, False, Null, This, Void}
+use Rattle.words.specs.Kind.{NumberLiteral, BigIntLiteral, Str, Dot, Any, Unknown, True, False, Null, This, Void}
 use Rattle.keys.specs.Form.{Value, node as nodeValue, Fits, fits-child}
 use Rattle.keys.specs.Table.{type, element, underName}
 use Rattle.keys.specs.Placed as node
@@ -21,6 +21,7 @@ use Rattle.keys.proofs.Makers as makers
 use Rattle.rules.specs.State.{Given, State, kind, kindAfter, stands, first, end, spelling}
 use Rattle.rules.specs.List.{position}
 use Rattle.rules.specs.Function.{subject}
+use Rattle.rules.specs.Object.{keySort}
 use Rattle.rules.specs.Primary.{keywords, literals, negated, isKeyword}
 use Rattle.rules.proofs.TokenLaws.{both-true, among-each}
 use Rattle.rules.proofs.Gives.{sizeOf, weightOf}
@@ -58,6 +59,17 @@ literal-weight k x = by (among (True ∷ False ∷ []) k)
     by : (b : Bool) → weightOf (node.literalSpelling (test b (λ _. absent) (λ _. present x))) ≤ 2 + length (x .1)
     by true = omega arith
     by false = omega arith
+
+-- ---- Keys
+
+-- A key is of one of three sorts.
+pub key-sort : (k : ℕ) → keySort k < 3
+key-sort k = by (eqb k Str) (eqb k NumberLiteral)
+  where
+    by : (a b : Bool) → test a (λ _. 1) (λ _. test b (λ _. 2) (λ _. 0)) < 3
+    by true b = omega arith
+    by false true = omega arith
+    by false false = omega arith
 
 -- ---- Elements and pieces
 

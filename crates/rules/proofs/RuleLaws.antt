@@ -12,10 +12,10 @@ use Rattle.words.specs.Test.{_and_, _or_, between, among, test}
 use Rattle.words.specs.Class as class
 use Rattle.words.specs.Kind.{Eof, ShiftLeft, LtEq, ShiftLeftEq, Str, NumberLiteral, BigIntLiteral, NoSubstitutionTemplate, TemplateHead, TemplateMiddle, TemplateTail, LCurly, RCurly, LBrack, RBrack, LParen, RParen, LAngle, RAngle, Pipe, Amp, Question, Colon, Comma, Semicolon, Dot, Dot3, Arrow, Eq, Bang, Minus, Plus, Star, Any, Unknown, Null, Void, Abstract, As, Asserts, Infer, Is as IsWord, Readonly, Extends, Import, In, New, This, Typeof}
 use Rattle.keys.specs.Form.{Form, height, nodes}
-use Rattle.keys.specs.Table.{type, element, underRest, typeParam, param}
+use Rattle.keys.specs.Table.{type, element, underRest, typeParam, param, member}
 use Rattle.keys.specs.Placed as node
-use Rattle.keys.specs.Placed.{Placed, void, join, tree, entries, maybe, maybeList, Spelling, Opt, absent, present, maybeThis, isRest, isAsked, asElement}
-use Rattle.keys.proofs.Fitting.{Is, IsSpelling, Each, IfAny, IsList, IsNames, IsPiece}
+use Rattle.keys.specs.Placed.{Placed, void, join, tree, entries, maybe, maybeList, Spelling, PropertyKey, Opt, absent, present, maybeThis, isRest, isAsked, isLiteral, isNoIndex, asElement}
+use Rattle.keys.proofs.Fitting.{Is, IsSpelling, Each, IfAny, IsList, IsNames, IsPiece, IsPropertyKey, IsNamed}
 use Rattle.keys.proofs.Makers as makers
 use Rattle.rules.specs.Refusal.{unexpected}
 use Rattle.rules.specs.Notes.{note, askedAfterLabel}
@@ -31,11 +31,12 @@ use Rattle.rules.specs.Infer.{Trial, none, constraintOf, trial, infer}
 use Rattle.rules.specs.Postfix.{suffixed, bracketed, suffix, postfixFrom, postfix}
 use Rattle.rules.specs.Primary.{keywords, literals, negated, isKeyword, isNegative, isAssertion, keyword, literal, negative, this, assertion, query, curly, brackets, reference, enclosed, worded, primary}
 use Rattle.rules.specs.Mapped.{modifier, mapped}
-use Rattle.rules.specs.Tuple.{seenOptional, isOptionalElement, labelled, memberNode, member, restOf, labelledElement, element as elementRule, checkedElement, tuple}
+use Rattle.rules.specs.Object.{Signature, ofMethod, ofCall, ofConstruct, isConstruct, signatureNode, IndexParameter, IndexParameters, noIndex, oneIndex, severalIndex, withOne, hasOne, kept, keyHere, signs, constructs, isReadonly, unsupportedHere, memberEnd, thisNoted, reportIndex, signature, indexType, indexParameter, indexFrom, index, property, withKey, behindReadonly, member as objectMember, membersFrom, object}
+use Rattle.rules.specs.Tuple.{seenOptional, isOptionalElement, labelled, memberNode, member as namedMember, restOf, labelledElement, element as elementRule, checkedElement, tuple}
 use Rattle.rules.specs.Template.{piecesFrom, pieces, template}
 use Rattle.rules.specs.TypeRule.{begins, conditional, unionOrConditional, type as typeRule}
 use Rattle.rules.specs.Reading.{readType, reading}
-use Rattle.words.specs.Ahead.{starter, mappedStart, functionStart}
+use Rattle.words.specs.Ahead.{starter, mappedStart, functionStart, propertyKey, indexStart}
 use Rattle.words.specs.Word.{size}
 use Rattle.words.specs.Cursor.{wordAt}
 use Rattle.rules.proofs.TokenLaws.{both-true, or-first, among-each, Checked, token-spells, spelled-by, split-size, start-inside, taken-before}
@@ -44,7 +45,7 @@ use Rattle.rules.specs.Weight.{weight}
 use Rattle.rules.proofs.ToldLaws.{told-here, told-subject, told-literal, told-names, told-element}
 use Rattle.rules.proofs.PlaceLaws.{Spans, spans-le, spans-up, spans-flat, spans-element}
 use Rattle.rules.proofs.Gives.{Gives, gives, stops, At, Has, Got, Good, Enough, Step, Past, sizeOf, weightOf, worth, itself, Reads, ReadsNames, ReadsOn, ReadsTree, ReadsIf, ReadsAbout, ReadsTypes, gives-then, gives-test, gives-must, gives-mark, gives-or, refusal, step, past-mark, past-more, past-whole, counted, weight-more, flat-has, front-has, join-has, _&_, regroup, drop-void, has-le, has-down, pick-has, has-on, has-next, has-more, gives-down, made-by, made, reported, reported-if, enough-more, list-is, names-are, if-list-is}
-use Rattle.rules.proofs.PartLaws.{names-size, names-weight, subject-size, subject-weight, element-size, as-under-name, pieces-more, keyword-below, literal-size, literal-weight, literal-fits, negative-fits, asserted}
+use Rattle.rules.proofs.PartLaws.{key-sort, names-size, names-weight, subject-size, subject-weight, element-size, as-under-name, pieces-more, keyword-below, literal-size, literal-weight, literal-fits, negative-fits, asserted}
 
 -- How parameters stand as values, where a constructor gave the nodes of its `this` back.
 abbrev shapeOfThis : Bool → Opt ThisParameter → Placed
@@ -130,14 +131,17 @@ module _ (g : Given) (c : Checked g) where
   -- ---- Rules that read types
 
   module _ (T : Reader) (h : ReadsTypes g T) where
-    optional-gives : (k : ℕ) → eqb Eof k ≡ false → (on : Bool) → ReadsOn g (IfAny (Is type)) maybe (optional g k (T on))
-    optional-gives k ok on n lo s w l a =
+    optional-by : (k : ℕ) → eqb Eof k ≡ false → (part : State → Result Placed) → ReadsTree g type part → ReadsOn g (IfAny (Is type)) maybe (optional g k part)
+    optional-by k ok part reads n lo s w l a =
         gives-or c k ok s a
         (λ u _.
-        gives-then (h on _ lo (next s) (omega arith) (u .at)) λ t q b.
+        gives-then (reads _ lo (next s) (omega arith) (u .at)) λ t q b.
         gives (record { is = b .is .is; has = pick-has 1 (b .has); whole = b .whole; rise = omega arith; light = omega arith }))
         λ _ _.
         gives (record { is = tt; has = flat-has (maybe absent) refl tt l a; whole = w; rise = omega arith; light = omega arith })
+
+    optional-gives : (k : ℕ) → eqb Eof k ≡ false → (on : Bool) → ReadsOn g (IfAny (Is type)) maybe (optional g k (T on))
+    optional-gives k ok on = optional-by k ok (T on) (h on)
 
     -- ---- Arguments
 
@@ -290,7 +294,8 @@ module _ (g : Given) (c : Checked g) where
           }))
           λ u. parameters-from this t x fuel (l ++ (p ∷ [])) (next q) more (has-next z u) (omega arith)
 
-      parameters-give : Reads g AreParameters (shapeOfParameters isNew) (parameters g T isNew)
+      -- Their brackets leave ten bytes of what they are worth.
+      parameters-give : ReadsNames g 10 AreParameters (shapeOfParameters isNew) (parameters g T isNew)
       unfolding parameters thisFirst
       parameters-give n lo s l a =
           gives-mark c LParen refl s a (refusal a tt) λ t _.
@@ -431,8 +436,8 @@ module _ (g : Given) (c : Checked g) where
         gives d
 
     member-gives : (n lo : ℕ) (s : State) → class.name (kind g s) ≡ true → lo ≤ first g s → At g n s
-        → Gives g (Got g (λ (e : Placed). Good element e × Is underRest e) itself 1 (worth g s) n lo) (member g T s)
-    unfolding member
+        → Gives g (Got g (λ (e : Placed). Good element e × Is underRest e) itself 1 (worth g s) n lo) (namedMember g T s)
+    unfolding namedMember
     member-gives n lo s e l a =
         let t = step c class.name refl s e a in
         let asked = past-mark c Question refl (next s) (t .at) in
@@ -483,6 +488,233 @@ module _ (g : Given) (c : Checked g) where
         gives-mark c LBrack refl s a (refusal a tt) λ t _.
         gives-then (list-gives RBrack refl (checkedElement g T) checked-gives n (first g s) (next s) (omega arith) (t .at)) λ es q b.
         made _ (b .whole) (pick-has (length es) (b .has)) l (omega arith) (omega arith) λ few. makers.tuple-is (first g s) _ (list-is (b .is) (few .0))
+
+    -- ---- Object
+
+    module _ {A B : Type 0} {P : A → Type 0} {shape : A → Placed} {k m n lo : ℕ} {a : A} {Q : B → State → Type 0} where
+      -- What was got stays after diagnostic 3, or where there is none.
+      this-noted : (o : Opt ThisParameter) (s : State) (on : State → Result B) → Got g P shape k m n lo a s → ((q : State) → Got g P shape k m n lo a q → Gives g Q (on q))
+          → Gives g Q (reportThis g o s on)
+      this-noted absent s on x f = f s x
+      this-noted (present t) s on x f = reported _ s on x f
+
+      -- Alike after the diagnostics of an index signature.
+      index-noted : (b : ℕ) (ps : IndexParameters) (s : State) (on : State → Result B) → Got g P shape k m n lo a s → ((q : State) → Got g P shape k m n lo a q → Gives g Q (on q))
+          → Gives g Q (reportIndex g b ps s on)
+      index-noted b noIndex s on x f = reported _ s on x f
+      index-noted b (severalIndex p) s on x f = reported _ s on x f
+      index-noted b (oneIndex p) s on x f =
+          gives-test (isLiteral (p .type)) (λ _ _. reported _ s on x f) λ _ _.
+          reported-if (isNoIndex (p .type)) _ s on x f
+
+    -- Past the end of a member.
+    end-gives : {A : Type 0} {P : A → State → Type 0} {n : ℕ} (s : State) (on : State → Result A) → s .half ≡ 0 → At g n s
+        → ((q : State) → q .half ≡ 0 → Past g n s q → Gives g P (on q)) → Gives g P (memberEnd g s on)
+    end-gives s on w a f =
+        gives-test (among (Comma ∷ Semicolon ∷ []) (kind g s))
+        (λ e _.
+        let t = step c (among (Comma ∷ Semicolon ∷ [])) refl s e a in
+        f (next s) refl (record { at = t .at; first-later = omega arith; end-later = omega arith; worth-later = omega arith })) λ _ _.
+        gives-test (stands g RCurly s or not (onLine g s))
+        (λ _ _. f s w (record { at = a; first-later = omega arith; end-later = omega arith; worth-later = omega arith })) (refusal a tt)
+
+    key-is : (s : State) → propertyKey (kind g s) ≡ true → IsPropertyKey (keyHere g s)
+    key-is s e = record { known = key-sort (kind g s); spelling-is = spelled-by g c propertyKey refl s e }
+
+    -- What stands before the type parameters of a signature is such, and what it weighs.
+    abbrev IsSigned : Signature → Type 0
+    IsSigned (ofMethod k question) = IsPropertyKey k × Told (g .text) (node.spellKey k)
+    IsSigned ofCall = Unit {0}
+    IsSigned ofConstruct = Unit {0}
+
+    abbrev signedWeight : Signature → ℕ
+    signedWeight (ofMethod k question) = weightOf (node.spellKey k) + 2
+    signedWeight ofCall = 0
+    signedWeight ofConstruct = 0
+
+    signature-node : (m : ℕ) {n lo e : ℕ} (b : ℕ) (x : Signature) (ts : Opt (List Placed)) (ps : Parameters) (r : Opt Placed) {p v : State} (s : State) → IsSigned x → lo ≤ b → b < end g s
+        → s .half ≡ 0 → IfAny (Enough (Is typeParam) 0) ts → AreParameters ps → IfAny (Is type) r → Spans b e (maybeList ts) → Told (g .text) (maybeList ts)
+        → Has g (n + sizeOf (maybeList ts)) e (shapeOfParameters (isConstruct x) ps) p
+        → Has g (n + sizeOf (maybeList ts) + sizeOf (shapeOfParameters (isConstruct x) ps)) (end g p) (maybe r) v
+        → Past g (n + sizeOf (maybeList ts) + sizeOf (shapeOfParameters (isConstruct x) ps) + sizeOf (maybe r)) v s
+        → signedWeight x + weightOf (maybeList ts) + weightOf (shapeOfParameters (isConstruct x) ps) + weightOf (maybe r) + m + 4 ≤ worth g s
+        → Gives g (Got g (Good member) itself 1 (m + 2) n lo) (make g (count ts ∷ length (ps .list) ∷ []) (signatureNode b (end g s) x ts ps r) s)
+    signature-node m b (ofMethod k question) ts ps r s i l j w is are ir x o y z d v =
+        let all = front-has (node.spellKey k) refl (i .1) (front-has (node.bit question) refl tt (join-has o x (regroup (length (ps .list)) y z))) in
+        made _ w (has-on all (counted (omega arith) (d .at)) (d .end-later)) l j (omega arith) λ few.
+        makers.method-is b _ question ts (thisType (ps .this)) r (i .0) (if-list-is typeParam ts is (few .0)) (are .this-is) (list-is (are .others) (few .1 .0)) ir
+    signature-node m b ofCall ts ps r s i l j w is are ir x o y z d v =
+        let all = join-has o x (regroup (length (ps .list)) y z) in
+        made _ w (has-on all (counted (omega arith) (d .at)) (d .end-later)) l j (omega arith) λ few.
+        makers.callSignature-is b _ ts (thisType (ps .this)) r (if-list-is typeParam ts is (few .0)) (are .this-is) (list-is (are .others) (few .1 .0)) ir
+    signature-node m b ofConstruct ts ps r s i l j w is are ir x o y z d v =
+        let all = join-has o x (drop-void (regroup (length (ps .list)) y z)) in
+        made _ w (has-on all (counted (omega arith) (d .at)) (d .end-later)) l j (omega arith) λ few.
+        makers.constructSignature-is b _ ts r (if-list-is typeParam ts is (few .0)) (list-is (are .others) (few .1 .0)) ir
+
+    signature-gives : (b : ℕ) (x : Signature) → IsSigned x → (m n lo : ℕ) (s : State) → lo ≤ b → b ≤ first g s → signedWeight x + m ≤ worth g s → At g n s
+        → Gives g (Got g (Good member) itself 1 (m + 2) n lo) (signature g T b x s)
+    unfolding signature
+    signature-gives b x i m n lo s l k v a =
+        gives-then (type-parameters true n b s k a) λ ts q t.
+        gives-then (parameters-give (isConstruct x) _ (first g q) q (omega arith) (t .1)) λ ps r y.
+        this-noted (thisNoted x (ps .this)) r _ y λ r y.
+        gives-then (optional-by Colon refl (returnType g T) return-gives _ (end g r) r (y .whole) (omega arith) (y .has .at)) λ u p z.
+        end-gives p _ (z .whole) (z .has .at) λ e w d.
+        signature-node m b x ts ps u e i l (omega (arith, spans-le (t .2), y .rise, has-le (z .has), d .end-later)) w (t .0) (y .is) (z .is) (t .2) (t .3) (y .has) (z .has) d
+        (omega (arith, t .4, y .light, z .light, d .worth-later))
+
+    abbrev shapeOfIndex : IndexParameter → Placed
+    shapeOfIndex p = join (node.spell (p .name)) (p .type)
+
+    abbrev IsIndex : IndexParameter → Type 0
+    IsIndex p = IsNamed (p .name, p .type)
+
+    index-parameter : ReadsNames g 10 IsIndex shapeOfIndex (indexParameter g T)
+    unfolding indexParameter indexType
+    index-parameter n lo s l a =
+        gives-then (binding-gives n lo s l a) λ x q b.
+        reported-if (stands g Question q) _ q (indexType g T (first g s) x) b λ q b.
+        let asked = past-mark c Question refl q (b .has .at) in
+        gives-mark c Colon refl (past g Question q) (asked .at) (refusal (asked .at) tt) λ u _.
+        gives-then (h true _ (end g q) (next (past g Question q)) (omega arith) (u .at)) λ t r d.
+        gives {a = record { first = first g s; end = end g r; name = x; type = t }} (record {
+          is = record { name-is = b .is; type-is = d .is .is };
+          has = b .has & d .has;
+          whole = d .whole;
+          rise = omega arith;
+          light = omega arith;
+        })
+
+    abbrev shapeOfKept : IndexParameters → Placed
+    shapeOfKept ps = node.maybeNamed (kept ps)
+
+    abbrev AreIndex : IndexParameters → Type 0
+    AreIndex ps = IfAny IsNamed (kept ps)
+
+    -- What a later parameter took is free again.
+    back : {m n lo a b : ℕ} {p : Placed} {r : IndexParameter} {s q : State} → Has g n lo p s → Got g IsIndex shapeOfIndex a m b (end g s) r q → Has g n lo p (freed true s q)
+    back x b =
+        let y = b .has .at in
+        has-on x
+        (record { used = x .at .used; roomy = x .at .roomy; few = y .few; recorded = y .recorded; inside = y .inside; order = y .order; rest = y .rest })
+        (has-le (b .has))
+
+    freed-whole : (later : Bool) (s q : State) → q .half ≡ 0 → freed later s q .half ≡ 0
+    freed-whole true s q w = w
+    freed-whole false s q w = w
+
+    freed-worth : (later : Bool) (s q : State) → worth g (freed later s q) ≡ worth g q
+    freed-worth true s q = refl
+    freed-worth false s q = refl
+
+    -- One parameter more, whose nodes are free again if it is a later one.
+    one-more : (m : ℕ) {n lo : ℕ} (ps : IndexParameters) (p : IndexParameter) (s q : State) → AreIndex ps → Has g n lo (shapeOfKept ps) s → weightOf (shapeOfKept ps) + m ≤ worth g s
+        → Got g IsIndex shapeOfIndex 1 (worth g s + 10) (n + sizeOf (shapeOfKept ps)) (end g s) p q
+        → AreIndex (withOne ps p) × Has g n lo (shapeOfKept (withOne ps p)) (freed (hasOne ps) s q) × (weightOf (shapeOfKept (withOne ps p)) + m ≤ worth g q)
+    one-more m noIndex p s q i x o b =
+        let y = pick-has 1 (has-down (has-le x) (b .has)) in
+        (b .is, record { at = counted (omega arith) (y .at); spans = y .spans; told = y .told }, omega (arith, b .light))
+    one-more m (oneIndex r) p s q i x o b = (i, back x b, omega (arith, b .light))
+    one-more m (severalIndex r) p s q i x o b = (i, back x b, omega (arith, b .light))
+
+    index-from : (m n lo fuel : ℕ) (ps : IndexParameters) (s : State) → s .half ≡ 0 → AreIndex ps → Has g n lo (shapeOfKept ps) s → weightOf (shapeOfKept ps) + m ≤ worth g s
+        → Gives g (Got g AreIndex shapeOfKept 0 m n lo) (indexFrom g T fuel ps s)
+    unfolding indexFrom
+    index-from m n lo zero ps s w i x o = stops tt (x .at .inside)
+    index-from m n lo (suc fuel) ps s w i x o =
+        gives-test (stands g RBrack s) (λ _ _. gives (record { is = i; has = x; whole = w; rise = omega (arith, has-le x); light = omega arith })) λ _ _.
+        gives-then (index-parameter _ (end g s) s (x .at .order) (x .at)) λ p q b.
+        let one = one-more m ps p s q i x o b in
+        let z = freed (hasOne ps) s q in
+        gives-test (stands g RBrack z)
+        (λ _ _. gives (record { is = one .0; has = one .1; whole = freed-whole (hasOne ps) s q (b .whole); rise = omega (arith, has-le (one .1)); light = omega (arith, one .2, freed-worth (hasOne ps) s q) })) λ _ _.
+        gives-mark c Comma refl z (one .1 .at) (refusal (one .1 .at) tt) λ u _.
+        let y = has-next (one .1) u in
+        let e : Got g AreIndex shapeOfKept 0 (m + 2) n lo (withOne ps p) (next z)
+        = record { is = one .0; has = y; whole = refl; rise = omega (arith, has-le y); light = omega (arith, one .2, freed-worth (hasOne ps) s q, u .more) } in
+        reported-if (stands g RBrack (next z)) _ (next z) (indexFrom g T fuel (withOne ps p)) e λ r d.
+        index-from m n lo fuel (withOne ps p) r (d .whole) (d .is) (d .has) (omega (arith, d .light))
+
+    index-gives : (b : ℕ) (readonly : Bool) (m n lo : ℕ) (s : State) → stands g LBrack s ≡ true → lo ≤ b → b ≤ first g s → m ≤ worth g s → At g n s
+        → Gives g (Got g (Good member) itself 1 (m + 2) n lo) (index g T b readonly s)
+    unfolding index
+    index-gives b readonly m n lo s e l k v a =
+        let t = step c (λ k. eqb k LBrack) refl s e a in
+        gives-then (index-from (worth g s + 8) n b (turns g) noIndex (next s) refl tt (flat-has (node.maybeNamed absent) refl tt (omega arith) (t .at)) (omega arith)) λ ps q x.
+        gives-mark c RBrack refl q (x .has .at) (refusal (x .has .at) tt) λ u _.
+        let y : Got g AreIndex shapeOfKept 0 (worth g s + 18) n b ps (next q) = record { is = x .is; has = has-next (x .has) u; whole = refl; rise = omega arith; light = omega arith } in
+        index-noted b ps (next q) _ y λ q y.
+        gives-mark c Colon refl q (y .has .at) (refusal (y .has .at) tt) λ u _.
+        gives-then (h true _ (end g q) (next q) (omega arith) (u .at)) λ t r d.
+        end-gives r _ (d .whole) (d .has .at) λ z w f.
+        let all = front-has (node.bit readonly) refl tt (y .has & d .has) in
+        made [] w (has-on all (counted (omega arith) (f .at)) (f .end-later)) l (omega (arith, y .rise, d .rise, f .end-later)) (omega (arith, y .light, d .light, f .worth-later)) λ _.
+        makers.indexSignature-is b _ readonly (kept ps) (y .is) (d .is .is)
+
+    property-gives : (b : ℕ) (readonly : Bool) (k : PropertyKey) (question : Bool) → IsPropertyKey k → Told (g .text) (node.spellKey k) → (m n lo : ℕ) (s : State) → s .half ≡ 0 → lo ≤ b
+        → b < end g s → weightOf (node.spellKey k) + m + 8 ≤ worth g s → At g n s → Gives g (Got g (Good member) itself 1 (m + 2) n lo) (property g T b readonly k question s)
+    unfolding property
+    property-gives b readonly k question i o m n lo s w l j v a =
+        gives-then (optional-gives Colon refl true n (end g s) s w (omega arith) a) λ t q x.
+        end-gives q _ (x .whole) (x .has .at) λ z w f.
+        let all = front-has (node.bit readonly) refl tt (front-has (node.spellKey k) refl o (front-has (node.bit question) refl tt (has-down (omega arith) (x .has)))) in
+        made [] w (has-on all (counted (omega arith) (f .at)) (f .end-later)) l (omega (arith, has-le (x .has), f .end-later)) (omega (arith, x .light, f .worth-later)) λ _.
+        makers.property-is b _ readonly question t i (x .is)
+
+    keyed-gives : (b : ℕ) (readonly : Bool) (m n lo : ℕ) (s : State) → lo ≤ b → b ≤ first g s → m ≤ worth g s → At g n s
+        → Gives g (Got g (Good member) itself 1 (m + 2) n lo) (withKey g T b readonly s)
+    unfolding withKey
+    keyed-gives b readonly m n lo s l k v a =
+        gives-test (not (propertyKey (kind g s))) (refusal a tt) λ e _.
+        let is = not-false (propertyKey (kind g s)) e in
+        let t = step c propertyKey refl s is a in
+        let asked = past-mark c Question refl (next s) (t .at) in
+        let q = past g Question (next s) in
+        let question = stands g Question (next s) in
+        gives-test (signs (kind g q))
+        (λ _ _. signature-gives b (ofMethod (keyHere g s) question) (key-is s is, told-here g c s) m n lo q l (omega arith) (omega arith) (asked .at)) λ _ _.
+        property-gives b readonly (keyHere g s) question (key-is s is) (told-here g c s) m n lo q (past-whole g Question (next s) refl) l (omega arith) (omega arith) (asked .at)
+
+    readonly-gives : (b : ℕ) (readonly : Bool) (m n lo : ℕ) (s : State) → lo ≤ b → b ≤ first g s → m ≤ worth g s → At g n s
+        → Gives g (Got g (Good member) itself 1 (m + 2) n lo) (behindReadonly g T b readonly s)
+    unfolding behindReadonly
+    readonly-gives b readonly m n lo s l k v a =
+        gives-test (unsupportedHere g s) (refusal a tt) λ _ _.
+        gives-test (not (stands g LBrack s)) (λ _ _. keyed-gives b readonly m n lo s l k v a) λ e _.
+        gives-must (indexStart (g .words) (s .at)) (refusal a tt) λ _ _.
+        index-gives b readonly m n lo s (not-false (stands g LBrack s) e) l k v a
+
+    member-reads : ReadsNames g 2 (Good member) itself (objectMember g T)
+    unfolding objectMember
+    member-reads n lo s l a =
+        gives-test (signs (kind g s)) (λ _ _. signature-gives (first g s) ofCall tt (worth g s) n lo s l (omega arith) (omega arith) a) λ _ _.
+        gives-test (constructs g s)
+        (λ e _.
+        let t = step c (λ k. eqb k New) refl s (both-true (stands g New s) _ e .0) a in
+        signature-gives (first g s) ofConstruct tt (worth g s) n lo (next s) l (omega arith) (omega arith) (t .at)) λ _ _.
+        gives-test (isReadonly g s)
+        (λ e _.
+        let t = step c (λ k. eqb k Readonly) refl s (both-true (stands g Readonly s) _ e .0) a in
+        readonly-gives (first g s) true (worth g s) n lo (next s) l (omega arith) (omega arith) (t .at)) λ _ _.
+        readonly-gives (first g s) false (worth g s) n lo s l (omega arith) (omega arith) a
+
+    members-from : (m n lo fuel : ℕ) (l : List Placed) (s : State) → Enough (Is member) 0 l → Has g n lo (entries l) s → weightOf (entries l) + m ≤ worth g s
+        → Gives g (Got g (Enough (Is member) 0) entries 1 m n lo) (membersFrom g T fuel l s)
+    unfolding membersFrom
+    members-from m n lo zero l s e x o = stops tt (x .at .inside)
+    members-from m n lo (suc fuel) l s e x o =
+        gives-or c RCurly refl s (x .at) (λ u _. gives (record { is = e; has = has-next x u; whole = refl; rise = omega (arith, has-le x); light = omega arith })) λ _ _.
+        gives-then (member-reads _ (end g s) s (x .at .order) (x .at)) λ t q b.
+        let sum = weight-more l t in
+        members-from m n lo fuel (l ++ (t ∷ [])) q (enough-more e (b .is .is)) (has-more l x (b .has)) (omega arith)
+
+    object-gives : ReadsTree g type (object g T)
+    unfolding object
+    object-gives n lo s l a =
+        gives-mark c LCurly refl s a (refusal a tt) λ t _.
+        gives-then (members-from (worth g s + 8) n (first g s) (turns g) [] (next s) no-entries (flat-has void refl tt (omega arith) (t .at)) (omega arith)) λ ms q b.
+        made _ (b .whole) (pick-has (length ms) (b .has)) l (omega arith) (omega arith) λ few. makers.object-is (first g s) _ (list-is (b .is) (few .0))
 
     -- ---- Template
 
@@ -597,7 +829,7 @@ module _ (g : Given) (c : Checked g) where
     enclosed-gives : ReadsTree g type (enclosed g T)
     unfolding enclosed curly reference
     enclosed-gives n lo s l a =
-        gives-test (stands g LCurly s) (λ _ _. gives-must (mappedStart (g .words) (s .at)) (refusal a tt) λ _ _. mapped-gives n lo s l a) λ _ _.
+        gives-test (stands g LCurly s) (λ _ _. gives-test (mappedStart (g .words) (s .at)) (λ _ _. mapped-gives n lo s l a) λ _ _. object-gives n lo s l a) λ _ _.
         gives-test (stands g LBrack s) (λ _ _. tuple-gives n lo s l a) λ _ _.
         gives-test (stands g LParen s) (λ e _. brackets-give n lo s e l a) λ _ _.
         gives-test (among (NoSubstitutionTemplate ∷ TemplateHead ∷ []) (kind g s)) (λ e _. template-gives n lo s e l a) λ _ _.

@@ -10,7 +10,7 @@ use Rattle.keys.specs.Bits.{Bits, bitsOf, bitsOfBytes}
 use Rattle.keys.proofs.BitsLaws.{length-bits, length-bytes}
 use Rattle.keys.specs.Form.{Value, choice, Form, never, one, word, choose, both, child, write, Fits, fits-one, fits-word, fits-choose, fits-both, fits-child}
 use Rattle.keys.specs.Limits.{countWidth, lengthWidth, editionWidth, edition}
-use Rattle.keys.specs.Table.{when, oneOf, times, flag, below, spelling, type, namedRow, list, rows, rowsOf, wholeKey}
+use Rattle.keys.specs.Table.{when, oneOf, times, flag, below, spelling, type, namedRow, list, rows, memberRows, rowsOf, wholeKey}
 use Rattle.keys.specs.Key.{nodeTable, keyOf}
 use Rattle.keys.proofs.KeyLaws.{length-packed}
 use Rattle.rules.specs.Weight.{weight}
@@ -70,7 +70,7 @@ flag-narrow = is-choice 1 (omega arith) λ k. is-one
 
 -- ---- The node table
 
--- The rows of tags 0 to 24, in their order.
+-- The rows of tags 0 to 25, in their order.
 rows-narrow : {a b c : Form} → Narrow a → Narrow b → Narrow c → AllNarrow (rows countWidth a b c)
 rows-narrow a b c =
     let opt-type = bit-narrow is-one (is-child {c = 0}) in
@@ -106,11 +106,27 @@ rows-narrow a b c =
     also c
     also is-child
     also is-child
+    also list-narrow 0 is-child
     also none
 
 -- The row of a named element.
 named-narrow : Narrow namedRow
 named-narrow = is-both spelling-narrow (is-both flag-narrow is-child)
+
+-- The rows of a member.
+members-narrow : AllNarrow (memberRows countWidth)
+members-narrow =
+    let opt-type = bit-narrow is-one (is-child {c = 0}) in
+    let key = is-choice 2 (omega arith) (one-narrow (spelling-narrow also spelling-narrow also spelling-narrow also none)) in
+    let opt-params = bit-narrow is-one (list-narrow 0 (is-child {c = 4})) in
+    let params = list-narrow 0 (is-child {c = 5}) in
+    let signature = is-both opt-params (is-both (bit-narrow is-one opt-type) (is-both params opt-type)) in
+    is-both flag-narrow (is-both key (is-both flag-narrow opt-type))
+    also is-both key (is-both flag-narrow signature)
+    also signature
+    also is-both opt-params (is-both params opt-type)
+    also is-both flag-narrow (is-both (bit-narrow is-one (is-both spelling-narrow is-child)) is-child)
+    also none
 
 -- The rows of each class.
 class-narrow : (c : ℕ) → AllNarrow (rowsOf countWidth c)
@@ -120,7 +136,8 @@ class-narrow (suc (suc zero)) = rows-narrow is-never is-never named-narrow
 class-narrow (suc (suc (suc zero))) = rows-narrow is-child is-child is-never
 class-narrow (suc (suc (suc (suc zero)))) = is-both spelling-narrow (is-both (bit-narrow is-one is-child) (bit-narrow is-one is-child)) also none
 class-narrow (suc (suc (suc (suc (suc zero))))) = is-both flag-narrow (is-both spelling-narrow (is-both flag-narrow (bit-narrow is-one is-child))) also none
-class-narrow (suc (suc (suc (suc (suc (suc c)))))) = none
+class-narrow (suc (suc (suc (suc (suc (suc zero)))))) = members-narrow
+class-narrow (suc (suc (suc (suc (suc (suc (suc c))))))) = none
 
 -- No tag is wide.
 tag-narrow : (c : ℕ) → nodeTable .tagWidth c ≤ 16
@@ -128,7 +145,10 @@ tag-narrow zero = omega arith
 tag-narrow (suc zero) = omega arith
 tag-narrow (suc (suc zero)) = omega arith
 tag-narrow (suc (suc (suc zero))) = omega arith
-tag-narrow (suc (suc (suc (suc c)))) = omega arith
+tag-narrow (suc (suc (suc (suc zero)))) = omega arith
+tag-narrow (suc (suc (suc (suc (suc zero))))) = omega arith
+tag-narrow (suc (suc (suc (suc (suc (suc zero)))))) = omega arith
+tag-narrow (suc (suc (suc (suc (suc (suc (suc c))))))) = omega arith
 
 -- ---- Bits and bytes
 

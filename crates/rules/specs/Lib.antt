@@ -13,6 +13,7 @@ pub mod Primary
 pub mod Names
 pub mod Arguments
 pub mod Mapped
+pub mod Object
 pub mod Tuple
 pub mod Template
 pub mod List
@@ -21,6 +22,7 @@ pub mod Rules
 pub mod Read
 pub mod Rows
 pub mod FurtherRows
+pub mod ObjectRows
 pub mod Places
 pub mod Told
 pub mod Weight

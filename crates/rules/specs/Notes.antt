@@ -30,6 +30,26 @@ askedAfterLabel = 6
 abbrev pub optionalAndRest : ℕ
 optionalAndRest = 7
 
+-- a `?` on the parameter of an index signature
+abbrev pub askedIndex : ℕ
+askedIndex = 8
+
+-- a comma after the last parameter of an index signature
+abbrev pub commaAfterIndex : ℕ
+commaAfterIndex = 9
+
+-- a literal as the type of such a parameter
+abbrev pub literalIndex : ℕ
+literalIndex = 10
+
+-- a keyword as its type that is no index
+abbrev pub keywordIndex : ℕ
+keywordIndex = 11
+
+-- not one parameter in an index signature
+abbrev pub notOneIndex : ℕ
+notOneIndex = 12
+
 -- a diagnostic: its number, first byte and end byte
 pub record Note : Type 0 where
   pub number : ℕ

@@ -16,6 +16,7 @@ use Rattle.rules.specs.Function.{subject}
 use Rattle.rules.specs.Arguments.{named, importType}
 use Rattle.rules.specs.Template.{template}
 use Rattle.rules.specs.Mapped.{mapped}
+use Rattle.rules.specs.Object.{object}
 use Rattle.rules.specs.Tuple.{tuple}
 
 -- keywords, in the order of their numbers in the node table
@@ -80,9 +81,9 @@ module _ (g : Given) (T : Reader) where
       test (stands g Import (next s)) (λ _. importType g T (first g s) true (next s)) λ _.
       named g T node.typeof (first g s) (next s)
 
-  -- Primary: behind a `{` only mapped types are read, by the look-ahead of types.rs
+  -- Primary: a `{` opens a mapped type by the look-ahead of types.rs, else an object type
   unfoldable pub curly : State → Result Placed
-  curly s = test (mappedStart (g .words) (s .at)) (λ _. mapped g T s) λ _. refused unsupported s
+  curly s = test (mappedStart (g .words) (s .at)) (λ _. mapped g T s) λ _. object g T s
 
   -- Primary: brackets, which are a node of their own if asked for
   unfoldable pub brackets : State → Result Placed

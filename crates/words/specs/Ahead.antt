@@ -4,15 +4,17 @@ use mathlib.Core.Bool.{Bool, true, false, not}
 use mathlib.Core.List.{List, [], _∷_}
 use lib.Dec.{eqb}
 use lib.ListN.{drop}
-use Rattle.words.specs.Test.{_and_, _or_, test, among}
+use Rattle.words.specs.Test.{_and_, _or_, test, among, same}
 use Rattle.words.specs.Word.{kind, newline}
-use Rattle.words.specs.Kind.{Eof, NumberLiteral, BigIntLiteral, LCurly, LBrack, LParen, RParen, LAngle, Question, Colon, Comma, Dot3, Arrow, Eq, Minus, Plus, Abstract, Readonly, In, This}
+use Rattle.words.specs.Kind.{Eof, Word, NumberLiteral, BigIntLiteral, Str, LCurly, LBrack, RBrack, LParen, RParen, LAngle, Question, Colon, Comma, Dot3, Arrow, Eq, Minus, Plus, Abstract, Readonly, In, This, Const}
 use Rattle.words.specs.Class.{bindingWord, name, modifier}
 use Rattle.words.specs.Class as class
 use Rattle.words.specs.Kind as kinds
 use Rattle.words.specs.declared.ahead.FunctionStart.{FunctionStart}
 use Rattle.words.specs.declared.ahead.FunctionStart.the-variants.{TypeParameters, New, AbstractNew, Empty, Rest, Parameter, LoneParameter, Nothing}
-use Rattle.words.specs.Cursor.{wordAt, wholeKind, kindAt}
+use Rattle.words.specs.Cursor.{wordAt, wholeKind, kindAt, sameLine}
+use Rattle.words.specs.Spelling.{bytes}
+use Rattle.words.specs.Check.{spelled}
 
 -- the kind of the first word of a list
 abbrev pub nextKind : List ℕ → ℕ
@@ -123,3 +125,48 @@ mappedBy words j k =
 -- the `{` at index i opens a mapped type
 abbrev pub mappedStart : List ℕ → ℕ → Bool
 mappedStart words i = mappedBy words (skip words i) (wholeKind words (skip words i))
+
+-- ---- Members of an object type (02, W1). What can be the key of one: a name, a string, a number
+abbrev pub propertyKey : ℕ → Bool
+propertyKey k = name k or among (Str ∷ NumberLiteral ∷ []) k
+
+-- a key or a `[` stands behind the token at an index
+abbrev pub keyFollows : List ℕ → ℕ → Bool
+keyFollows words at = propertyKey (wholeKind words (at + 1)) or eqb (wholeKind words (at + 1)) LBrack
+
+-- readonly stands at a cursor, with a key or a `[` behind it on its line
+abbrev pub readonlyStart : List ℕ → ℕ → ℕ → Bool
+readonlyStart words at half = eqb (kindAt words at half) Readonly and keyFollows words at and sameLine words (at + 1) 0
+
+-- another modifier word stands at a cursor, with a key or a `[` behind it
+abbrev pub modifierStart : List ℕ → ℕ → ℕ → Bool
+modifierStart words at half = modifier (kindAt words at half) and not (eqb (kindAt words at half) Readonly) and keyFollows words at
+
+-- the bytes of get or set
+abbrev pub accessorWord : List ℕ → Bool
+accessorWord s = same s (bytes "get") or same s (bytes "set")
+
+-- get or set stands at a cursor, a word by its kind, with a key or a `[` behind it
+abbrev pub accessorStart : (text words : List ℕ) → ℕ → ℕ → Bool
+accessorStart text words at half = eqb (kindAt words at half) Word and keyFollows words at and accessorWord (spelled text (wordAt words at))
+
+-- what may follow the name of an index parameter, from index j on: `:` or `,`, or a `?` before `:`, `,` or `]`
+abbrev pub afterIndexName : List ℕ → ℕ → Bool
+afterIndexName words j =
+    among (Colon ∷ Comma ∷ []) (wholeKind words j)
+    or (eqb (wholeKind words j) Question and among (Colon ∷ Comma ∷ RBrack ∷ []) (wholeKind words (j + 1)))
+
+-- what may stand before the name of an index parameter: a modifier word, in or const
+abbrev pub indexModifier : ℕ → Bool
+indexModifier k = modifier k or among (In ∷ Const ∷ []) k
+
+-- what stands behind the `[` of an index signature, of kind k at j: dots, a `]`, a modifier before a name, or a name by what follows it
+abbrev pub indexBy : List ℕ → ℕ → ℕ → Bool
+indexBy words j k =
+    test (among (Dot3 ∷ RBrack ∷ []) k) (λ _. true) (λ _.
+    test (indexModifier k) (λ _. bindingWord (wholeKind words (j + 1)) or afterIndexName words (j + 1)) (λ _.
+    bindingWord k and afterIndexName words (j + 1)))
+
+-- the `[` at index i opens an index signature
+abbrev pub indexStart : List ℕ → ℕ → Bool
+indexStart words i = indexBy words (i + 1) (wholeKind words (i + 1))
