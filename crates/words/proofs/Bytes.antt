@@ -86,3 +86,21 @@ same-long (x ∷ s) (y ∷ t) h = by (eqb x y) (same-long s t (λ q. h (ap suc q
     by : (b : Bool) → false ≡ same s t → false ≡ (b and same s t)
     by true e = e
     by false e = refl
+
+-- ---- parts that are there
+-- a part that is as long as it says lies inside
+pub part-inside : (l : List ℕ) (at n : ℕ) → length (part l at n) ≡ n → 1 ≤ n → at + n ≤ length l
+part-inside l at n e h = omega (arith, taken-less n (drop at l), length-drop at l)
+  where
+    taken-less : (m : ℕ) (xs : List ℕ) → length (take m xs) ≤ length xs
+    taken-less zero xs = omega arith
+    taken-less (suc m) [] = omega arith
+    taken-less (suc m) (x ∷ xs) = omega (arith, taken-less m xs)
+
+-- three bytes
+pub part-three : (l : List ℕ) (at : ℕ) → at + 3 ≤ length l → part l at 3 ≡ getD l at 0 ∷ getD l (at + 1) 0 ∷ getD l (at + 2) 0 ∷ []
+part-three l at h =
+    rest-all l at 3 ∙ rest-cons l at 3 0 (omega arith) h
+    ∙ ap₂ (λ (a : ℕ) (s : List ℕ). getD l a 0 ∷ s) (add-zero at)
+    (rest-cons l at 3 1 (omega arith) h ∙ ap (λ (s : List ℕ). getD l (at + 1) 0 ∷ s)
+    (rest-cons l at 3 2 (omega arith) h ∙ ap (λ (s : List ℕ). getD l (at + 2) 0 ∷ s) (rest-none l at 3 3 (omega arith))))

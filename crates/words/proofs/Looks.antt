@@ -10,14 +10,14 @@ use borrow.Author.Tests.{eq-eqb, ne-eqb}
 use lib.Dec.{eqb}
 use Rattle.words.proofs.Tests.{lt-or-le}
 use lib.ListN.{length, getD, drop}
-use Rattle.words.specs.Test.{_and_, test, among}
+use Rattle.words.specs.Test.{_and_, _or_, test, among}
 use Rattle.words.specs.Word.{kind, newline}
-use Rattle.words.specs.Kind.{LParen, RParen, LBrack, LAngle, NumberLiteral, BigIntLiteral, Dot3, Plus, Minus, Abstract, Readonly, In}
+use Rattle.words.specs.Kind.{Eof, LParen, RParen, LBrack, RBrack, LAngle, ShiftLeft, LtEq, ShiftLeftEq, Eq, NumberLiteral, BigIntLiteral, Str, Word, Dot3, Colon, Comma, Question, Plus, Minus, Abstract, Readonly, In, Const}
 use Rattle.words.specs.Kind as kinds
 use Rattle.words.specs.Class.{modifier, name}
 use Rattle.words.specs.Class as class
-use Rattle.words.specs.Cursor.{wordAt, wholeKind}
-use Rattle.words.specs.Ahead.{starts, startsBy, loneStarter, parameterName, modifies, passed, pastModifiers, afterParameter, beforeArrow, followed, parameterStart, bracketsBy, inBrackets, abstractStart, startBy, skip, thenIs, keyBy, keyIn, mappedBy, mappedStart}
+use Rattle.words.specs.Cursor.{wordAt, wholeKind, secondHalf, kindAt, sameLine}
+use Rattle.words.specs.Ahead.{starts, startsBy, loneStarter, parameterName, modifies, passed, pastModifiers, afterParameter, beforeArrow, followed, parameterStart, bracketsBy, inBrackets, abstractStart, startBy, skip, thenIs, keyBy, keyIn, mappedBy, mappedStart, accessorWord, afterIndexName, indexModifier, indexBy}
 use Rattle.words.specs.declared.ahead.FunctionStart.the-variants.{TypeParameters, New, Empty, Rest, Parameter, Nothing}
 
 -- ---- a starter
@@ -133,3 +133,58 @@ mapped-moved words i {j} {k} p q = ap₂ (mappedBy words) p (q ∙ ap (wholeKind
 
 pub lone-is : (k next : ℕ) {a : Bool} → eqb k Minus ≡ a → loneStarter k next ≡ test a (λ _. among (NumberLiteral ∷ BigIntLiteral ∷ []) next) (λ _. class.starter k)
 lone-is k next p = λ i. test (p i) (λ _. among (NumberLiteral ∷ BigIntLiteral ∷ []) next) (λ _. class.starter k)
+
+-- ---- how large a kind is
+half-small : (k : ℕ) → secondHalf k < 256
+half-small k = first (eqb k ShiftLeft)
+  where
+    third : (b : Bool) → test b (λ _. LtEq) (λ _. Eof) < 256
+    third true = omega arith
+    third false = omega arith
+
+    second : (b : Bool) → test b (λ _. Eq) (λ _. test (eqb k ShiftLeftEq) (λ _. LtEq) (λ _. Eof)) < 256
+    second true = omega arith
+    second false = third (eqb k ShiftLeftEq)
+
+    first : (b : Bool) → test b (λ _. LAngle) (λ _. test (eqb k LtEq) (λ _. Eq) (λ _. test (eqb k ShiftLeftEq) (λ _. LtEq) (λ _. Eof))) < 256
+    first true = omega arith
+    first false = second (eqb k LtEq)
+
+-- A kind has eight bits.
+pub kind-small : (W : List ℕ) (at half : ℕ) → kindAt W at half < 256
+kind-small W at zero = omega arith
+kind-small W at (suc h) = half-small (wholeKind W at)
+
+-- ---- members of an object type
+-- what may follow the name of an index parameter, the two kinds read and the tests of the first answered
+pub after-index-is : (words : List ℕ) (j : ℕ) {k n : ℕ} → k ≡ wholeKind words j → n ≡ wholeKind words (j + 1) → {a b : Bool} → among (Colon ∷ Comma ∷ []) k ≡ a → eqb k Question ≡ b
+    → (a or (b and among (Colon ∷ Comma ∷ RBrack ∷ []) n)) ≡ afterIndexName words j
+after-index-is words j {k} {n} p q s t =
+    sym (λ i. s i or (t i and among (Colon ∷ Comma ∷ RBrack ∷ []) n))
+    ∙ (λ i. among (Colon ∷ Comma ∷ []) (p i) or (eqb (p i) Question and among (Colon ∷ Comma ∷ RBrack ∷ []) (q i)))
+
+-- what the `[` of an index signature opens, the kind behind it read and its tests answered
+pub index-is : (words : List ℕ) (j : ℕ) {k : ℕ} → k ≡ wholeKind words j → {a b : Bool} → among (Dot3 ∷ RBrack ∷ []) k ≡ a → indexModifier k ≡ b
+    → test a (λ _. true) (λ _. test b (λ _. class.bindingWord (wholeKind words (j + 1)) or afterIndexName words (j + 1)) (λ _. class.bindingWord k and afterIndexName words (j + 1)))
+    ≡ indexBy words j (wholeKind words j)
+index-is words j {k} p s t =
+    sym (λ i. test (s i) (λ _. true) (λ _. test (t i) (λ _. class.bindingWord (wholeKind words (j + 1)) or afterIndexName words (j + 1)) (λ _. class.bindingWord k and afterIndexName words (j + 1))))
+    ∙ ap (indexBy words j) p
+
+-- three bytes are those of get or set by four tests
+pub accessor-is : (x y z : ℕ) {a b c d : Bool} → eqb x 0x67 ≡ a → eqb x 0x73 ≡ d → eqb y 0x65 ≡ b → eqb z 0x74 ≡ c
+    → ((a and b and c and true) or (d and b and c and true)) ≡ accessorWord (x ∷ y ∷ z ∷ [])
+accessor-is x y z p q r s = sym (λ i. (p i and r i and s i and true) or (q i and r i and s i and true))
+
+-- of which the one of the second byte, or of the third, refuses alone
+pub no-second : (a c d : Bool) → false ≡ ((a and false and c and true) or (d and false and c and true))
+no-second true c true = refl
+no-second true c false = refl
+no-second false c true = refl
+no-second false c false = refl
+
+pub no-third : (a d : Bool) → false ≡ ((a and true and false and true) or (d and true and false and true))
+no-third true true = refl
+no-third true false = refl
+no-third false true = refl
+no-third false false = refl

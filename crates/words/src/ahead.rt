@@ -1,7 +1,9 @@
 // Looking ahead: tests that use nothing up.
 ghost use mathlib.Core.Path.{_≡_};
 ghost use Prim.Native.Nat.{_+_, _<_, _^_};
-ghost use lib.ListN.{drop};
+ghost use lib.ListN.{drop, length};
+ghost use Rattle.words.specs.Word.{size};
+ghost use Rattle.words.specs.Check.{spelled};
 ghost use Rattle.words.specs.Ahead as ahead;
 ghost use Rattle.words.specs.Class.{classWords};
 ghost use Rattle.words.specs.Cursor.{wordAt};
@@ -239,4 +241,160 @@ pub fn mapped_start(words: &[u64], classes: &[u16; 256], i: usize) -> bool
         return key_in(words, classes, skip(words, j));
     }
     key_in(words, classes, j)
+}
+
+// ---- Members of an object type
+
+// Whether a kind can be the key of a member: a name, a string, a number.
+pub fn property_key(classes: &[u16; 256], kind: usize) -> bool
+    requires { ⌜ (now classes ≡ classWords) × (kind < 256) ⌝ }
+    ensures { λ r. ⌜ r ≡ ahead.propertyKey kind ⌝ }
+{
+    if in_class(classes, kind, Class::NAME) {
+        return true;
+    }
+    if kind == Kind::STR {
+        return true;
+    }
+    kind == Kind::NUMBER_LITERAL
+}
+
+// Whether a key or a `[` stands behind the token at an index.
+pub fn key_follows(words: &[u64], classes: &[u16; 256], at: usize) -> bool
+    requires { ⌜ (now classes ≡ classWords) × (at < 2 ^ 63) ⌝ }
+    ensures { λ r. ⌜ r ≡ ahead.keyFollows (now (words .entry)) at ⌝ }
+{
+    let kind = whole_kind(words, at + 1);
+    if property_key(classes, kind) {
+        return true;
+    }
+    kind == Kind::L_BRACK
+}
+
+// Whether readonly stands at a cursor, with a key or a `[` behind it on its line.
+pub fn readonly_start(words: &[u64], classes: &[u16; 256], c: Cursor) -> bool
+    requires { ⌜ (now classes ≡ classWords) × (c .at < 2 ^ 63) ⌝ }
+    ensures { λ r. ⌜ r ≡ ahead.readonlyStart (now (words .entry)) (c .at) (c .half) ⌝ }
+{
+    if c.kind(words) != Kind::READONLY {
+        return false;
+    }
+    if !key_follows(words, classes, c.at) {
+        return false;
+    }
+    token::newline(word_at(words, c.at + 1)) == 0
+}
+
+// Whether another modifier word stands at a cursor, with a key or a `[` behind it.
+pub fn modifier_start(words: &[u64], classes: &[u16; 256], c: Cursor) -> bool
+    requires { ⌜ (now classes ≡ classWords) × (c .at < 2 ^ 63) ⌝ }
+    ensures { λ r. ⌜ r ≡ ahead.modifierStart (now (words .entry)) (c .at) (c .half) ⌝ }
+{
+    let kind = c.kind(words);
+    if !in_class(classes, kind, Class::MODIFIER) {
+        return false;
+    }
+    if kind == Kind::READONLY {
+        return false;
+    }
+    key_follows(words, classes, c.at)
+}
+
+// Whether get or set stands at a cursor, a word by its kind, with a key or a `[` behind it.
+pub fn accessor_start(text: &[u8], words: &[u64], classes: &[u16; 256], c: Cursor) -> bool
+    requires { ⌜ (now classes ≡ classWords) × (c .at < 2 ^ 63) × (length (spelled (now text) (wordAt (now words) (c .at))) ≡ size (wordAt (now words) (c .at))) ⌝ }
+    ensures { λ r. ⌜ r ≡ ahead.accessorStart (now (text .entry)) (now (words .entry)) (c .at) (c .half) ⌝ }
+{
+    if c.kind(words) != Kind::WORD {
+        return false;
+    }
+    if !key_follows(words, classes, c.at) {
+        return false;
+    }
+    accessor_word(text, word_at(words, c.at))
+}
+
+// Whether the bytes of a token are those of get or set.
+fn accessor_word(text: &[u8], word: u64) -> bool
+    requires { ⌜ length (spelled (now text) word) ≡ size word ⌝ }
+    ensures { λ r. ⌜ r ≡ ahead.accessorWord (spelled (now (text .entry)) word) ⌝ }
+{
+    if token::length(word) != 3 {
+        return false;
+    }
+    let at = token::start(word);
+    if text[at + 1] != b'e' {
+        return false;
+    }
+    if text[at + 2] != b't' {
+        return false;
+    }
+    if text[at] == b'g' {
+        return true;
+    }
+    text[at] == b's'
+}
+
+// Whether what stands from j on may follow the name of an index parameter: `:` or `,`, or a `?` before `:`, `,` or `]`.
+fn after_index_name(words: &[u64], j: usize) -> bool
+    requires { ⌜ j < 2 ^ 63 ⌝ }
+    ensures { λ r. ⌜ r ≡ ahead.afterIndexName (now (words .entry)) j ⌝ }
+{
+    let kind = whole_kind(words, j);
+    if kind == Kind::COLON {
+        return true;
+    }
+    if kind == Kind::COMMA {
+        return true;
+    }
+    if kind != Kind::QUESTION {
+        return false;
+    }
+    let next = whole_kind(words, j + 1);
+    if next == Kind::COLON {
+        return true;
+    }
+    if next == Kind::COMMA {
+        return true;
+    }
+    next == Kind::R_BRACK
+}
+
+// Whether a kind is a modifier word's for an index parameter: in and const are among them.
+fn index_modifier(classes: &[u16; 256], kind: usize) -> bool
+    requires { ⌜ (now classes ≡ classWords) × (kind < 256) ⌝ }
+    ensures { λ r. ⌜ r ≡ ahead.indexModifier kind ⌝ }
+{
+    if in_class(classes, kind, Class::MODIFIER) {
+        return true;
+    }
+    if kind == Kind::IN {
+        return true;
+    }
+    kind == Kind::CONST
+}
+
+// Whether the `[` at i opens an index signature.
+pub fn index_start(words: &[u64], classes: &[u16; 256], i: usize) -> bool
+    requires { ⌜ (now classes ≡ classWords) × (i < 2 ^ 62) ⌝ }
+    ensures { λ r. ⌜ r ≡ ahead.indexStart (now (words .entry)) i ⌝ }
+{
+    let j = i + 1;
+    let kind = whole_kind(words, j);
+    if kind == Kind::DOT3 {
+        return true;
+    }
+    if kind == Kind::R_BRACK {
+        return true;
+    }
+    if index_modifier(classes, kind) {
+        if in_class(classes, whole_kind(words, j + 1), Class::BINDING_WORD) {
+            return true;
+        }
+        return after_index_name(words, j + 1);
+    }
+    if !in_class(classes, kind, Class::BINDING_WORD) {
+        return false;
+    }
+    after_index_name(words, j + 1)
 }
