@@ -10,7 +10,6 @@ use lib.ListN.{length, getD, List·getD-eq-default}
 use borrow.Author.Tests.{eq-eqb, ne-eqb}
 use Rattle.words.specs.Limits.{mostText}
 use Rattle.words.specs.Test.{_or_, test}
-use Rattle.words.specs.Kind.{Eof, LAngle, ShiftLeft, LtEq, ShiftLeftEq, Eq}
 use Rattle.words.specs.Class.{inClass}
 use Rattle.words.specs.Word.{kind, start}
 use Rattle.words.specs.Cursor.{wordAt, wholeKind, secondHalf, left, kindAt, takenEnd, endByte}
@@ -20,26 +19,6 @@ use Rattle.marks.specs.Node.{Put}
 use Rattle.marks.specs.declared.state.Given.{Given}
 use Rattle.marks.specs.declared.state.Mark.{Mark}
 use Rattle.marks.specs.declared.state.Answer.{Answer}
-
-half-small : (k : ℕ) → secondHalf k < 256
-half-small k = first (eqb k ShiftLeft)
-  where
-    third : (b : Bool) → test b (λ _. LtEq) (λ _. Eof) < 256
-    third true = omega arith
-    third false = omega arith
-
-    second : (b : Bool) → test b (λ _. Eq) (λ _. test (eqb k ShiftLeftEq) (λ _. LtEq) (λ _. Eof)) < 256
-    second true = omega arith
-    second false = third (eqb k ShiftLeftEq)
-
-    first : (b : Bool) → test b (λ _. LAngle) (λ _. test (eqb k LtEq) (λ _. Eq) (λ _. test (eqb k ShiftLeftEq) (λ _. LtEq) (λ _. Eof))) < 256
-    first true = omega arith
-    first false = second (eqb k LtEq)
-
--- A kind has eight bits.
-pub kind-small : (W : List ℕ) (at half : ℕ) → kindAt W at half < 256
-kind-small W at zero = omega arith
-kind-small W at (suc h) = half-small (wholeKind W at)
 
 -- Where a name stands the list is not over.
 pub class-some : (class k : ℕ) → class ≤ 1 → inClass class k ≡ true → 0 < k

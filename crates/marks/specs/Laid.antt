@@ -5,12 +5,12 @@ use mathlib.Core.List.{List, [], _∷_, _++_}
 use Prim.Native.Nat.{ℕ, zero, suc, _+_, _%_, _^_, _≤_, _<_, max}
 use lib.Dec.{T, eqb, ltb}
 use lib.ListN.{length, take}
-use Rattle.words.specs.Test.{_and_, _or_, between}
+use Rattle.words.specs.Test.{_and_, _or_, between, among}
 use Rattle.keys.specs.Bits.{unit}
 use Rattle.keys.specs.Form.{child}
 use Rattle.keys.specs.Key.{nodeTable}
 use Rattle.keys.specs.Table.{namedRow}
-use Rattle.keys.specs.Placed.{Placed, tree, second, isSet, Spelling, Opt, absent, present}
+use Rattle.keys.specs.Placed.{Placed, tree, second, isSet, chosen, Spelling, Opt, absent, present}
 use Rattle.keys.specs.Store.{Run, done, chose, name, kid, plant, under, called, packed, firstKid, records, namesIn, _⊕_}
 use Rattle.keys.specs.Words.{firstNodes, firstNames}
 use Rattle.rules.specs.Notes.{Note}
@@ -71,9 +71,13 @@ namesRun (s ∷ l) = name (s .0) (s .1) (namesRun l)
 abbrev pub showsAsked : Placed → Bool
 showsAsked p = eqb (packed (plant nodeTable namedRow p done) % 2) (unit (isSet (second p)))
 
--- Whether a tag, of six bits, may stand in a class over what it holds: 20 to 22 are no types, and 22 is a member.
+-- Of a keyword or a template, that the choices behind its tag are its first choice alone.
+abbrev pub showsChosen : ℕ → Placed → Bool
+showsChosen tag p = eqb (packed (plant nodeTable (nodeTable .row 0 tag) p done)) (chosen p)
+
+-- Whether a tag, of six bits, may stand in a class over what it holds: 20 to 22 are no types, 22 is a member, 2 and 15 show what they chose.
 abbrev pub allowed : ℕ → ℕ → Placed → Bool
-allowed zero tag p = ltb tag 64 and not (between 20 22 tag)
+allowed zero tag p = (ltb tag 64 and not (between 20 22 tag)) and (not (among (2 ∷ 15 ∷ []) tag) or showsChosen tag p)
 allowed (suc c) tag p = ltb tag 64 and (not (eqb tag 22) or showsAsked p)
 
 -- A tree that is a node of a class, with a first byte of 32 bits.

@@ -70,6 +70,8 @@ impl Tag {
     pub const NON_NULL: usize = 23;
 
     pub const ASKED: usize = 24;
+
+    pub const OBJECT: usize = 25;
     // how many tags six bits have: a node's own choices begin above
     pub const ALL: usize = 64;
 }

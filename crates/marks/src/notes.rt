@@ -33,6 +33,16 @@ impl Note {
     pub const ASKED_AFTER_LABEL: usize = 6;
 
     pub const OPTIONAL_AND_REST: usize = 7;
+
+    pub const ASKED_INDEX: usize = 8;
+
+    pub const COMMA_AFTER_INDEX: usize = 9;
+
+    pub const LITERAL_INDEX: usize = 10;
+
+    pub const KEYWORD_INDEX: usize = 11;
+
+    pub const NOT_ONE_INDEX: usize = 12;
 }
 
 // How diagnostics stand in the words of a reading: first some for tallies, then a record each.

@@ -9,7 +9,7 @@ use borrow.Author.Tests.{ltb-true, leb-false, le-leb, eqb-true, eq-eqb, ne-eqb}
 use lib.Dec.{T, eqb, leb, ltb}
 use lib.ListN.{length, take, drop, getD, set, length-append}
 use lib.Seq.{getD-take, getD-drop, getD-at, getD-append-add, take-set-lt, set-at, length-take-le}
-use Rattle.words.specs.Test.{_and_, _or_, between}
+use Rattle.words.specs.Test.{_and_, _or_, between, among}
 use Rattle.keys.specs.Bits.{unit}
 use Rattle.keys.specs.Limits.{countWidth}
 use Rattle.keys.specs.Form.{Form, never, height}
@@ -21,18 +21,22 @@ use Rattle.keys.specs.Store.{Run, done, chose, name, kid, plant, packed, firstK
 use Rattle.keys.proofs.StoreLaws.{under-join, called-join, namesIn-join}
 use Rattle.keys.specs.Words.{firstNodes}
 use Rattle.rules.specs.Tuple as tuple
-use Rattle.marks.specs.Laid.{heights, skeleton, runIn, namesRun, showsAsked, allowed, IsNode, node as is-node, Was, Laid, Stands, Shape}
+use Rattle.marks.specs.Laid.{heights, skeleton, runIn, namesRun, showsAsked, showsChosen, allowed, IsNode, node as is-node, Was, Laid, Stands, Shape}
 use Rattle.marks.proofs.RunLaws.{heights-run}
 use Rattle.parts.specs.Tuple.{memberChoices, Converts, optionalWord, lastWord}
 use Rattle.marks.specs.declared.state.Mark.{Mark}
 
 -- ---- Rows: classes 0 to 3 differ at 20, 21 and 22 alone
 
-both-hold : (a b : Bool) → T (a and b) → T a × T b
+pub both-hold : (a b : Bool) → T (a and b) → T a × T b
 both-hold true b h = (tt, h)
 both-hold false b h = absurd h
 
-is-true : (b : Bool) → T b → b ≡ true
+-- The tag of a type.
+type-tag : (tag : ℕ) (p : Placed) → T (allowed 0 tag p) → T (ltb tag 64 and not (between 20 22 tag))
+type-tag tag p h = both-hold (ltb tag 64 and not (between 20 22 tag)) (not (among (2 ∷ 15 ∷ []) tag) or showsChosen tag p) h .0
+
+pub is-true : (b : Bool) → T b → b ≡ true
 is-true true h = refl
 is-true false h = absurd h
 
@@ -65,7 +69,7 @@ module _ (tag first end : ℕ) (p : Placed) (h : T (allowed 0 tag p)) where
   as-run f = kid first end (chose 6 tag (plant nodeTable f p done)) done
 
   outside : T (not (between 20 22 tag))
-  outside = both-hold (ltb tag 64) (not (between 20 22 tag)) h .1
+  outside = both-hold (ltb tag 64) (not (between 20 22 tag)) (type-tag tag p h) .1
 
   same-one : runIn 1 (tree tag first end p) ≡ runIn 0 (tree tag first end p)
   same-one = ap as-run (rows-same type underRest namedRow never never never tag outside)
@@ -96,12 +100,14 @@ element-named (is-node {tag = tag} {first = f} {end = e} {p = p} a) = by (eqb ta
 
 -- ---- What a type is as an element
 
-tag-below : (c tag : ℕ) (p : Placed) → T (allowed c tag p) → tag < 64
-tag-below zero tag p h = ltb-true tag 64 (is-true (ltb tag 64) (both-hold (ltb tag 64) (not (between 20 22 tag)) h .0))
+-- A tag has six bits.
+pub tag-below : (c tag : ℕ) (p : Placed) → T (allowed c tag p) → tag < 64
+tag-below zero tag p h = ltb-true tag 64 (is-true (ltb tag 64) (both-hold (ltb tag 64) (not (between 20 22 tag)) (type-tag tag p h) .0))
 tag-below (suc c) tag p h = ltb-true tag 64 (is-true (ltb tag 64) (both-hold (ltb tag 64) (not (eqb tag 22) or showsAsked p) h .0))
 
+-- A type may stand as an element.
 allowed-more : (tag : ℕ) (p : Placed) → T (allowed 0 tag p) → T (allowed 1 tag p)
-allowed-more tag p h = by (ltb tag 64) (eqb tag 22) (λ e. eqb-true tag 22 e) h
+allowed-more tag p h = by (ltb tag 64) (eqb tag 22) (λ e. eqb-true tag 22 e) (type-tag tag p h)
   where
     by : (a b : Bool) → (b ≡ true → tag ≡ 22) → T (a and not (between 20 22 tag)) → T (a and (not b or showsAsked p))
     by false b i u = absurd u

@@ -46,10 +46,10 @@ use Rattle.parts.specs.declared.function.Params.{Params}
 -- ---- What a `this` puts before a run
 
 -- Its type, which may be absent.
-type-packed : (u : Opt Placed) (r : Run) → IsOpt 0 u → 1 + 2 * packed (plant nodeTable (opt (child 0)) (maybe u) r) ≡ typeBits u + 4 * packed r
+pub type-packed : (u : Opt Placed) (r : Run) → IsOpt 0 u → 1 + 2 * packed (plant nodeTable (opt (child 0)) (maybe u) r) ≡ typeBits u + 4 * packed r
 type-packed u r h = omega (arith, packed-maybe u r h, type-bits u h)
 
-this-skeleton : (t : Opt ThisParameter) (r : Run) → skeleton (plant nodeTable (opt (opt (child 0))) (maybeThis (thisType t)) r) ≡ skeleton (thisRun false t ⊕ r)
+pub this-skeleton : (t : Opt ThisParameter) (r : Run) → skeleton (plant nodeTable (opt (opt (child 0))) (maybeThis (thisType t)) r) ≡ skeleton (thisRun false t ⊕ r)
 this-skeleton absent r = refl
 this-skeleton (present t) r = skeleton-maybe (t .type) r
 
@@ -57,7 +57,7 @@ type-scale : (u : Opt Placed) → thisScale (typeBits u) ≡ 4
 type-scale absent = refl
 type-scale (present u) = refl
 
-this-packed : (t : Opt ThisParameter) (r : Run) → IsThis t
+pub this-packed : (t : Opt ThisParameter) (r : Run) → IsThis t
     → packed (plant nodeTable (opt (opt (child 0))) (maybeThis (thisType t)) r) ≡ thisBits t + thisScale (thisBits t) * packed r
 this-packed absent r h = omega arith
 this-packed (present t) r h = type-packed (t .type) r h ∙ ap (λ (n : ℕ). typeBits (t .type) + n * packed r) (sym (type-scale (t .type)))
@@ -65,11 +65,11 @@ this-packed (present t) r h = type-packed (t .type) r h ∙ ap (λ (n : ℕ). ty
 -- ---- The shapes
 
 -- What stands behind a run may be rewritten, choices aside.
-skeleton-on : (a r s : Run) → skeleton r ≡ skeleton s → skeleton (a ⊕ r) ≡ skeleton (a ⊕ s)
+pub skeleton-on : (a r s : Run) → skeleton r ≡ skeleton s → skeleton (a ⊕ r) ≡ skeleton (a ⊕ s)
 skeleton-on a r s e = skeleton-join a r ∙ ap (λ (x : Run). skeleton a ⊕ x) e ∙ sym (skeleton-join a s)
 
 -- The four parts of a function type, joined from the first on.
-joined : (a b c d : Run) → a ⊕ (b ⊕ (c ⊕ d)) ≡ ((a ⊕ b) ⊕ c) ⊕ d
+pub joined : (a b c d : Run) → a ⊕ (b ⊕ (c ⊕ d)) ≡ ((a ⊕ b) ⊕ c) ⊕ d
 joined a b c d = sym (join-join (a ⊕ b) c d ∙ join-join a b (c ⊕ d))
 
 module _ (ts : Opt (List Placed)) (l : List Placed) (u : Placed) (each-type : AllOpt 4 ts) (each : AllNodes 5 l) (is-node : IsNode 0 u) where
@@ -119,11 +119,11 @@ module _ (ts : Opt (List Placed)) (l : List Placed) (u : Placed) (each-type : Al
 
 -- Two lists, one of which is too long, or none.
 module _ (g : rule.Given) (a b : ℕ) (t : Placed) (s : State) where
-  some-long : ltb longest a or ltb longest b ≡ true → make g (a ∷ b ∷ []) t s ≡ refuse tooLong (s .at) (s .half)
+  pub some-long : ltb longest a or ltb longest b ≡ true → make g (a ∷ b ∷ []) t s ≡ refuse tooLong (s .at) (s .half)
   unfolding make
   some-long e = rw (ap (λ (x : Bool). ltb longest a or x) (sym (or-false (ltb longest b))) ∙ e)
 
-  none-long : ltb longest a or ltb longest b ≡ false → make g (a ∷ b ∷ []) t s ≡ make g [] t s
+  pub none-long : ltb longest a or ltb longest b ≡ false → make g (a ∷ b ∷ []) t s ≡ make g [] t s
   unfolding make
   none-long e = rw (ap (λ (x : Bool). ltb longest a or x) (sym (or-false (ltb longest b))) ∙ e)
 
@@ -132,7 +132,7 @@ type-there absent = refl
 type-there (present u) = refl
 
 -- Diagnostic 3 is reported where a `this` has bits.
-report-this : {A : Type 0} (g : rule.Given) (t : Opt ThisParameter) (s : State) (on : State → Result A)
+pub report-this : {A : Type 0} (g : rule.Given) (t : Opt ThisParameter) (s : State) (on : State → Result A)
     → reportThis g t s on ≡ reportIf (not (eqb (thisBits t) 0)) g (note thisOnConstructor (thisFirst t) (thisEnd t)) s on
 report-this g absent s on = refl
 report-this g (present t) s on = rw type-there

@@ -14,12 +14,14 @@ use Rattle.words.specs.Ahead.{mappedStart}
 use Rattle.words.specs.Kind.{Str, NumberLiteral, BigIntLiteral, LCurly, LBrack, LParen, RParen, Dot, Question, Bang, Star, Minus, Any, Unknown, Null, Void, True, False, Asserts, NoSubstitutionTemplate, TemplateHead, Typeof, Import, Is, This}
 use Rattle.keys.specs.Placed as node
 use Rattle.keys.specs.Placed.{Placed, tree, Spelling, spell, number, pick, join, void, literalSpelling, absent, present}
-use Rattle.keys.specs.Store.{done}
+use Rattle.keys.specs.Key.{nodeTable}
+use Rattle.keys.specs.Store.{done, plant, packed}
 use Rattle.rules.specs.Refusal.{unexpected, unsupported}
 use Rattle.rules.specs.State.{Given, State, Result, read, Reader, refused, then, next, kind, kindAfter, stands, nextOnLine, first, end, spelling, make}
 use Rattle.rules.specs.List.{position}
 use Rattle.rules.specs.Function.{subject, predicates, returnType}
 use Rattle.rules.specs.Mapped.{mapped}
+use Rattle.rules.specs.Object.{object}
 use Rattle.rules.specs.Tuple.{tuple}
 use Rattle.rules.specs.Template.{pieces, template}
 use Rattle.rules.specs.Primary as rule
@@ -30,7 +32,7 @@ use Rattle.parts.specs.Onward.{predicate, nameAt, literalAt, StartAs}
 use Rattle.marks.specs.State.{AnyGiven}
 use Rattle.marks.specs.List.{here}
 use Rattle.marks.proofs.Answers.{then-then}
-use Rattle.parts.proofs.ShapeLaws.{packed-node}
+use Rattle.parts.proofs.ShapeLaws.{packed-node, shows}
 use Rattle.marks.proofs.MarkLaws.{or-false, kind-inside}
 use Rattle.parts.proofs.RingShapes.{shape-template}
 use Rattle.marks.specs.declared.state.Mark.{Mark}
@@ -258,7 +260,7 @@ module _ (g : Given) (T : Reader) (s : State) where
   unfolding rule.enclosed rule.curly
   enclosed-mapped k m = rw (k, m)
 
-  pub enclosed-curly : kind g s ≡ LCurly → mappedStart (g .words) (s .at) ≡ false → rule.enclosed g T s ≡ refused unsupported s
+  pub enclosed-curly : kind g s ≡ LCurly → mappedStart (g .words) (s .at) ≡ false → rule.enclosed g T s ≡ object g T s
   unfolding rule.enclosed rule.curly
   enclosed-curly k m = rw (k, m)
 
@@ -312,7 +314,7 @@ module _ (g : Given) (b : ℕ) (t : Placed) (s : State) (e : stands g RParen s �
 -- ---- Shapes
 
 pub shape-keyword : (k : ℕ) → Shape 0 2 (number k) done (2 + 64 * k)
-shape-keyword k = record { same = refl; choices-are = omega arith; allowed-is = tt }
+shape-keyword k = record { same = refl; choices-are = omega arith; allowed-is = shows (packed (plant nodeTable (nodeTable .row 0 2) (number k) done)) k (omega arith) }
 
 -- A literal that is spelled, and true or false.
 pub shape-literal : (k : ℕ) (s : Spelling) → Shape 0 3 (pick k (literalSpelling (present s))) (nameRun s) (3 + 64 * k)

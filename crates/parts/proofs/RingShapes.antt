@@ -15,7 +15,7 @@ use Rattle.marks.specs.Laid.{skeleton, runIn, runOpt, runs, nameRun, namesRun, 
 use borrow.Author.Tests.{le-leb}
 use Rattle.marks.specs.Says.{optNames}
 use Rattle.parts.specs.Primary.{predicateChoices}
-use Rattle.parts.proofs.ShapeLaws.{shape-list}
+use Rattle.parts.proofs.ShapeLaws.{shape-list, shows}
 
 -- A type of a conditional, a union, an intersection.
 pub shape-conditional : {a b c d : Placed} → IsNode 0 a → IsNode 0 b → IsNode 0 c → IsNode 0 d
@@ -90,5 +90,5 @@ shape-template s l h =
       choices-are =
           (let z : 15 + 64 * length l ≡ 15 + 64 * (length l + 4096 * 0) = omega arith in z)
           ∙ ap (λ (n : ℕ). 15 + 64 * (length l + 4096 * n)) (sym (b .1));
-      allowed-is = tt;
+      allowed-is = shows (packed (plant nodeTable (nodeTable .row 0 15) (pick (length l) (join (spell s) (entries (pieces l)))) done)) (length l) (omega (arith, b .1));
     }

@@ -1,10 +1,11 @@
 -- The shapes of nodes: what lists, optional lists and optional types put into their node, as children and as choices.
-use mathlib.Core.Path.{_≡_, refl, sym, ap, _∙_}
+use mathlib.Core.Path.{_≡_, refl, sym, ap, _∙_, subst}
 use mathlib.Core.Bool.{Bool, true}
 use mathlib.Core.List.{List, [], _∷_, _++_}
 use Prim.Native.Nat.{ℕ, zero, suc, _+_, _*_, _<_}
 use native.Mathlib.Omega.{arith}
-use lib.Dec.{T, leb, leb·zero}
+use borrow.Author.Tests.{eq-eqb}
+use lib.Dec.{T, eqb, leb, leb·zero}
 use lib.ListN.{length}
 use Rattle.keys.specs.Limits.{countWidth}
 use Rattle.keys.specs.Form.{Form, child}
@@ -19,6 +20,12 @@ use Rattle.marks.specs.Says.{isThere}
 use Rattle.marks.specs.Node.{optList}
 use Rattle.parts.specs.Function.{listScale}
 use Rattle.marks.proofs.RunLaws.{plant-entries}
+
+-- ---- What a type shows
+
+-- Two numbers that are the same pass their test.
+pub shows : (a b : ℕ) → a ≡ b → T (eqb a b)
+shows a b e = subst T (sym (eq-eqb a b e)) tt
 
 -- ---- Lists of nodes
 

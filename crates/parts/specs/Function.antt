@@ -153,12 +153,19 @@ abbrev pub thisScale : ℕ → ℕ
 thisScale zero = 2
 thisScale (suc bits) = 4
 
+-- The choices of type parameters and what stands behind them; the same with a `this` between.
+abbrev pub newChoices : (there : Bool) (many rest : ℕ) → ℕ
+newChoices there many rest = optList there many + listScale there * rest
+
+abbrev pub callChoices : (there : Bool) (many bits rest : ℕ) → ℕ
+callChoices there many bits rest = newChoices there many (bits + thisScale bits * rest)
+
 -- The choices of a function type, and of a constructor type.
 abbrev pub functionChoices : (there : Bool) (many bits params : ℕ) → ℕ
-functionChoices there many bits params = 12 + 64 * (optList there many + listScale there * (bits + thisScale bits * params))
+functionChoices there many bits params = 12 + 64 * callChoices there many bits params
 
 abbrev pub constructorChoices : (isAbstract there : Bool) (many params : ℕ) → ℕ
-constructorChoices isAbstract there many params = 13 + 64 * (unit isAbstract + 2 * (optList there many + listScale there * params))
+constructorChoices isAbstract there many params = 13 + 64 * (unit isAbstract + 2 * newChoices there many params)
 
 -- The node of a constructor type may be put, or a diagnostic be recorded before it.
 abbrev pub MayPutConstructor : (W N : List ℕ) (given : Given) (h : FunctionHead) (p : Params) → Type 0

@@ -13,6 +13,7 @@ use Rattle.rules.specs.State.{Given, State, Result, Reader, refused, then, next
 use Rattle.rules.specs.Function.{subject, parameters, returnType, functionNode}
 use Rattle.rules.specs.Mapped.{modifier, mapped}
 use Rattle.rules.specs.Arguments.{named, importType}
+use Rattle.rules.specs.Object.{object}
 use Rattle.rules.specs.Tuple.{tuple}
 use Rattle.rules.specs.Template.{template}
 use Rattle.rules.specs.Primary as primary
@@ -24,7 +25,7 @@ use Rattle.parts.specs.Primary.{isLiteral}
 use Rattle.marks.specs.declared.state.Mark.{Mark}
 use Rattle.marks.specs.declared.state.Answer.{Answer}
 use Rattle.parts.specs.declared.primary.Start.{Start}
-use Rattle.parts.specs.declared.primary.Start.the-variants.{Keyword, Literal, This, Asserts, Name, Mapped, Tuple, Parens, Template, Nothing}
+use Rattle.parts.specs.declared.primary.Start.the-variants.{Keyword, Literal, This, Asserts, Name, Mapped, Object, Tuple, Parens, Template, Nothing}
 
 -- what asserts stands before
 abbrev pub subjectAt : Bool → State → State
@@ -95,6 +96,7 @@ StartAs x This g T s = x ≡ predicate g T false s
 StartAs x Asserts g T s = x ≡ predicate g T true s
 StartAs x Name g T s = x ≡ nameAt g T s
 StartAs x Mapped g T s = (x ≡ mapped g T s) × (kind g s ≡ LCurly)
+StartAs x Object g T s = (x ≡ object g T s) × (kind g s ≡ LCurly)
 StartAs x Tuple g T s = (x ≡ tuple g T s) × (kind g s ≡ LBrack)
 StartAs x Parens g T s = x ≡ primary.brackets g T s
 StartAs x Template g T s = (x ≡ template g T s) × (kind g s ≡ TemplateHead)
@@ -116,6 +118,7 @@ StartHas This W m = m .at < length W
 StartHas Asserts W m = m .at + 1 < length W
 StartHas Name W m = m .at < length W
 StartHas Mapped W m = m .at < length W
+StartHas Object W m = m .at < length W
 StartHas Tuple W m = m .at < length W
 StartHas Parens W m = m .at < length W
 StartHas Template W m = m .at < length W

@@ -20,7 +20,7 @@ ghost use Rattle.rules.specs.Function as rule;
 ghost use Rattle.marks.specs.State.{AnyGiven, view, givenOf, nextMark, Sound, Inside, Moved, Along, Under, Reached, placeOf};
 ghost use Rattle.marks.specs.Says.{Any, one, StartsNames};
 ghost use Rattle.marks.specs.List.{here, Separates};
-ghost use Rattle.parts.specs.Function.{whyIf, HeadIs, typeParameterHead, Opens, freedMark, beforeThis, behindThis, freedUsed, listScale, thisScale, functionChoices, constructorChoices, MakesFunction, LinksParams, MayPutConstructor, MayPutFunction, StartsParameter};
+ghost use Rattle.parts.specs.Function.{whyIf, HeadIs, typeParameterHead, Opens, freedMark, beforeThis, behindThis, freedUsed, listScale, thisScale, newChoices, callChoices, functionChoices, constructorChoices, MakesFunction, LinksParams, MayPutConstructor, MayPutFunction, StartsParameter};
 ghost use Rattle.marks.specs.Names.{MayName};
 use marks::names::name;
 use marks::node::Count;
@@ -398,13 +398,28 @@ fn this_scale(bits: usize) -> usize
     4
 }
 
+// The choices of type parameters and what stands behind them, `rest`.
+pub fn new_choices(there: bool, count: usize, rest: usize) -> usize
+    requires { ⌜ (count ≤ longest) × (rest < 2 ^ 32) ⌝ }
+    ensures { λ r. ⌜ (r ≡ newChoices there count rest) × (r ≤ 8191 + 8192 * rest) ⌝ }
+{
+    opt_list(there, count) + list_scale(there) * rest
+}
+
+// The same with a `this` before what stands behind them.
+pub fn call_choices(there: bool, count: usize, this: usize, rest: usize) -> usize
+    requires { ⌜ (count ≤ longest) × (this ≤ 3) × (rest < 2 ^ 30) ⌝ }
+    ensures { λ r. ⌜ (r ≡ callChoices there count this rest) × (r ≤ 8191 + 8192 * (3 + 4 * rest)) ⌝ }
+{
+    new_choices(there, count, this + this_scale(this) * rest)
+}
+
 // The choices of a function type.
 fn function_choices(there: bool, count: usize, this: usize, params: usize) -> usize
     requires { ⌜ (count ≤ longest) × (this ≤ 3) × (params ≤ longest) ⌝ }
     ensures { λ r. ⌜ r ≡ functionChoices there count this params ⌝ }
 {
-    let after = this + this_scale(this) * params;
-    Tag::FUNCTION + Tag::ALL * (opt_list(there, count) + list_scale(there) * after)
+    Tag::FUNCTION + Tag::ALL * call_choices(there, count, this, params)
 }
 
 // The choices of a constructor type.
@@ -412,12 +427,11 @@ fn constructor_choices(is_abstract: bool, there: bool, count: usize, params: usi
     requires { ⌜ (count ≤ longest) × (params ≤ longest) ⌝ }
     ensures { λ r. ⌜ r ≡ constructorChoices «is_abstract» there count params ⌝ }
 {
-    let after = opt_list(there, count) + list_scale(there) * params;
-    Tag::CONSTRUCTOR + Tag::ALL * (bit(is_abstract) + 2 * after)
+    Tag::CONSTRUCTOR + Tag::ALL * (bit(is_abstract) + 2 * new_choices(there, count, params))
 }
 
-// Some list of a function type is too long.
-fn too_long(count: usize, params: usize) -> bool
+// Some list of a function type or a signature is too long.
+pub fn too_long(count: usize, params: usize) -> bool
     ensures { λ r. ⌜ r ≡ (ltb longest count or ltb longest params) ⌝ }
 {
     if limits::List::LONGEST < count {

@@ -51,6 +51,7 @@ pub enum Start {
     // a reference, typeof or import
     Name,
     Mapped,
+    Object,
     Tuple,
     Parens,
     Template,
@@ -190,7 +191,7 @@ fn enclosed(words: &[u64], classes: &[u16; 256], kind: usize, m: Mark) -> Start
     }
 }
 
-// Behind a `{` only mapped types are read.
+// A `{` opens a mapped type by the look-ahead of types.rs, else an object type.
 fn curly(words: &[u64], classes: &[u16; 256], m: Mark) -> Start
     requires { ⌜ (now classes ≡ classWords) × (m .at < length (now words)) × (kindAt (now words) (m .at) (m .half) ≡ kind.LCurly) ⌝ }
     ensures { λ r. ⌜ StartsAs rule.enclosed (now (words .entry)) m r ⌝ }
@@ -199,7 +200,7 @@ fn curly(words: &[u64], classes: &[u16; 256], m: Mark) -> Start
     if mapped_start(words, classes, m.at) {
         return Start::Mapped;
     }
-    Start::Nothing(Refusal::UNSUPPORTED)
+    Start::Object
 }
 
 // A reference; the three prefix marks are known but refused.

@@ -7,7 +7,8 @@ use borrow.Author.Tests.{not-true, not-false}
 use Rattle.words.specs.Class.{inClass}
 use Rattle.marks.specs.State.{Along}
 use Rattle.marks.specs.Notes.{takenAt}
-use Rattle.marks.proofs.MarkLaws.{kind-small, class-some, along-same, along-named}
+use Rattle.words.proofs.Looks.{kind-small}
+use Rattle.marks.proofs.MarkLaws.{class-some, along-same, along-named}
 use Rattle.marks.proofs.NameLaws.{says-unnamed, says-named}
 use Rattle.marks.specs.declared.state.Mark.{Mark}
 use Rattle.marks.specs.declared.state.Answer.{Answer}

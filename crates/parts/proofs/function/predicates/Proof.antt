@@ -6,7 +6,7 @@ use lib.Dec.{eqb}
 use borrow.Author.Tests.{not-true, not-false, eq-eqb, ne-eqb}
 use Rattle.words.specs.Kind.{Is}
 use Rattle.words.specs.Class.{inClass}
-use Rattle.marks.proofs.MarkLaws.{kind-small}
+use Rattle.words.proofs.Looks.{kind-small}
 use Rattle.parts.proofs.HeadLaws.{predicates-is}
 use borrow.Author.Needs.{needs}
 use Rattle.parts.proofs.function.predicates.Statement.{statement}

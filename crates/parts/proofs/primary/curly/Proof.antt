@@ -1,6 +1,5 @@
 -- By the look-ahead.
 use mathlib.Core.Path.{sym, _∙_}
-use native.Mathlib.Omega.{arith}
 use Rattle.marks.specs.State.{givenOf, view}
 use Rattle.parts.proofs.PrimaryLaws.{enclosed-mapped, enclosed-curly}
 use borrow.Author.Needs.{needs}
@@ -32,8 +31,8 @@ returns-2 c =
       λ text O given T.
           let g = givenOf text (args .words .now) given in
           let s = view (args .m) O in
-          enclosed-curly g T s (pre .2) (sym (mapped-start .ensures) ∙ if1 .left),
-      omega arith,
+          (enclosed-curly g T s (pre .2) (sym (mapped-start .ensures) ∙ if1 .left), pre .2),
+      pre .1,
     )
 
 pub curly-spec : {M : Type 1} → statement M

@@ -5,7 +5,7 @@ use lib.Dec.{eqb}
 use borrow.Author.Tests.{eq-eqb}
 use Rattle.marks.specs.State.{givenOf, view}
 use Rattle.parts.proofs.PrimaryLaws.{minus-off, start-from, template-here, enclosed-tuple, enclosed-parens, enclosed-whole, enclosed-template, enclosed-other}
-use Rattle.marks.proofs.MarkLaws.{kind-small}
+use Rattle.words.proofs.Looks.{kind-small}
 use Rattle.parts.proofs.primary.enclosed.Statement.{statement}
 use Rattle.parts.proofs.primary.enclosed.Tie as tie
 

@@ -4,7 +4,7 @@ use Prim.Native.Nat.{_+_}
 use native.Mathlib.Omega.{arith}
 use borrow.Author.Tests.{not-true, not-false}
 use Rattle.parts.proofs.PrimaryLaws.{eq-at, ne-at}
-use Rattle.marks.proofs.MarkLaws.{kind-small}
+use Rattle.words.proofs.Looks.{kind-small}
 use Rattle.words.specs.Class as class
 use borrow.Author.Needs.{needs}
 use Rattle.parts.proofs.primary.is_assertion.Statement.{statement}

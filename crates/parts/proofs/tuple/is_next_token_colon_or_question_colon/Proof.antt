@@ -5,7 +5,7 @@ use native.Mathlib.Omega.{arith}
 use borrow.Author.Tests.{not-true, not-false}
 use lib.Dec.{eqb}
 use Rattle.words.specs.Class as class
-use Rattle.marks.proofs.MarkLaws.{kind-small}
+use Rattle.words.proofs.Looks.{kind-small}
 use Rattle.parts.proofs.LabelLaws.{label-no, label-yes, label-other, label-asks}
 use borrow.Author.Needs.{needs}
 use Rattle.parts.proofs.tuple.is_next_token_colon_or_question_colon.Statement.{statement}
