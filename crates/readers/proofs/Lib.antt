@@ -17,5 +17,8 @@ pub mod StartLaws
 pub mod NamedLaws
 pub mod ListTurns
 pub mod MappedLaws
+pub mod MemberLaws
+pub mod ObjectTurns
+pub mod IndexTurns
 pub mod TupleTurns
 pub mod PieceTurns

@@ -2,7 +2,7 @@
 use mathlib.Core.Path.{_≡_}
 use mathlib.Core.Bool.{Bool, true, not}
 use mathlib.Core.List.{List, [], _∷_, _++_}
-use Prim.Native.Nat.{ℕ}
+use Prim.Native.Nat.{ℕ, suc, _+_, _≤_}
 use lib.ListN.{length}
 use Rattle.words.specs.Test.{_and_, _or_, test}
 use Rattle.words.specs.Kind.{RAngle, RBrack}
@@ -16,13 +16,18 @@ use Rattle.rules.specs.List.{noEntry}
 use Rattle.rules.specs.Union.{partsFrom}
 use Rattle.rules.specs.Postfix.{postfixFrom}
 use Rattle.rules.specs.Arguments as arguments
+use Rattle.rules.specs.Object as object
+use Rattle.rules.specs.Object.{IndexParameters, noIndex}
 use Rattle.rules.specs.Tuple as tuple
 use Rattle.rules.specs.Template as template
-use Rattle.marks.specs.Laid.{Was}
+use Rattle.marks.specs.State.{view}
+use Rattle.marks.specs.Laid.{Was, BuiltAt}
 use Rattle.parts.proofs.RingLaws.{endTypes, endArguments, endTemplate}
 use Rattle.parts.proofs.Turns.{ListTurn, TreeTurn, PieceTurn, looped}
+use Rattle.members.specs.Object.{IndexIs, keptRun}
 use Rattle.marks.specs.declared.state.Mark.{Mark}
 use Rattle.marks.specs.declared.state.Kids.{Kids}
+use Rattle.members.specs.declared.object.IndexParams.{IndexParams}
 
 module _ (g : Given) (T : Reader) where
   -- A list in angle brackets that began at s.
@@ -70,6 +75,28 @@ module _ (g : Given) (T : Reader) where
   pub record TupleTurn (s : State) (B : Was) (seen : Bool) (k : Kids) (p : Mark) (N M O : List ℕ) : Type 0 where
     pub turn : ListTurn 1 (length (g .words)) B done (looped g RBrack (tuple.checkedElement g T) (endTuple s)) (tuple.tuple g T s) (k .count) k p N M O
     pub seen-is : seen ≡ tuple.seenOptional (turn .list)
+
+  -- The members of an object type that began at s, from q on.
+  abbrev pub endObject : State → List Placed → State → Result Placed
+  endObject s l q = make g (length l ∷ []) (node.object (first g s) (end g q) l) q
+
+  -- What is due with the members so far.
+  abbrev pub membersOf : State → ℕ → List Placed → State → Result Placed
+  membersOf s n l q = then (object.membersFrom g T n l q) (endObject s)
+
+  -- The loop over its members.
+  abbrev pub MembersTurn : State → Was → Kids → Mark → (N M O : List ℕ) → Type 0
+  MembersTurn s B k p N M O = ListTurn 6 (length (g .words)) B done (membersOf s) (object.object g T s) (k .count) k p N M O
+
+  -- The loop over the parameters of an index signature, from s on; the first of them begins at byte `from`.
+  pub record IndexTurn (s : State) (B : Was) (from : ℕ) (r : IndexParams) (p : Mark) (N M O : List ℕ) : Type 0 where
+    pub params : IndexParameters
+    pub fuel : ℕ
+    pub enough : length (g .words) ≤ fuel + p .at
+    pub is : object.indexFrom g T (turns g) noIndex s ≡ object.indexFrom g T (suc fuel) params (view p O)
+    pub params-are : IndexIs from r params
+    pub from-is : r .count ≡ 0 → from ≡ first g (view p O)
+    pub built : BuiltAt B (keptRun (object.kept params)) (r .kids) p N M O
 
   -- The pieces of a template that began at s, from q on.
   abbrev pub piecesOf : State → ℕ → List (Placed × Spelling) → State → Result Placed

@@ -11,6 +11,7 @@ use Rattle.keys.specs.Bits.{unit}
 use Rattle.keys.specs.Placed.{Placed, Opt, absent, present}
 use Rattle.keys.specs.Store.{Run, done, _⊕_}
 use Rattle.keys.proofs.StoreLaws.{join-done}
+use Rattle.rules.specs.Refusal.{unexpected}
 use Rattle.rules.specs.State as rule
 use Rattle.rules.specs.State.{Result, Reader, refuse, optional, turns}
 use Rattle.rules.specs.Function.{ThisParameter, Parameters, parametersOf, parametersFrom, thisFirst, parameters}
@@ -19,6 +20,7 @@ use Rattle.marks.specs.Laid.{runOpt, optBit, Was, was, Built, BuiltAt}
 use Rattle.marks.specs.Says.{SaysOption}
 use Rattle.marks.specs.List.{Separates}
 use Rattle.parts.specs.Function.{typeBits, thisRun, IsThis, ThisIs, SaysParams, Opens, freedMark, beforeThis, behindThis, freedUsed}
+use Rattle.parts.specs.Function as opens
 use Rattle.readers.specs.Ring.{SaysRest}
 use Rattle.marks.proofs.LaidLaws.{laid-back}
 use Rattle.marks.proofs.BuiltLaws.{built-none}
@@ -56,6 +58,12 @@ bit-low false = omega arith
 pub under-this : (n : Bool) (used used' : ℕ) (k k' : Kids) → Under used k → Under used' k' → Under (freedUsed n used used') (behindThis n k k')
 under-this true used used' k k' a b = a
 under-this false used used' k k' a b = b
+
+-- Behind its bracket a list of parameters is a token further on.
+pub opens-past : {W : List ℕ} {m : Mark} {h : Head} → Opens W m h → h .why ≡ 0 → m .at + 1 ≤ h .m .at
+opens-past (opens.stops i e) z = absurd (let n : unexpected ≡ 0 = sym (ap (λ (x : Head). x .why) e) ∙ z in omega arith)
+opens-past {m = m} {h = h} (opens.plain i j e) z = let n : h .m .at ≡ m .at + 1 = ap (λ (x : Head). x .m .at) e in omega (arith, n)
+opens-past {m = m} {h = h} (opens.this i j e) z = let n : h .m .at ≡ m .at + 1 + 1 = ap (λ (x : Head). x .m .at) e in omega (arith, n)
 
 -- ---- Answers
 

@@ -6,7 +6,7 @@ use Prim.Native.Nat.{ℕ}
 use lib.ListN.{length}
 use Rattle.words.specs.Kind.{Arrow, Abstract, New}
 use Rattle.keys.specs.Placed.{Placed, Opt}
-use Rattle.keys.specs.Store.{_⊕_}
+use Rattle.keys.specs.Store.{Run, _⊕_}
 use Rattle.rules.specs.State as rule
 use Rattle.rules.specs.Refusal.{unexpected}
 use Rattle.rules.specs.State.{State, Result, Reader, read, refuse, then, next, stands, past}
@@ -17,8 +17,7 @@ use Rattle.rules.specs.Function.{Parameters}
 use Rattle.marks.specs.State.{view, givenOf, nextMark, pastMark}
 use Rattle.marks.specs.Laid.{runIn, runs, runsOpt, AllOpt, Was, was, BuiltAt}
 use Rattle.marks.specs.Says.{Got, Says, isThere}
-use Rattle.marks.specs.Node.{Links}
-use Rattle.parts.specs.Function.{thisRun, ThisIs, GotParams, HeadIs, MakesFunction}
+use Rattle.parts.specs.Function.{thisRun, ThisIs, GotParams, LinksParams, HeadIs, MakesFunction}
 use Rattle.parts.specs.Onward.{signature}
 use Rattle.marks.proofs.Answers.{then-read}
 use Rattle.parts.proofs.RingLaws.{expect-yes, expect-no, function-is, behindParameters, signature-is}
@@ -68,22 +67,26 @@ module _ (g : rule.Given) (T : Reader) (b : ℕ) (isNew isAbstract : Bool) (ts :
       signature-is g T b isNew isAbstract ts s ∙ then-read (behindParameters g T b isNew isAbstract ts) e
       ∙ expect-yes g Arrow q (λ p. then (function.returnType g T p) λ r n. function.functionNode g T b isNew isAbstract ts ps r n) h
 
--- The return type is the last child, and the node is made of all.
+-- The return type, read behind a mark at m, is the last child.
+pub return-linked : {B : Was} (t : Run) (m : Mark) (p f : Params) (r : Answer) {y : Result Placed} {N M O N₁ M₁ O₁ N₂ : List ℕ} → BuiltAt B t (p .kids) m N M O
+    → (ret : Got 0 (was (nextMark m) N M O) y (r .high) (r .m) N₁ M₁ O₁) → LinksParams p (nextMark m) r N₁ f N₂ → length N ≡ length N₁
+    → BuiltAt B (t ⊕ runIn 0 (ret .tree)) (f .kids) (f .m) N₂ M₁ O₁
+return-linked {B} t m p f r {N = N} {M = M} {O = O} {M₁ = M₁} {O₁ = O₁} {N₂ = N₂} built ret links same =
+    subst (λ (q : Mark). BuiltAt B (t ⊕ runIn 0 (ret .tree)) (f .kids) q N₂ M₁ O₁) (sym (links .3))
+    (links .4 0 B t (ret .tree) N M O M₁ O₁ (m .named) (m .noted) (r .m .named) (r .m .noted) built same
+    (ret .stands .is-node) (ret .stands .high-is) (ret .stands .laid))
+
+-- The node is made of all its parts.
 pub signature-node : (text W : List ℕ) (given : Given) (T : Reader) (h : FunctionHead) {there : Bool} {many : ℕ} {p : Params} (f : Params) (r : Answer) {a : Answer} {B : Was}
     (ts : Opt (List Placed)) {x : Result Parameters} {y : Result Placed} {N M O N₁ M₁ O₁ N₂ N₃ O₃ : List ℕ}
     → (got : GotParams B (runsOpt 4 ts) (thisRun (h .«is_new»)) x p N M O) (ret : Got 0 (was (nextMark (p .m)) N M O) y (r .high) (r .m) N₁ M₁ O₁)
-    → f .count ≡ p .count → f .this ≡ p .this → f .m ≡ r .m → Links (p .kids) (p .m .used) (r .m .used) (r .high) N₁ (f .kids) N₂
-    → MakesFunction W given h there many f N₂ O₁ a N₃ O₃ → length N ≡ length N₁
+    → LinksParams p (nextMark (p .m)) r N₁ f N₂ → MakesFunction W given h there many f N₂ O₁ a N₃ O₃ → length N ≡ length N₁
     → AllOpt 4 ts → there ≡ isThere ts → many ≡ count ts → h .b .name ≡ B .named
     → Says 0 B (function.functionNode (givenOf text W given) T (h .b .first) (h .«is_new») (h .«is_abstract») ts (got .what) (ret .tree) (view (r .m) O₁)) a N₃ M₁ O₃
-signature-node text W given T h {there} {many} {p} f r {a} {B} ts {x} {y} {N} {M} {O} {N₁} {M₁} {O₁} {N₂} {N₃} {O₃}
-    got ret count-is this-is mark-is links makes same each there-is many-is name-is =
-    let all = ((runsOpt 4 ts ⊕ thisRun (h .«is_new») (got .what .this)) ⊕ runs 5 (got .what .list)) ⊕ runIn 0 (ret .tree) in
-    let built : BuiltAt B all (f .kids) (r .m) N₂ M₁ O₁ =
-    links 0 B ((runsOpt 4 ts ⊕ thisRun (h .«is_new») (got .what .this)) ⊕ runs 5 (got .what .list)) (ret .tree) N M O M₁ O₁ (p .m .named) (p .m .noted) (r .m .named) (r .m .noted)
-    (got .built) same (ret .stands .is-node) (ret .stands .high-is) (ret .stands .laid) in
+signature-node text W given T h {p = p} f r {a} {B} ts {M₁ = M₁} {O₁ = O₁} {N₃ = N₃} {O₃ = O₃} got ret links makes same each there-is many-is name-is =
     subst (λ (q : Mark). Says 0 B (function.functionNode (givenOf text W given) T (h .b .first) (h .«is_new») (h .«is_abstract») ts (got .what) (ret .tree) (view q O₁)) a N₃ M₁ O₃)
-    mark-is
-    (makes text T B ts (got .what) (ret .tree) M₁ (subst (λ (q : Mark). BuiltAt B all (f .kids) q N₂ M₁ O₁) (sym mark-is) built)
-    name-is there-is many-is (subst (λ (q : ThisCode). ThisIs q (got .what .this)) (sym this-is) (got .this-is)) (count-is ∙ got .count-is)
+    (links .3)
+    (makes text T B ts (got .what) (ret .tree) M₁
+    (return-linked ((runsOpt 4 ts ⊕ thisRun (h .«is_new») (got .what .this)) ⊕ runs 5 (got .what .list)) (p .m) p f r (got .built) ret links same)
+    name-is there-is many-is (subst (λ (q : ThisCode). ThisIs q (got .what .this)) (sym (links .2)) (got .this-is)) (links .1 ∙ got .count-is)
     each (got .is-this) (got .each) (ret .stands .is-node))

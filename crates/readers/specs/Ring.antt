@@ -8,17 +8,20 @@ use denote.Ref.{RefT}
 use denote.Triple.Both.{Both}
 use Rattle.words.specs.Limits.{mostTokens, tallest}
 use Rattle.words.specs.Class.{classWords}
-use Rattle.keys.specs.Placed.{Placed, Opt}
+use Rattle.keys.specs.Placed.{Placed, Spelling, Opt}
 use Rattle.keys.specs.Store.{Run, done, _⊕_}
 use Rattle.rules.specs.State as rule
 use Rattle.rules.specs.State.{State, Result, Reader, read, turns}
 use Rattle.rules.specs.Function as function
 use Rattle.rules.specs.Function.{ThisParameter, Parameters, parametersOf}
+use Rattle.rules.specs.Object as object
+use Rattle.rules.specs.Object.{Signature}
 use Rattle.rules.specs.Reading.{readType}
 use Rattle.marks.specs.State.{view, givenOf, Declined, Sound, Spelt, Room, Fine, Under, placeOf}
-use Rattle.marks.specs.Laid.{runs, AllNodes, Was, was, BuiltAt, Stands}
+use Rattle.marks.specs.Laid.{runs, namesRun, AllNodes, Was, was, Laid, BuiltAt, Stands}
 use Rattle.marks.specs.Says.{Says, SaysList, SaysChild, SaysOption}
 use Rattle.parts.specs.Function.{ThisIs, thisRun, SaysParams}
+use Rattle.members.specs.Object.{signatureNames, signatureHead, indexHead}
 use Rattle.marks.specs.declared.state.Given.{Given}
 use Rattle.marks.specs.declared.state.Mark.{Mark}
 use Rattle.marks.specs.declared.state.Begin.{Begin}
@@ -159,3 +162,21 @@ ReadsOthers text words given this k m nodes names notes p =
     (B : Was) (t : Run) (th : Opt ThisParameter) → BuiltIn B t k m nodes names notes → ThisIs this th
     → SaysRest B t th (at (λ g. function.parametersFrom g (below given g) th (turns g) []) text words given m notes) p
     (nodes .exit .now) (names .exit .now) (notes .exit .now)
+
+-- ---- Behind the head of a member that begins at b
+
+-- Names alone stood in the slices since B.
+abbrev pub SpokenIn : Was → List Spelling → Mark → (nodes names notes : Lent) → Type 0
+SpokenIn B ss m nodes names notes = Laid B (namesRun ss) (m .used) (m .named) (m .noted) (nodes .entry .now) (names .entry .now) (notes .entry .now)
+
+-- The signature that the head's choices say, behind its names.
+abbrev pub ReadsSignature : (text words : Lent) → Given → Begin → (head : ℕ) → Mark → (nodes names notes : Lent) → Answer → Type 0
+ReadsSignature text words given b head m nodes names notes a =
+    (B : Was) (x : Signature) → SpokenIn B (signatureNames x) m nodes names notes → b .name ≡ B .named → head ≡ signatureHead x
+    → SaysSince 6 B (λ g. object.signature g (below given g) (b .first) x) text words given m nodes names notes a
+
+-- The index signature, readonly or not by the head's choices, from its `[` on.
+abbrev pub ReadsIndex : (text words : Lent) → Given → Begin → (head : ℕ) → Mark → (nodes names notes : Lent) → Answer → Type 0
+ReadsIndex text words given b head m nodes names notes a =
+    (B : Was) (readonly : Bool) → SpokenIn B [] m nodes names notes → b .name ≡ B .named → head ≡ indexHead readonly
+    → SaysSince 6 B (λ g. object.index g (below given g) (b .first) readonly) text words given m nodes names notes a

@@ -18,11 +18,12 @@ ghost use Rattle.rules.specs.Postfix as postfix;
 ghost use Rattle.rules.specs.Primary as primary;
 ghost use Rattle.rules.specs.Arguments as arguments;
 ghost use Rattle.rules.specs.Mapped as mapped;
+ghost use Rattle.rules.specs.Object as object;
 ghost use Rattle.rules.specs.Tuple as tuple;
 ghost use Rattle.rules.specs.Template as template;
 ghost use Rattle.marks.specs.State.{Under, placeOf};
 ghost use Rattle.parts.specs.Onward as onward;
-ghost use Rattle.readers.specs.Ring.{below, Past, Ready, Begun, Reads, ReadsList, Child, OnwardChild, Option, Behind, ReadsParams, ReadsOthers, Within, WithinList, WithinParams, Onward};
+ghost use Rattle.readers.specs.Ring.{below, Past, Ready, Begun, Reads, ReadsList, Child, OnwardChild, Option, Behind, ReadsParams, ReadsOthers, ReadsSignature, ReadsIndex, Within, WithinList, WithinParams, Onward};
 use marks::list::list_end;
 use marks::list::past_comma;
 use marks::names::spell;
@@ -45,6 +46,17 @@ use marks::state::first_byte;
 use marks::state::kind_at;
 use marks::state::on_line;
 use marks::state::past;
+use members::object::IndexParams;
+use members::object::Sort;
+use members::object::index_choices;
+use members::object::index_end;
+use members::object::index_head;
+use members::object::index_next;
+use members::object::member_head;
+use members::object::member_node;
+use members::object::note_this;
+use members::object::property_choices;
+use members::object::signature_node;
 use parts::arguments::named_head;
 use parts::arguments::named_node;
 use parts::arguments::opened;
@@ -509,7 +521,7 @@ fn params(
     requires { ⌜ Ready (now text) (now words) (now classes) (now nodes) given m × Under (m .used) kids ⌝ }
     ensures { λ r. ⌜ ReadsParams text words given «is_new» kids m nodes names notes r ⌝ }
     ensures { λ r. ⌜ WithinParams words given r ⌝ }
-    ensures { λ r. ⌜ (r .why ≡ 0 → Past (placeOf m + 1) (m .used) (r .m)) ⌝ }
+    ensures { λ r. ⌜ (r .why ≡ 0 → Past (m .at * 2 + 2) (m .used) (r .m)) ⌝ }
 {
     let h = params_head(words, m);
     if h.why != 0 {
@@ -988,6 +1000,7 @@ fn primary(
         Start::Asserts => return pred(text, words, classes, nodes, names, notes, given, true, m),
         Start::Name => return named(text, words, classes, nodes, names, notes, given, m),
         Start::Mapped => return mapped(text, words, classes, nodes, names, notes, given, m),
+        Start::Object => return object(text, words, classes, nodes, names, notes, given, m),
         Start::Tuple => return tuple(text, words, classes, nodes, names, notes, given, m),
         Start::Parens => return parens(text, words, classes, nodes, names, notes, given, m),
         Start::Template => return template(text, words, classes, nodes, names, notes, given, m),
@@ -1165,6 +1178,228 @@ fn mapped(
     let choices = mapped_choices(h.choices, opt_bit(n.there), a.choices, opt_bit(t.there));
     let b = Begin::at(words, m);
     mapped_node(words, nodes, given, b, choices, t.kids, t.m)
+}
+
+// Object: its members in curly brackets.
+fn object(
+    text: &[u8],
+    words: &[u64],
+    classes: &[u16; 256],
+    nodes: &mut [u64],
+    names: &mut [u64],
+    notes: &mut [u64; Noting::WORDS],
+    given: Given,
+    m: Mark,
+) -> Answer
+    requires { ⌜ Ready (now text) (now words) (now classes) (now nodes) given m × (m .at < length (now words)) ⌝ }
+    ensures { λ r. ⌜ (kindAt (now (words .entry)) (m .at) (m .half) ≡ LCurly → Reads 0 (λ g. object.object g (below given g)) text words given m nodes names notes r) ⌝ }
+    ensures { λ r. ⌜ Within words given r ⌝ }
+    ensures { λ r. ⌜ Onward m r ⌝ }
+{
+    let mut p = Mark {
+        at: m.at + 1,
+        half: 0,
+        used: m.used,
+        named: m.named,
+        noted: m.noted,
+    };
+    let mut k = Kids::none();
+    while kind_at(words, p) != Kind::R_CURLY {
+        let a = memb(text, words, classes, nodes, names, notes, given, p);
+        if a.why != 0 {
+            return a;
+        }
+        let q = a.m;
+        k = link(nodes, k, p.used, q.used, a.high);
+        p = q;
+    }
+    let e = Mark {
+        at: p.at + 1,
+        half: 0,
+        used: p.used,
+        named: p.named,
+        noted: p.noted,
+    };
+    let b = Begin::at(words, m);
+    put_list(words, nodes, given, b, Tag::OBJECT, k, e)
+}
+
+// Member: a signature, an index signature, or a property with its optional type.
+fn memb(
+    text: &[u8],
+    words: &[u64],
+    classes: &[u16; 256],
+    nodes: &mut [u64],
+    names: &mut [u64],
+    notes: &mut [u64; Noting::WORDS],
+    given: Given,
+    m: Mark,
+) -> Answer
+    requires { ⌜ Ready (now text) (now words) (now classes) (now nodes) given m ⌝ }
+    ensures { λ r. ⌜ Reads 6 (λ g. object.member g (below given g)) text words given m nodes names notes r ⌝ }
+    ensures { λ r. ⌜ Within words given r ⌝ }
+    ensures { λ r. ⌜ (r .why ≡ 0 → Past (m .at * 2 + 2) (m .used + 1) (r .m)) ⌝ }
+{
+    let h = member_head(text, words, classes, names, m);
+    if h.why != 0 {
+        return Answer::refused(h.why, h.m);
+    }
+    let b = Begin::at(words, m);
+    let head = h.choices;
+    let p = h.m;
+    if h.sort == Sort::INDEX {
+        return index(text, words, classes, nodes, names, notes, given, b, head, p);
+    }
+    if h.sort != Sort::PROPERTY {
+        return sign(text, words, classes, nodes, names, notes, given, b, head, p);
+    }
+    let t = opt(
+        text,
+        words,
+        classes,
+        nodes,
+        names,
+        notes,
+        given,
+        Kind::COLON,
+        true,
+        Kids::none(),
+        p,
+    );
+    if t.why != 0 {
+        return Answer::refused(t.why, t.m);
+    }
+    let all = property_choices(head, t.there);
+    member_node(words, nodes, given, b, all, t.kids, t.m)
+}
+
+// Signature: type parameters, parameters and the return type of a member that begins at b; diagnostic 3 stands before that.
+fn sign(
+    text: &[u8],
+    words: &[u64],
+    classes: &[u16; 256],
+    nodes: &mut [u64],
+    names: &mut [u64],
+    notes: &mut [u64; Noting::WORDS],
+    given: Given,
+    b: Begin,
+    head: usize,
+    m: Mark,
+) -> Answer
+    requires { ⌜ Ready (now text) (now words) (now classes) (now nodes) given m × Begun b × (head ≤ 127) ⌝ }
+    ensures { λ r. ⌜ ReadsSignature text words given b head m nodes names notes r ⌝ }
+    ensures { λ r. ⌜ Within words given r ⌝ }
+    ensures { λ r. ⌜ (r .why ≡ 0 → Past (m .at * 2 + 2) (m .used + 1) (r .m)) ⌝ }
+{
+    let t = tparams(text, words, classes, nodes, names, notes, given, true, m);
+    if t.why != 0 {
+        return Answer::refused(t.why, t.m);
+    }
+    let k = t.kids;
+    let is_new = head == Sort::CONSTRUCT;
+    let p = params(
+        text,
+        words,
+        classes,
+        nodes,
+        names,
+        notes,
+        given,
+        is_new,
+        k,
+        t.m,
+    );
+    if p.why != 0 {
+        return Answer::refused(p.why, p.m);
+    }
+    let n = note_this(notes, given, is_new, p.this, p.m);
+    if n.why != 0 {
+        return Answer::refused(n.why, n.m);
+    }
+    let s = n.m;
+    if kind_at(words, s) != Kind::COLON {
+        return signature_node(words, nodes, given, b, head, t.there, k.count, p, false, s);
+    }
+    let q = Mark {
+        at: s.at + 1,
+        half: 0,
+        used: s.used,
+        named: s.named,
+        noted: s.noted,
+    };
+    let r = ret(text, words, classes, nodes, names, notes, given, q);
+    if r.why != 0 {
+        return r;
+    }
+    let f = p.with(nodes, q, r);
+    signature_node(words, nodes, given, b, head, t.there, k.count, f, true, f.m)
+}
+
+// Index signature: its parameters, of which the first is kept and what others took is given back, and its type, in a member that begins at b.
+fn index(
+    text: &[u8],
+    words: &[u64],
+    classes: &[u16; 256],
+    nodes: &mut [u64],
+    names: &mut [u64],
+    notes: &mut [u64; Noting::WORDS],
+    given: Given,
+    b: Begin,
+    head: usize,
+    m: Mark,
+) -> Answer
+    requires { ⌜ Ready (now text) (now words) (now classes) (now nodes) given m × (m .at < length (now words)) × Begun b × (head ≤ 127) ⌝ }
+    ensures { λ r. ⌜ ReadsIndex text words given b head m nodes names notes r ⌝ }
+    ensures { λ r. ⌜ Within words given r ⌝ }
+    ensures { λ r. ⌜ (r .why ≡ 0 → Past (m .at * 2 + 2) (m .used + 1) (r .m)) ⌝ }
+{
+    let mut p = Mark {
+        at: m.at + 1,
+        half: 0,
+        used: m.used,
+        named: m.named,
+        noted: m.noted,
+    };
+    let first = first_byte(words, p);
+    let mut ps = IndexParams::none();
+    while kind_at(words, p) != Kind::R_BRACK {
+        let h = index_head(words, classes, names, notes, given, p);
+        if h.why != 0 {
+            return Answer::refused(h.why, h.m);
+        }
+        let a = ty(text, words, classes, nodes, names, notes, given, true, h.m);
+        if a.why != 0 {
+            return a;
+        }
+        let q = freed(ps.count != 0, p, a.m);
+        ps = ps.with(words, a);
+        let s = index_next(words, notes, given, q);
+        if s.why != 0 {
+            return Answer::refused(s.why, s.m);
+        }
+        p = s.m;
+    }
+    let e = index_end(words, nodes, notes, given, b.first, first, ps, p);
+    if e.why != 0 {
+        return Answer::refused(e.why, e.m);
+    }
+    let t = child(
+        text,
+        words,
+        classes,
+        nodes,
+        names,
+        notes,
+        given,
+        true,
+        ps.kids,
+        e.m,
+    );
+    if t.why != 0 {
+        return Answer::refused(t.why, t.m);
+    }
+    let all = index_choices(head, ps.count != 0);
+    member_node(words, nodes, given, b, all, t.kids, t.m)
 }
 
 // Tuple: its elements in square brackets.
