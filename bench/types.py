@@ -3,9 +3,10 @@
 
     types.py OUT [FOLDER ..]    the types in the folders' .d.ts files; without a folder a generator's, the same each time
 
-Each different text counts once. A type that holds what is not read here (members of object types, above all) is left out,
-and the types in it stand for themselves, as tools/types_of.js finds them. Files in OUT, each of token lists one after the
-other: the text's length and the number of words (4 bytes each, lowest first), the text, the words (8 bytes each).
+Each different text counts once. A type that holds an object type, which bench/baseline does not read, or what is not read
+here at all is left out, and the types in it stand for themselves, as tools/types_of.js --base finds them. Files in OUT, each
+of token lists one after the other: the text's length and the number of words (4 bytes each, lowest first), the text, the
+words (8 bytes each).
 
     about                 a line that says how many types there are
     one, typical, 1000    types of one token; all types; tuples of types with about 1,000 tokens
@@ -40,7 +41,7 @@ def files(folders):
 def real(paths):
     """The texts of the types in the files."""
     for i in range(0, len(paths), 50):
-        out = subprocess.run(["node", os.path.join(TOOLS, "types_of.js")] + paths[i:i + 50], capture_output=True, text=True)
+        out = subprocess.run(["node", os.path.join(TOOLS, "types_of.js"), "--base"] + paths[i:i + 50], capture_output=True, text=True)
         if out.returncode:
             sys.exit(out.stderr)
         for line in out.stdout.splitlines():

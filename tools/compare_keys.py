@@ -40,7 +40,7 @@ def sound(chance):
                 continue
             k = x[4]
         elif how < 0.95:
-            k = key_of(gen("type", chance.choice((0, 1, 2, 2, 3, 3, 4)), chance.choice([None] * 3 + list(range(1, 20)) + [23, 24])))
+            k = key_of(gen("type", chance.choice((0, 1, 2, 2, 3, 3, 4)), chance.choice([None] * 3 + list(range(1, 20)) + [23, 24] + [25] * 6)))
         else:
             h = chance.choice((chance.randint(1, 40), chance.randint(250, 260)))
             k = key_of(wrap(h, chance.choice((4, 7, 23, 24)), gen("type", chance.choice((0, 1, 2)))))

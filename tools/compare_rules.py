@@ -3,7 +3,8 @@
 that is lent.
 
     compare_rules.py [--count N] [--seed S] [--build O3|O0|checked] [--sorts SORTS] [--no-build]
-        SORTS: stored, limits, orders, short, generated (N texts), keys (N keys, as compare_keys.py makes them)
+        SORTS: stored, limits, orders, short, generated (N texts), objects (the rows of W1 and N texts with object types),
+        keys (N keys, as compare_keys.py makes them)
     compare_rules.py --stack [--build B]       the least stack that the program needs for each of the largest readings
 
 It runs in the folder that holds crates.txt. The program crate `rows` is compiled unproved by tools/unproved.sh. What is
@@ -27,12 +28,13 @@ import model as m
 import rules_vectors as v
 from compare import answers
 from compare_keys import keys
-from rules_model import TAGS, WIDE, Cases, called, expected, keyofs, read, record
+from rules_model import TAGS, WIDE, Cases, ObjectMaker, called, expected, keyofs, read, record
 from words_vectors import root
 
 # ---- texts
 ALPHABETS = ("A ( ) [ ] ? | < > , => keyof infer extends this ...".split(), "{ [ K ] in readonly + - ? : as ; }".split(),
-             "A . << <= > typeof import ( 's' ) is asserts -".split(), "( a this , : = ) => new public < T in out >".split())
+             "A . << <= > typeof import ( 's' ) is asserts -".split(), "( a this , : = ) => new public < T in out >".split(),
+             "{ a [ ] ( : ? , } get readonly new public".split())
 
 
 def short():
@@ -66,6 +68,14 @@ def orders(c):
                 for e in (k, max(0, k - 1)): yield c.case('orders', t, w, 0, False, (4 * a + c.r.randrange(4), e, 3 * b + c.r.randrange(3), s - c.r.randrange(2)))
 
 
+def objects(seed, count):
+    """Object types: the rows of W1 and generated texts."""
+    rows = v.Vectors()
+    v.object_rows(rows)
+    for x in rows: yield ('objects',) + x[1:]
+    yield from Cases(seed, ObjectMaker).generated(count)
+
+
 def cases(seed, count, sorts):
     c = Cases(seed)
     has = lambda s: not sorts or s in sorts
@@ -76,6 +86,7 @@ def cases(seed, count, sorts):
     if has('short'):
         for t in short(): yield c.case('short', t)
     if has('generated'): yield from c.generated(count)
+    if has('objects'): yield from objects(seed, count)
     if has('keys'):
         for op, key, rooms in keys(count, seed): yield 'keys', key, tuple(rooms[:3])
 

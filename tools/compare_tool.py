@@ -1,6 +1,7 @@
 #!/usr/bin/env python3
-"""Runs the tool (target/bin/typekey) on each stored text that model.py cuts as it is stored, and compares what it prints
-as JSON with model.py: key, tree, bytes, diagnostics and end, or the refusal and its token; brackets dropped and kept.
+"""Runs the tool (target/bin/typekey) on each stored text that model.py cuts as it is stored, and on texts with object types
+that rules_model.py makes and damages, and compares what it prints as JSON with model.py: key, tree, bytes, members' fields,
+diagnostics and end, or the refusal and its token; brackets dropped and kept.
 
     compare_tool.py [TOOL]           the last lines say how many texts there were and how many differ
     compare_tool.py --diff [COUNT [TOOL]]   only pairs, so many: the bits that --diff-types and --diff give, against differ_model.py
@@ -20,12 +21,16 @@ sys.path.insert(0, os.path.join(ROOT, "tools"))
 import model
 from differ_model import differences as differ
 from keys_model import items
+from rules_model import Cases, ObjectMaker
 
 TOOL = os.path.join(ROOT, "target", "bin", "typekey")
 PAIRS = 300
+OBJECTS = 20000                                                    # texts made with object types
 REFUSALS = " BadList BadToken Unexpected Unsupported TooDeep TooTall TooLong NoRoom ManyNotes BadKey NoSpace".split(" ")
 TAGS = ("- reference keyword literal parens union intersection array indexed conditional infer operator function constructor mapped "
-        "template predicate typeof import tuple optional rest named non-null nullable").split()
+        "template predicate typeof import tuple optional rest named non-null nullable object").split()
+MEMBERS = "property", "method", "call signature", "construct signature", "index signature"
+KEYS = "name", "string", "number"
 
 
 def stored():
@@ -42,6 +47,13 @@ def stored():
         i += size + 8 * words
 
 
+def made(count):
+    """Texts with object types, sound and damaged."""
+    for sort, text, words, *_ in Cases(7, ObjectMaker).generated(count):
+        if sort in ("sound", "damaged"):
+            yield text, words
+
+
 def cut(text):
     try:
         return model.cut(text.decode("latin1"))
@@ -49,11 +61,27 @@ def cut(text):
         return None
 
 
+def fields(n):
+    """What a member says of itself by name."""
+    f, latin = n.f, lambda s: s.decode("latin1")
+    said = {"readonly": bool(f["readonly"])} if f["sort"] in (0, 4) else {}
+    if f["sort"] < 2:
+        said.update(key=KEYS[f["key"][0]], name=latin(f["key"][1]), optional=bool(f["q"]))
+    if f["sort"] == 4 and f["par"]:
+        said["name"] = latin(f["par"][0])
+    return said
+
+
 def tree(n):
-    plain = isinstance(n.tag, int)
+    plain, member = isinstance(n.tag, int), n.tag == "member"
     value = {"c": lambda x: x[2], "s": lambda x: x[1].decode("latin1"), "n": lambda x: tree(x[1])}
-    return {"tag": TAGS[n.tag] if plain else n.tag, "first": n.b, "end": n.e,
-            "items": [value[x[0]](x) for x in items(n)[plain:]]}
+    return {"tag": TAGS[n.tag] if plain else MEMBERS[n.f["sort"]] if member else n.tag, "first": n.b, "end": n.e, **(fields(n) if member else {}),
+            "items": [value[x[0]](x) for x in items(n)[plain or member:]]}
+
+
+def has_members(t):
+    """Whether a tree as JSON has members."""
+    return t["tag"] in MEMBERS or any(has_members(x) for x in t["items"] if isinstance(x, dict))
 
 
 def wanted(text, words, parens):
@@ -83,7 +111,7 @@ def changed(r, text):
     return "".join(tokens)
 
 
-OTHERS = ["A", "B", "string", "number", "'a'", "'b'", "1", "-1", "true", "x", "|", "&", "[]", "?", "K", "T", "readonly ", ""]
+OTHERS = ["A", "B", "string", "number", "'a'", "'b'", "1", "-1", "true", "x", "|", "&", "[]", "?", "K", "T", "readonly ", "", ";", "a", ": A", "()", "new "]
 
 
 def two(r, texts):
@@ -122,10 +150,11 @@ def exchanged(have):
 
 def pairs(tool, count):
     r = random.Random(1)
-    texts = [t.decode() for t, words in stored() if len(t) < 200 and all(31 < c < 127 for c in t) and cut(t) == words and tree_of(t.decode())]
-    done = different = same = rests = places = 0
+    fit = lambda texts: [t.decode() for t, words in texts if len(t) < 200 and all(31 < c < 127 for c in t) and cut(t) == words and tree_of(t.decode())]
+    texts, objects = fit(stored()), [t for t in fit(made(PAIRS * 10)) if has_members(tree(tree_of(t)[0][1]))]
+    done = different = same = rests = places = members = 0
     while done < count:
-        left, right = two(r, texts)
+        left, right = two(r, r.choice((texts, objects)))
         if not tree_of(left) or not tree_of(right):
             continue
         (a, whole), (b, other_whole) = tree_of(left), tree_of(right)
@@ -133,6 +162,7 @@ def pairs(tool, count):
             continue
         done += 1
         want = differ(a[1], b[1])
+        members += has_members(tree(a[1]))
         by_type = rest("left", a) if not whole else rest("right", b) if not other_whole else want
         same, rests, places = same + (not want), rests + (by_type is not want), places + len(want)
         keys = [a[4].hex(), b[4].hex()]
@@ -144,7 +174,7 @@ def pairs(tool, count):
         if done % 4 == 0 and exchanged(run(tool, ["--diff"] + keys[::-1])) != have:
             different += 1
             print("different when exchanged", args)
-    print(done, "pairs compared by type and by key, every fourth exchanged too:", same, "the same,", rests, "with a rest,", places, "differences,",
+    print(done, "pairs,", members, "with members on the left, compared by type and by key, every fourth exchanged too:", same, "the same,", rests, "with a rest,", places, "differences,",
           different, "different")
     return different
 
@@ -154,10 +184,10 @@ def main():
         sys.exit(pairs(sys.argv[3] if sys.argv[3:] else TOOL, int(sys.argv[2]) if sys.argv[2:] else PAIRS) != 0)
     tool = sys.argv[1] if sys.argv[1:] else TOOL
     texts = {}
-    for text, words in stored():
+    for text, words in list(stored()) + list(made(OBJECTS)):
         if cut(text) == words:
             texts[text.replace(b"\n", b"\r")] = words
-    count = different = 0
+    count = different = members = 0
     for parens in False, True:
         r = subprocess.run([tool, "--batch", "--json"] + ["--parens"] * parens, input=b"".join(t + b"\n" for t in texts),
                            stdout=subprocess.PIPE, stderr=subprocess.DEVNULL, check=True)
@@ -165,10 +195,12 @@ def main():
         assert len(lines) == len(texts) + 1, "a line for each text"
         for (text, words), line in zip(texts.items(), lines):
             count += 1
-            if got(line) != wanted(text, words, parens):
+            want = wanted(text, words, parens)
+            members += not parens and want[0] and has_members(want[4])
+            if got(line) != want:
                 different += 1
                 print("different", text, line)
-    print(count, "readings of", len(texts), "texts,", different, "different")
+    print(count, "readings of", len(texts), "texts,", members, "of them with members in their trees,", different, "different")
     sys.exit(different + pairs(tool, PAIRS) != 0)
 
 

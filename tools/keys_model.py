@@ -39,6 +39,12 @@ def items(n):
     l = lambda xs, g: c(12, len(xs)) + [i for x in xs for i in g(x)]
     args = lambda xs: l(xs, k)
     if t == 'type parameter': return s(f['name']) + o(f['x'], k) + o(f['d'], k)
+    if t == 'member':
+        key = lambda: c(2, f['key'][0]) + s(f['key'][1])
+        sign = lambda: o(f['params'], args) + ([] if f['sort'] == 3 else o(f['this'], lambda p: o(p[0], k))) + args(f['list']) + o(f['ret'], k)
+        return c(3, f['sort']) + [
+            lambda: c(1, f['readonly']) + key() + c(1, f['q']) + o(f['t'], k), lambda: key() + c(1, f['q']) + sign(), sign, sign,
+            lambda: c(1, f['readonly']) + o(f['par'], lambda p: s(p[0]) + k(p[1])) + k(f['t'])][f['sort']]()
     if t == 'parameter': return c(1, f['rest']) + s(f['name']) + c(1, f['q']) + o(f['t'], k)
     body = {
         1: lambda: l(f['names'], s) + o(f['args'], args), 17: lambda: l(f['names'], s) + o(f['args'], args),
@@ -52,7 +58,7 @@ def items(n):
         16: lambda: c(1, f['asserts']) + (c(1, 1) if f['name'] is None else c(1, 0) + s(f['name'])) + o(f['t'], k),
         18: lambda: c(1, f['typeof']) + s(f['s']) + l(f['names'], s) + o(f['args'], args),
         22: lambda: s(f['name']) + c(1, f['q']) + k(f['t']),
-        5: lambda: args(f['list']), 6: lambda: args(f['list']), 19: lambda: args(f['list']),
+        5: lambda: args(f['list']), 6: lambda: args(f['list']), 19: lambda: args(f['list']), 25: lambda: args(f['list']),
     }.get(t, lambda: k(f['t']))()
     return c(6, t) + body
 
@@ -77,7 +83,7 @@ def visits(root):
         nonlocal nodes, names
         at = len(all_)
         all_.append(None)                                           # a node is numbered after those under it
-        for i in ([] if isinstance(n.tag, int) else [('c', 0, 0)]) + items(n):
+        for i in ([('c', 0, 0)] if n.tag in ('parameter', 'type parameter') else []) + items(n):
             if i[0] == 'c': all_.append((2, i[2], depth + 1))
             elif i[0] == 's': all_.append((3, names, depth + 1)); names += 1
             else: visit(i[1], depth + 1)
@@ -96,6 +102,7 @@ def gen(cls='type', d=3, tag=None):
     N = lambda tag_, **f: Node(tag_, 0, 0, 0, **f)
     if cls == 'tp': return N('type parameter', name=word(), x=maybe(ty), d=maybe(ty))
     if cls == 'p': return N('parameter', rest=R.random() < .5, name=word(), q=R.random() < .5, t=maybe(ty))
+    if cls == 'm': return member(d, R.randrange(5) if tag is None else tag)
     t = tag or (R.choice([1, 2, 3]) if d <= 0 else R.choice(ONLY[cls] * 3 + list(range(1, 20)) + [23, 24]))
     tps, ps = (lambda: some(lambda: gen('tp', d - 1))), (lambda: some(lambda: gen('p', d - 1)))
     if t in (1, 17): return N(t, names=some(word, 1), args=maybe(lambda: some(ty)) if d > 0 else None)
@@ -114,8 +121,22 @@ def gen(cls='type', d=3, tag=None):
     if t == 16: a = R.random() < .5; return N(t, asserts=a, name=maybe(word), t=maybe(ty) if a else ty())
     if t == 18: return N(t, typeof=R.random() < .5, s=word(), names=some(word), args=maybe(lambda: some(ty)))
     if t == 19: return N(t, list=some(lambda: gen('element', d - 1)))
+    if t == 25: return N(t, list=some(lambda: gen('m', d - 1)))
     if t == 21: return N(t, t=gen('rest', d - 1))
     if t == 22: return N(t, name=word(), q=R.random() < .5, t=gen('name', d - 1))
+
+def member(d, sort):
+    ty, flip = (lambda: gen('type', d - 1)), (lambda: R.random() < .5)
+    f = {'sort': sort}
+    if sort in (0, 4): f['readonly'] = flip()
+    if sort in (0, 1): f['key'] = R.randrange(3), word(); f['q'] = flip()
+    if sort == 0: f['t'] = maybe(ty)
+    elif sort == 4: f['par'] = maybe(lambda: (word(), ty())); f['t'] = ty()
+    else:
+        f['params'] = maybe(lambda: some(lambda: gen('tp', d - 1)))
+        f['this'] = maybe(lambda: (maybe(ty),)) if sort != 3 else None
+        f['list'] = some(lambda: gen('p', d - 1)); f['ret'] = maybe(ty)
+    return Node('member', 0, 0, 0, **f)
 
 def text(d=3):
     ty = lambda: text(d - 1)

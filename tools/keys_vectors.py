@@ -248,9 +248,46 @@ def large(c):
     c.add(k[:-2], exact)
 
 
+W1 = [bytes.fromhex(k) for k in ("164000", "164006A0", "16400400001610", "16400430001610", "164004", "16400400000610", "1640060080080" + "00A08")]
+OBJECT = EDITION + bits(25, 6) + bits(1, 12)
+
+
+def members(c):
+    """Object types: 02's rows, each sort of member and of key, trees of each sort with turned bits, prefixes and short rooms."""
+    keys_model.seed(25)
+    for k in W1:
+        for nodes in (0, 4, 8, AMPLE[0]):
+            c.add(k, (nodes,) + AMPLE[1:])
+    for sort in range(8):
+        for rest in ("", "0" + bits(1, 2) + spell(b"a") + "00", bits(2, 2) + spell(b"a") + "0000" + bits(0, 12) + "0", "00" + bits(0, 12) + "0", "0" + bits(0, 12) + "0", "00" + LEAF):
+            c.add(packed(OBJECT + bits(sort, 3) + rest))
+    for which in range(4):
+        c.add(packed(OBJECT + bits(0, 3) + "0" + bits(which, 2) + spell(b"a") + "00"))
+        c.add(packed(OBJECT + bits(1, 3) + bits(which, 2) + spell(b"a") + "0000" + bits(0, 12) + "0"))
+    for n in (0, 1, 2, LIST):
+        c.add(packed(EDITION + bits(25, 6) + bits(n, 12) + bits(2, 3) + "00" + bits(0, 12) + "0"))
+    for sort in range(5):
+        for _ in range(6):
+            k = key_of(Node(25, 0, 0, 0, list=[gen("m", 2, sort)] + [gen("m", 1) for _ in range(keys_model.R.choice([0, 0, 1]))]))
+            exact = used(k)
+            c.add(k)
+            c.add(k, exact, 1)
+            for which in range(3):
+                c.add(k, [n - (i == which and n > 0) for i, n in enumerate(exact)])
+            for i in range(8 * min(len(k), 24)):
+                d = bytearray(k)
+                d[i // 8] ^= 128 >> i % 8
+                c.add(d)
+            for n in range(0, len(k), 3):
+                c.add(k[:n])
+    a = Node("member", 0, 0, 0, sort=0, readonly=True, key=(1, b"'a'"), q=True, t=None)
+    for h in (254, 255):
+        c.add(key_of(wrap(h, 7, Node(25, 0, 0, 0, list=[a]))))
+
+
 def cases():
     c = Cases()
-    for part in (rows, tags, choices, prefixes, damage, ends, heights, short_rooms, large):
+    for part in (rows, tags, choices, prefixes, damage, ends, heights, short_rooms, large, members):
         part(c)
     return c
 

@@ -22,9 +22,17 @@ def opt(x, f): return 'absent' if x is None else '(present %s)' % f(x)
 def boo(x): return 'true' if x else 'false'
 def many(l, f): return lst([f(x) for x in l])
 def trees(l): return many(l, term)
+def keyed(k): return '(record { which = %d; spelling = %s })' % (k[0], spl(k[1]))
+def member(f):
+    sign = lambda this: ' '.join([opt(f['params'], trees)] + [opt(f['this'], lambda p: opt(p[0], term))] * this + [trees(f['list']), opt(f['ret'], term)])
+    return (lambda: 'property 0 0 %s %s %s %s' % (boo(f['readonly']), keyed(f['key']), boo(f['q']), opt(f['t'], term)),
+            lambda: 'method 0 0 %s %s %s' % (keyed(f['key']), boo(f['q']), sign(1)), lambda: 'callSignature 0 0 ' + sign(1), lambda: 'constructSignature 0 0 ' + sign(0),
+            lambda: 'indexSignature 0 0 %s %s %s' % (boo(f['readonly']), opt(f['par'], lambda p: '(%s, %s)' % (spl(p[0]), term(p[1]))), term(f['t'])))[f['sort']]()
 def term(n):
     f, t = n.f, n.tag
     body = {
+        'member': lambda: member(f),
+        25: lambda: 'object 0 0 ' + trees(f['list']),
         'type parameter': lambda: 'typeParameter 0 0 %s %s %s' % (spl(f['name']), opt(f['x'], term), opt(f['d'], term)),
         'parameter': lambda: 'parameter 0 0 %s %s %s %s' % (boo(f['rest']), spl(f['name']), boo(f['q']), opt(f['t'], term)),
         1: lambda: 'reference 0 0 %s %s' % (many(f['names'], spl), opt(f['args'], trees)),
@@ -66,6 +74,8 @@ for t in list(range(1, 20)) + [23, 24]:
 for t in (20, 21, 22):
     for _ in range(4): n = Node(19, 0, 0, 0, list=[gen('element', 2, t)]); good.append((n, key_of(n)))
 for _ in range(60): n = gen(); good.append((n, key_of(n)))
+for sort in range(5):
+    for _ in range(12): n = Node(25, 0, 0, 0, list=[gen('m', R.choice([1, 1, 2]), sort)] + [gen('m', 1) for _ in range(R.choice([0, 0, 1]))]); good.append((n, key_of(n)))
 good = [g for g in good if len(g[1]) < 400]
 seen, uniq = set(), []
 for g in good:
@@ -116,6 +126,17 @@ for a in '01':
     for th in '01':
         for o in '01': case('predicate', bitsof(b(1, 4) + b(16, 6) + a + th + (model.spell(b'p') if th == '0' else '') + o + (leaf if o == '1' else '')))
 
+object_ = b(1, 4) + b(25, 6) + b(1, 12)
+for t in range(8):
+    for rest in ('', model.spell(b'a'), '0' + b(1, 2) + model.spell(b'a') + '00', b(2, 2) + model.spell(b'a') + '0000' + b(0, 12) + '0', '000' + b(0, 12), '00' + b(0, 12) + '0', '00' + leaf):
+        for room in (1, 2, BIG[0]): case('sort of a member', bitsof(object_ + b(t, 3) + rest), room)
+for t in range(4): case('sort of a key', bitsof(object_ + b(0, 3) + '0' + b(t, 2) + model.spell(b'a') + '00')); case('sort of a key', bitsof(object_ + b(1, 3) + b(t, 2) + model.spell(b'a') + '0000' + b(0, 12) + '0'))
+for n in (0, 1, 2, 4095): case('count', bitsof(b(1, 4) + b(25, 6) + b(n, 12) + b(2, 3) + '00' + b(0, 12) + '0')); case('count', bitsof(object_ + b(2, 3) + '00' + b(n, 12) + '0' + model.spell(b'x') + '00' + '0'))
+for k, room in (('164000', 9), ('164006A0', 9), ('164006A0', 1), ('16400400001610', 1), ('16400400001610', 2), ('16400430001610', 9), ('164004', 9), ('16400400000610', 9), ('16400600800800' + '0A08', 9)):
+    case('rows of W1', bytes.fromhex(k), room)
+prop = lambda: Node('member', 0, 0, 0, sort=0, readonly=False, key=(0, b'a'), q=False, t=None)
+for h in (254, 255): case('height', key_of(wrap(h, 7, Node(25, 0, 0, 0, list=[prop()]))))
+
 # ---- lemmas
 lemmas, answers, store_n, left_n, key_n = [], {}, 0, 0, 0
 for kind, key, n, k, m in cases:
@@ -144,7 +165,7 @@ use mathlib.Core.List.{List, [], _∷_}
 use mathlib.Core.Bool.{Bool, true, false}
 use Prim.Native.Nat.{ℕ}
 use lib.ListN.{replicate}
-use Rattle.keys.specs.Placed.{Placed, bare, absent, present, reference, keyword, literal, parens, union, intersection, array, indexed, conditional, infer, operator, function, constructor, mapped, template, predicate, typeof, importType, tuple, optional, rest, named, nonNull, asked, typeParameter, parameter}
+use Rattle.keys.specs.Placed.{Placed, bare, absent, present, object, property, method, callSignature, constructSignature, indexSignature, reference, keyword, literal, parens, union, intersection, array, indexed, conditional, infer, operator, function, constructor, mapped, template, predicate, typeof, importType, tuple, optional, rest, named, nonNull, asked, typeParameter, parameter}
 use Rattle.keys.specs.Key.{keyOf, takeKey, taken, refused}
 use Rattle.keys.specs.Store.{takeBack, back, no, visitsOf}
 '''

@@ -18,11 +18,14 @@ ap.add_argument('--sorts', help='only these sorts of inputs, by name, commas bet
 ap.add_argument('--only', help='a file of texts, one to a line, instead of the sorts below')
 ap.add_argument('--crates', default=os.path.join(here, '..', 'crates'))
 ap.add_argument('--model', default=here)
+ap.add_argument('--objects', type=int, metavar='N', help='only object types: the rows of W1, and N generated and damaged texts')
+ap.add_argument('--target', help='a folder target with proved libraries to begin from')
 args = ap.parse_args()
 sys.setrecursionlimit(20000)
 sys.path.insert(0, args.model)
 import model as m
 import rules_model
+import rules_vectors
 from rules_model import TAGS
 
 def fill(n, l): return l + [0] * (n - len(l))
@@ -215,7 +218,26 @@ def badly(t):                                             # token lists that the
     elif x == 10: add('check', t, w, pick(len(w), len(w) + 1, len(w) - 1))
     else: w[i] = v; add('check', t, w)
 
-if args.only:
+# object types: the rows of W1, the same with room and records just enough and one too few, and generated texts
+def objects(count):
+    for t, lent, parens, says in rules_vectors.objects():
+        add('rows', t, None, 0, parens, None if lent == rules_vectors.AMPLE else (lent[0], 9, lent[2], 60))
+        rooms(t, parens)
+    for n in (63, 64): add('limits', '{a:' * n + 'A' + '}' * n, None, 0, False, (4 * 200, 99, 0, 900))
+    for n in (253, 254): add('limits', '{a:' + 'keyof ' * n + 'A}', None, 0, False, (4 * 300, 9, 0, 900))
+    for n in (31, 32, 33): add('limits', '{' + '[]: A;' * n + '}', None, 0, False, (4 * 80, 80, 98, 900))
+    g = rules_model.ObjectMaker(rng)
+    while len(cases) < count:
+        t = g.sound(pick(20, 40, 60))
+        p = rng.random() < 0.3
+        add('sound', t, parens=p)
+        for _ in range(2): add('damaged', rules_model.damaged(rng, t), parens=p)
+        if rng.random() < 0.3: rooms(t, p)
+
+if args.objects is not None:
+    cases.clear(); seen.clear()
+    objects(args.objects)
+elif args.only:
     cases.clear(); seen.clear()
     for l in open(args.only):
         for p in (False, True): add('only', l.rstrip('\n').replace('#', '\n'), parens=p)
@@ -337,6 +359,9 @@ made : make (g 4) (4095 ∷ []) (tower 256) s ≡ read (tower 256) (record { at 
 unfolding rules tower g s
 made = refl
 ''')
+if args.target:
+    os.makedirs(root + '/target')
+    for d in ('rlib', 'stamp'): shutil.copytree(os.path.join(args.target, d), root + '/target/' + d, copy_function=shutil.copy2)
 begun = time.time()
 done = subprocess.run(['rt', 'check', 'probe'], cwd=root, capture_output=True, text=True, env=dict(os.environ, RT_JOBS='1', RT_CUT='0'))
 log = done.stdout + done.stderr

@@ -11,9 +11,9 @@ again: move it away to have its new skeleton.
 """
 import glob, os, re, sys
 
-RANKS = {12: 'child ret elem', 11: 'ty', 10: 'function', 9: 'union',
+RANKS = {12: 'child ret elem', 11: 'ty', 10: 'function memb', 9: 'union sign index',
          8: 'params tparams inter', 7: 'plist tparam operator', 6: 'param infer postfix',
-         5: 'primary suffix', 4: 'pred named mapped tuple parens template', 3: 'targs extends opt'}
+         5: 'primary suffix', 4: 'pred named mapped object tuple parens template', 3: 'targs extends opt'}
 RANK = {name: r for r, names in RANKS.items() for name in names.split()}
 HEAD = ['use Prim.Native.Nat.{ℕ, suc, _+_, _-_, _*_, _^_, _≤_, _<_}', 'use native.Mathlib.Omega.{arith}',
         'use borrow.Author.Needs.{needs}', 'use borrow.Author.Tests.{not-true, not-false}',

@@ -71,11 +71,25 @@ ROWS = {
 }
 for t in (1, 17): ROWS[t] = lambda f: spells(f['names']) + opt(f['args'], many)
 for t in (4, 7, 20, 21, 23, 24): ROWS[t] = lambda f: kid(f['t'])
-for t in (5, 6, 19): ROWS[t] = lambda f: many(f['list'])
+for t in (5, 6, 19, 25): ROWS[t] = lambda f: many(f['list'])
+
+
+def signed(f, this): return opt(f['params'], many) + (opt(f['this'], lambda p: opt(p[0], kid)) if this else []) + many(f['list']) + opt(f['ret'], kid)
+def key(k): return choice(2, k[0]) + name(k[1])
+
+
+MEMBERS = (
+    lambda f: bit(f['readonly']) + key(f['key']) + bit(f['q']) + opt(f['t'], kid),
+    lambda f: key(f['key']) + bit(f['q']) + signed(f, True),
+    lambda f: signed(f, True),
+    lambda f: signed(f, False),
+    lambda f: bit(f['readonly']) + opt(f['par'], lambda p: name(p[0]) + kid(p[1])) + kid(f['t']),
+)
 
 
 def run_of(n):
     f = n.f
+    if n.tag == 'member': return choice(3, f['sort']) + MEMBERS[f['sort']](f)
     if n.tag == 'type parameter': return name(f['name']) + opt(f['x'], kid) + opt(f['d'], kid)
     if n.tag == 'parameter': return bit(f['rest']) + name(f['name']) + bit(f['q']) + opt(f['t'], kid)
     return choice(6, n.tag) + ROWS[n.tag](f)
@@ -219,6 +233,34 @@ class Maker:
             if len(t) <= most: return t
 
 
+class ObjectMaker(Maker):
+    """The same with object types among them."""
+    def key(g): return g.pick('a', 'b', 'get', 'set', 'new', 'in', 'class', 'readonly', 'static', 'string', "'k'", '1')
+    def signature(g, d):
+        return (g.one('', '', lambda: '<' + g.many(lambda: g.type_param(d), 0, 2) + '>') + g.params(d)
+                + g.one('', lambda: ': ' + g.pick('', '', 'x is ', 'this is ', 'asserts ') + g.type(d)))
+    def index(g, d):
+        one = lambda: g.pick('k', 'i', 'as') + g.pick('', '', '', '?') + ': ' + g.one('string', 'number', 'null', "'x'", '`t`', lambda: g.type(d))
+        l = [one() for _ in range(g.pick(1, 1, 1, 1, 0, 2, 3))]
+        return '[' + ', '.join(l) + (g.pick('', '', ',') if l else '') + ']: ' + g.type(d)
+    def member(g, d):
+        return g.one(
+            lambda: g.pick('', '', 'readonly ') + g.key() + g.pick('', '', '?') + g.one('', lambda: ': ' + g.type(d)),
+            lambda: g.pick('', '', 'readonly ') + g.key() + g.pick('', '', '?') + g.one('', lambda: ': ' + g.type(d)),
+            lambda: g.pick('', '', '', 'readonly ') + g.key() + g.pick('', '', '?') + g.line() + g.signature(d), lambda: g.signature(d), lambda: 'new' + g.pick(' ', '\n', '') + g.signature(d),
+            lambda: g.pick('', '', 'readonly ') + g.index(d))
+    def object(g, d):
+        l = [g.member(d - 1) for _ in range(g.pick(0, 1, 1, 2, 2, 3))]
+        return '{ ' + ''.join(x + g.pick('; ', ';', ', ', ',', '\n', '\n; ') for x in l[:-1]) + (l[-1] + g.pick('', '', ';', ',', '\n') if l else '') + ' }'
+    def primary(g, d):
+        if d > 0 and g.r.random() < 0.3: return g.object(d)
+        return Maker.primary(g, d)
+    def sound(g, most):
+        while True:
+            t = g.object(g.pick(1, 2, 2, 3)) if g.r.random() < 0.6 else g.type(g.pick(1, 2, 2, 3))
+            if len(t) <= most: return t
+
+
 TOKENS = "A B x string null this 1 2n 's' `t` `h${ }m${ }t` { } [ ] ( ) < > << <= <<= | & ? : , ; . ... => = ! - + * @ any abstract as asserts infer is keyof out readonly unique public extends false import in new true typeof void const class".split()
 
 
@@ -237,7 +279,7 @@ def damaged(r, t):
 
 
 class Cases:
-    def __init__(c, seed): c.r, c.k = random.Random(seed), random.Random(seed); c.g = Maker(c.r)
+    def __init__(c, seed, maker=Maker): c.r, c.k = random.Random(seed), random.Random(seed); c.g = maker(c.r)
 
     def lent(c, need):
         """Words to be lent: about what is needed, mostly more, at times less."""

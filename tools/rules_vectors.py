@@ -4,17 +4,19 @@ print, from the answers of model.py. The same bytes each time.
 
     rules_vectors.py                write both files (in the folder that holds crates.txt, or above it)
     rules_vectors.py --check        say whether both are as this would write them
+    rules_vectors.py --objects      say whether the rows for object types are as the model has them
     rules_vectors.py --list [ITEM]  each record's number from 0, the items that it is for, options, what is lent, answer, text
 
 First document 01's twelve rows, then texts, then the keys of keys_vectors.py. Items are those of the checklist: R1 to R41
 are the reading rules of document 01 in its order, N1 to N10 its diagnostics, X1 to X23 its refusals. Each has a record
 here; a row has the item `row`, a key X15. The answer is the eleven numbers of rules_model.py.
 """
+import re
 import sys
 
 import keys_vectors
 import model as m
-from rules_model import WIDE, Cases, expected, keyofs, read, record
+from rules_model import WIDE, Cases, ObjectMaker, expected, keyofs, read, record
 from words_vectors import written
 
 AMPLE = 403, 101, 40, 2003                                  # words lent for nodes, names, diagnostics; bytes for the key
@@ -93,6 +95,135 @@ R23 X22: A extends `a${infer B}c` ? D : E ~ A extends [infer B, ...infer C] ? D 
 """
 
 
+# Rows for object types (02, W1): a text, what it is read with, and what it comes to in numbers: diagnostics, the end, the
+# key where it is short, or a refusal.
+OBJECTS = r"""
+{} |  | end 2; key 16 40 00
+{ a: A } |  | end 5; key 16 40 04 00 00 16 14 10 01 00 01 41 00
+{ a } |  | end 3; key 16 40 04 00 00 16 10
+{ readonly a?: A } |  | end 7
+{ "a": A, 1: B; c } |  | end 11
+{ a: A#b: B } |  | end 8
+{ a#(b): C } |  | end 8
+{ a: A#(b): C } |  | end 10
+{ a?(): B } |  | end 8; key 16 40 04 80 00 2C 30 00 20 80 08 00 0A 10
+{ m<T extends A>(this: B, x?: C): x is D } |  | end 22
+{ a#? #: B } |  | end 6
+{ (): A } |  | end 6; key 16 40 05 00 01 04 00 40 00 50 40
+{ <T>(x: T): T, (this) } |  | end 16
+{ new (): A } |  | end 7; key 16 40 05 80 02 08 00 80 00 A0 80
+{ new <T>(x: T), } |  | end 12
+{ new#(): A } |  | end 7
+{ new: A; new?(): B } |  | end 12
+{ new (this: A<>): B<> } |  | 2 on 14 to 16, 3 on 7 to 16, 2 on 20 to 22; end 14
+{ [k: string]: A } |  | end 9; key 16 40 06 20 00 2D 61 38 20 02 00 02 82
+{ readonly [k: number]: A; } |  | end 11
+{ [a: A, b: B]: C } |  | 12 on 2 to 14; end 13
+{ readonly [a: A, b: "x",]: C } |  | 9 on 24 to 25, 12 on 2 to 26; end 15
+{ []: A } |  | 12 on 2 to 4; end 6; key 16 40 06 00 80 08 00 0A 08
+{ readonly [a?: boolean,]: C } |  | 8 on 13 to 14, 9 on 23 to 24, 11 on 12 to 23; end 12
+{ [a: 'x']: A } |  | 10 on 6 to 9; end 9
+{ [a: -1]: A } |  | 10 on 6 to 8; end 10
+{ [a: `t`]: A } |  | 10 on 6 to 9; end 9
+{ [a: `t${T}`]: A } |  | end 11
+{ [a: this]: A } |  | end 9
+{ [a: unique symbol]: A } |  | end 10
+{ [a: ("x")]: A } |  | 10 on 7 to 10; end 11
+{ [a: ("x")]: A } | brackets kept | end 11
+{ [a: null]: A<> } |  | 11 on 3 to 10, 2 on 14 to 16; end 11
+{ [a: string] } |  | 3 at 6
+{ [a?]: A } |  | 3 at 4
+{ [a, b: B]: C } |  | 3 at 3
+{ [a: A b: B]: C } |  | 3 at 5
+{ [a]: A } |  | 4 at 1
+{ [a.b](): A } |  | 4 at 1
+{ readonly ["a"]: A } |  | 4 at 2
+{ [a ? b : c]: A } |  | 4 at 1
+{ [...a: A]: B } |  | 3 at 2
+{ [public a: A]: B } |  | 3 at 3
+{ [in: A]: B } |  | 3 at 2
+{ [class: A]: B } |  | 4 at 1
+{ [readonly]: A } |  | 4 at 1
+{ get a(): A } |  | 4 at 1
+{ set#a: A } |  | 4 at 1
+{ get [a](): A } |  | 4 at 1
+{ get: A; set(): B; get<T>(): C; set? } |  | end 23
+{ static a: A } |  | 4 at 1
+{ abstract#a: A } |  | 4 at 1
+{ out [a: A]: B } |  | 4 at 1
+{ readonly static a: A } |  | 4 at 2
+{ readonly get a(): A } |  | 4 at 2
+{ static: A; abstract(): B } |  | end 11
+{ readonly#a: A } |  | end 6
+{ readonly: A; readonly readonly: B; readonly? } |  | end 13
+{ readonly readonly a: A } |  | 3 at 3
+{ readonly a(): B } |  | end 8
+{ readonly(): A; readonly new(): B } |  | end 14
+{ in a: A } |  | 3 at 2
+{ in: A; class?: B; this(): C } |  | end 16
+{ a b: A } |  | 3 at 2
+{ a: A;; } |  | 3 at 5
+{ a#; b#, c } |  | end 7
+{ , } |  | 3 at 1
+{ [a: A]?: B } |  | 3 at 6
+{ a |  | 3 at 2
+{ a | room 0 | 3 at 2
+{ 1n: A } |  | 3 at 1
+{ a = A } |  | 3 at 2
+{ a() => B } |  | 3 at 4
+{ a<<T>(): B } |  | 3 at 2
+{ a: A }["a"][] |  | end 10
+{ a: A#[c: D]: E } |  | end 12
+{ a: T#extends: U } |  | end 8
+{ a: keyof { b } } | { c } |  | end 12
+({ a }: B) => C |  | 3 at 4
+({ a: B }) => C |  | end 7
+{ + a } |  | 3 at 1
+{ "a" in B } |  | 3 at 1
+{} in A |  | 3 at 1
+{ a: { b: C } } |  | end 9
+{ a; } | room 0 | 8 at 3
+{ a: A } | room 2 | 8 at 5
+{ [a: A, b: B<C>]: D } | room 4 | 12 on 2 to 17; end 16
+{ [a: A, b: B<C>]: D } | room 2 | 8 at 12
+{ [a?: A]: B } | records 0 | 9 at 3
+{ [a: A,]: B } | records 0 | 9 at 6
+{ []: A } | records 0 | 9 at 3
+{ new (this): A<> } | records 1 | 9 at 9
+"""
+
+
+def objects():
+    """Text, lent words, preserve_parens and the numbers that it comes to, of each row."""
+    for line in OBJECTS.strip().split("\n"):
+        t, how, says = re.match(r"(.*) \| (.*?) ?\| (.*)$", line).groups()
+        lent = list(AMPLE)
+        if how.startswith("room"): lent[0] = 4 * int(how.split()[1])
+        if how.startswith("records"): lent[2] = 3 * int(how.split()[1])
+        yield t.replace("#", "\n"), tuple(lent), how == "brackets kept", says
+
+
+def numbers(x):
+    """An answer of rules_model.read in the words of OBJECTS, its key apart."""
+    if x[0][0]: return "%d at %d" % x[0][:2], ""
+    notes = ", ".join("%d on %d to %d" % tuple(x[3][i:i + 3]) for i in range(0, len(x[3]), 3))
+    return (notes + "; " if notes else "") + "end %d" % x[0][5], x[4].hex(" ").upper()
+
+
+def object_rows(v):
+    """The rows, each as it says."""
+    for t, lent, parens, says in objects():
+        said, key = numbers(read(t.encode(), m.cut(t), 0, parens, lent))
+        assert says in (said, said + "; key " + key), (t, says, said, key)
+        v.add("W1", t, lent, parens)
+
+
+def object_texts(v):
+    """Texts of a grammar with object types, and copies damaged, from other starts, with other rooms."""
+    for c in Cases(3, ObjectMaker).generated(1200):
+        v.append(c)
+
+
 def examples():
     """Items and text of each example."""
     for line in EXAMPLES.strip().split("\n"):
@@ -119,13 +250,16 @@ def nested(n):
             "new (a: " * n + a + ") => B" * n, "(this: " * n + a + ") => B" * n, "<T = " * n + a + ">() => B" * n, "<T extends " * n + a + ">() => B" * n,
             "[...a: " * n + a + "]" * n, "this is " * n + a, "asserts x is " * n + a, "() => x is " * n + a, "import('m')<" * n + a + ">" * n,
             "A extends B ? " * n + a + " : B" * n, "A extends B ? C : " * n + a, "typeof a<" * n + a + ">" * n,
+            "{ a: " * n + a + " }" * n, "{ a(): " * n + a + " }" * n, "{ (b: " * n + a + ") }" * n, "{ new <T = " * n + a + ">() }" * n,
+            "{ [k: " * n + a + "]: B }" * n, "{ [k: A]: " * n + a + " }" * n,
             "A extends (" * (n // 2) + a + ") ? B : C" * (n // 2) if n % 2 == 0 else "(" + "A extends (" * (n // 2) + a + ") ? B : C" * (n // 2) + ")")
 
 
 def lists(n):
     """Texts in each of which one list has n entries."""
     return ("|".join("A" * n), "&".join("A" * n), "[" + "A," * n + "]", "A<" + "A," * n + ">", "<" + "T," * n + ">() => A", "(" + "a," * n + ") => A",
-            "A" + ".b" * (n - 1), "import('m')" + ".b" * n, "`" + "${A}" * n + "`")
+            "A" + ".b" * (n - 1), "import('m')" + ".b" * n, "`" + "${A}" * n + "`",
+            "{" + "a;" * n + "}", "{ m<" + "T," * n + ">() }", "{ (" + "a," * n + ") }")
 
 
 def tall(h):
@@ -136,7 +270,8 @@ def tall(h):
             "A extends " + k(h - 1) + " ? B : C", "A extends B ? C : " + k(h - 1), "T extends infer U extends " + k(h - 2) + " ? X : Y", "(infer U extends " + k(h - 1) + ")",
             "<T extends " + k(h - 2) + ">() => A", "<T = " + k(h - 2) + ">() => A", "(a: " + k(h - 2) + ") => A", "(this: " + k(h - 1) + ") => A", "() => " + k(h - 1),
             "new (a: " + k(h - 2) + ") => A", "{ [K in " + k(h - 1) + "] }", "{ [K in A as " + k(h - 1) + "] }", "{ [K in A]: " + k(h - 1) + " }", "`${A}${" + k(h - 1) + "}`",
-            "this is " + k(h - 1), "asserts x is " + k(h - 1), "typeof a<" + k(h - 1) + ">", "import('m')<" + k(h - 1) + ">")
+            "this is " + k(h - 1), "asserts x is " + k(h - 1), "typeof a<" + k(h - 1) + ">", "import('m')<" + k(h - 1) + ">",
+            "{ a; b: " + k(h - 2) + " }", "{ a(): " + k(h - 2) + " }", "{ (this: " + k(h - 2) + ") }", "{ new <T = " + k(h - 3) + ">() }", "{ [k: " + k(h - 2) + "]: A }", "{ [k: A]: " + k(h - 2) + " }")
 
 
 class Vectors(list):
@@ -426,7 +561,7 @@ def taken(v):
 def stored():
     v = Vectors()
     for part in (rows, by_example, by_kind, mapped, elements, deep, high, long, short_of_room, many_notes, in_a_trial, orders, bad_lists, bad_words,
-                 generated, short_of_key, taken):
+                 generated, object_rows, object_texts, short_of_key, taken):
         part(v)
     missing = set(ITEMS) - set(i for c in v for i in c[0].split())
     assert not missing, missing
@@ -443,6 +578,10 @@ def listed(item):
 def main():
     if sys.argv[1:2] == ["--list"]:
         return listed(sys.argv[2] if len(sys.argv) > 2 else None)
+    if sys.argv[1:2] == ["--objects"]:
+        v = Vectors()
+        object_rows(v)
+        return print("%d rows for object types, as they say" % len(v))
     c = stored()
     data = b"".join(record(x, expected(x)) for x in c)
     written("rows", data, ["%d vectors, 0 different" % len(c)], "%d records, %d bytes" % (len(c), len(data)))

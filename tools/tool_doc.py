@@ -6,7 +6,7 @@
 
 A command is a line that begins `$ ` in a block of a page; what the tool prints for it stands below, up to the next one
 or the end of the block. The gate runs the tool on crates/tool/stdin with crates/tool/args: the twelve rows, then a text for
-each refusal that a line can meet, and one for each diagnostic.
+each refusal that a line can meet, and one for each diagnostic; then all sorts of members.
 """
 import os
 import subprocess
@@ -25,7 +25,7 @@ LINES = model.ROWS + [
     "A|" * 8200 + "A",                                              # 1
     r"A | b\u0063d",                                                # 2
     "A |", "A<=B>", "(A", "A B",                                    # 3, 3 in a half, 3 at the end, a rest
-    "{ a: B }", "(a = 1) => A", "<const T>() => A",                 # 4
+    "{ [a]: B }", "{ get a(): B }", "{ static a: B }", "(a = 1) => A", "<const T>() => A",   # 4
     "(" * 64 + "A",                                                 # 5
     "A" + "!" * 256,                                                # 6
     "A|" * 4095 + "A",                                              # 7
@@ -38,6 +38,10 @@ LINES = model.ROWS + [
     "abstract new <T extends U = V>(a?: B, ...c: D) => asserts x is E",
     "{ -readonly [K in keyof T as `${K}s`]+?: T[K] }",
     "(this, a) => this is A /* a comment */ // and one more",
+    "{ a: B; readonly c?: D; m<T>(x: A): B; (x: A): B; new (x: A): B; [k: string]: V }",
+    "{ 'a'?<>(this, b?: C): D\n1, readonly [k: symbol]: B }", "{ a\nb\n}", "{}",
+    "{ [k?: string]: A }", "{ [k: string,]: A }", "{ [k: 'a']: A }", "{ [k: null]: A }", "{ []: A; [k: B, i: C]: D }",
+    "{ new (this: A): B }",
 ]
 
 

@@ -1,6 +1,7 @@
-// types_of.js FILE ..: the types of .d.ts files as TypeScript's parser reads them, one JSON line each: the text with its
-// comments blanked, and the tree in the form of the node table. A type that holds what document 01 does not read is left
-// out, and the types in it stand for themselves. Needs the Debian package node-typescript.
+// types_of.js [--base] FILE ..: the types of .d.ts files as TypeScript's parser reads them, one JSON line each: the text with
+// its comments blanked, the tree in the form of the node table, and whether it is the body of an interface, which counts as
+// an object type. A type that holds what is not read here is left out: null, what it holds, the same, the text; and the types
+// in it stand for themselves. With --base every object type is left out. Needs the Debian package node-typescript.
 const fs = require('fs');
 const ts = require('typescript');
 const K = ts.SyntaxKind;
@@ -8,8 +9,9 @@ const WORDS = [K.AnyKeyword, K.BigIntKeyword, K.BooleanKeyword, K.NeverKeyword, 
   K.StringKeyword, K.SymbolKeyword, K.ThisType, K.UndefinedKeyword, K.UnknownKeyword, K.VoidKeyword];
 const OPERATORS = [K.KeyOfKeyword, K.UniqueKeyword, K.ReadonlyKeyword];
 
-// What 01 does not read.
+// What is not read here.
 class Uncovered extends Error {}
+const base = process.argv[2] === '--base';
 
 function shape(file) {
   const text = n => file.text.slice(n.getStart(file), n.end);
@@ -48,9 +50,54 @@ function shape(file) {
     }
     throw new Uncovered('literal');
   }
-  function member(n) {
+  function element(n) {
     const t = [22, text(n.name), !!n.questionToken, type(n.type)];
     return n.dotDotDotToken ? [21, t] : t;
+  }
+  function key(n) {
+    switch (n.kind) {
+      case K.Identifier: return [0, text(n)];
+      case K.StringLiteral: return [1, text(n)];
+      case K.NumericLiteral: return [2, text(n)];
+    }
+    throw new Uncovered(n.kind === K.ComputedPropertyName ? 'computed name' : n.kind === K.PrivateIdentifier ? 'private name' : 'key');
+  }
+  // Whether a member is readonly.
+  function readonly(n) {
+    const words = (n.modifiers || []).map(m => m.kind);
+    if (words.length > 1 || words.some(k => k !== K.ReadonlyKeyword)) throw new Uncovered('modifier');
+    return words.length === 1;
+  }
+  const typeParameters = n => n.typeParameters ? n.typeParameters.map(parameter) : null;
+  function signature(n, construct) {
+    const p = parameters(n);
+    return [typeParameters(n)].concat(construct ? [] : [p[0]], [p[1], opt(n.type)]);
+  }
+  function index(n) {
+    const p = n.parameters[0];
+    if (!n.type) throw new Uncovered('index signature without a type');
+    for (const q of n.parameters) {
+      if (q.modifiers && q.modifiers.length || q.dotDotDotToken || q.initializer || !q.type || q.name.kind !== K.Identifier) throw new Uncovered('index parameter');
+    }
+    return ['member', 4, readonly(n), p ? [text(p.name), type(p.type)] : null, type(n.type)];
+  }
+  function member(n) {
+    switch (n.kind) {
+      case K.PropertySignature:
+        if (n.initializer) throw new Uncovered('initializer');
+        return ['member', 0, readonly(n), key(n.name), !!n.questionToken, opt(n.type)];
+      case K.MethodSignature:
+        readonly(n);
+        return ['member', 1, key(n.name), !!n.questionToken].concat(signature(n, false));
+      case K.CallSignature: return ['member', 2].concat(signature(n, false));
+      case K.ConstructSignature: return ['member', 3].concat(signature(n, true));
+      case K.IndexSignature: return index(n);
+    }
+    throw new Uncovered(n.kind === K.GetAccessor || n.kind === K.SetAccessor ? 'accessor' : K[n.kind]);
+  }
+  function object(n) {
+    if (base) throw new Uncovered('members');
+    return [25, n.members.map(member)];
   }
   function type(n) {
     if (WORDS.includes(n.kind)) return [2, WORDS.indexOf(n.kind)];
@@ -84,43 +131,47 @@ function shape(file) {
       case K.TupleType: return [19, n.elements.map(type)];
       case K.OptionalType: return [20, type(n.type)];
       case K.RestType: return [21, type(n.type)];
-      case K.NamedTupleMember: return member(n);
+      case K.NamedTupleMember: return element(n);
+      case K.TypeLiteral:
+      case K.InterfaceDeclaration: return object(n);
     }
     throw new Uncovered(K[n.kind]);
   }
   return type;
 }
 
-// The text of a node with blanks for its comments.
+// The text of a node with a blank or a line break for each comment.
 function blanked(text) {
   const s = ts.createScanner(ts.ScriptTarget.Latest, false, ts.LanguageVariant.Standard, text);
-  let out = text;
+  let out = '', done = 0;
   for (let k = s.scan(); k !== K.EndOfFileToken; k = s.scan()) {
     if (k === K.SingleLineCommentTrivia || k === K.MultiLineCommentTrivia) {
       const a = s.getTokenPos(), b = s.getTextPos();
-      out = out.slice(0, a) + out.slice(a, b).replace(/[^\n]/g, ' ') + out.slice(b);
+      out += text.slice(done, a) + (text.slice(a, b).includes('\n') ? '\n' : ' ');
+      done = b;
     }
   }
-  return out;
+  return out + text.slice(done);
 }
 
 function walk(file, type, n, found) {
-  if (ts.isTypeNode(n) && n.kind !== K.ExpressionWithTypeArguments) {
+  const body = n.kind === K.InterfaceDeclaration && !base;
+  if (body || ts.isTypeNode(n) && n.kind !== K.ExpressionWithTypeArguments) {
     const bare = n.kind === K.TypePredicate && !n.assertsModifier && n.parameterName.kind !== K.ThisType;
     if (!bare && n.kind !== K.NamedTupleMember && n.kind !== K.OptionalType && n.kind !== K.RestType) {
+      const first = body ? n.members.pos - 1 : n.getStart(file), text = blanked(file.text.slice(first, n.end));
       try {
-        const tree = type(n);
-        found(blanked(file.text.slice(n.getStart(file), n.end)), tree);
-        return;
-      } catch (e) { if (!(e instanceof Uncovered)) throw e; found(null, e.message); }
+        found(text, type(n), body);
+        if (!body) return;                              // the types in a body stand for themselves as well
+      } catch (e) { if (!(e instanceof Uncovered)) throw e; found(null, e.message, body, text); }
     }
   }
   ts.forEachChild(n, c => walk(file, type, c, found));
 }
 
-for (const path of process.argv.slice(2)) {
+for (const path of process.argv.slice(base ? 3 : 2)) {
   const file = ts.createSourceFile(path, fs.readFileSync(path, 'utf8'), ts.ScriptTarget.Latest, true);
   const lines = [];
-  walk(file, shape(file), file, (text, tree) => lines.push(JSON.stringify([text, tree])));
+  walk(file, shape(file), file, (...found) => lines.push(JSON.stringify(found)));
   if (lines.length) process.stdout.write(lines.join('\n') + '\n');
 }
