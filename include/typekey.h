@@ -51,7 +51,7 @@ void typekey_differ(const uint8_t *left, uint64_t left_len, const uint8_t *right
 #define TYPEKEY_BAD_LIST 1      /* text or tokens over their limit, no tokens, or start is not the index of one; place 0 */
 #define TYPEKEY_BAD_TOKEN 2     /* a token word is bad, or the last is no Eof; at the first such word */
 #define TYPEKEY_UNEXPECTED 3    /* no rule takes this token */
-#define TYPEKEY_UNSUPPORTED 4   /* a form that is not read, such as { a: B } */
+#define TYPEKEY_UNSUPPORTED 4   /* a form that is not read, such as { get a(): B } */
 #define TYPEKEY_TOO_DEEP 5      /* more than 64 types open at once */
 #define TYPEKEY_TOO_TALL 6      /* a node higher than 256 */
 #define TYPEKEY_TOO_LONG 7      /* a list of more than 4,095 */
@@ -168,11 +168,16 @@ static inline uint64_t typekey_token(uint64_t kind, int line_break_before, uint6
 /* ---- Notes: diagnostics, three words each: number, first byte, end byte. The tree is read all the same. ---- */
 #define TYPEKEY_NOTE_NO_TYPE_PARAMETERS 1   /* <>() => A */
 #define TYPEKEY_NOTE_NO_ARGUMENTS 2         /* A<> */
-#define TYPEKEY_NOTE_CONSTRUCTOR_THIS 3     /* new (this: A) => B */
+#define TYPEKEY_NOTE_CONSTRUCTOR_THIS 3     /* new (this: A) => B, { new (this: A): B } */
 #define TYPEKEY_NOTE_REQUIRED_AFTER 4       /* [A?, B] */
 #define TYPEKEY_NOTE_REST_AFTER_LABEL 5     /* [a: ...B] */
 #define TYPEKEY_NOTE_OPTIONAL_AFTER_LABEL 6 /* [a: B?] */
 #define TYPEKEY_NOTE_OPTIONAL_REST 7        /* [...a?: B] */
+#define TYPEKEY_NOTE_OPTIONAL_INDEX 8       /* { [a?: A]: B } */
+#define TYPEKEY_NOTE_COMMA_AFTER_INDEX 9    /* { [a: A,]: B } */
+#define TYPEKEY_NOTE_LITERAL_INDEX 10       /* { [a: 'x']: B } */
+#define TYPEKEY_NOTE_KEYWORD_INDEX 11       /* { [a: null]: B } */
+#define TYPEKEY_NOTE_NOT_ONE_INDEX 12       /* { []: A }, { [a: A, b: B]: C } */
 
 /* ---- Names: one word each: start * 2^32 + length, in the text ---- */
 static inline uint64_t typekey_name_start(uint64_t name) { return name >> 32; }
@@ -181,6 +186,7 @@ static inline uint64_t typekey_name_length(uint64_t name) { return name & 0xffff
 /* ---- Nodes: four words each ----
    0  its choices: the tag in the lowest 6 bits, then its fields of the table below, the first lowest; an "opt" is one bit, a list's
       count 12 bits. Spellings and children have no bits here. A type parameter and a parameter have no tag: their bits begin at once.
+      A member of an object type has its sort in the lowest 3 bits instead of a tag.
    1  first byte + 2^32 * end byte
    2  first child + 2^32 * first name
    3  next sibling, or 0
@@ -190,6 +196,7 @@ static inline uint64_t typekey_name_length(uint64_t name) { return name & 0xffff
    through the fields in this order and count the names that you pass. */
 static inline uint64_t typekey_choices(const uint64_t *nodes, uint64_t i) { return nodes[4 * i]; }
 static inline uint64_t typekey_tag(const uint64_t *nodes, uint64_t i) { return nodes[4 * i] & 63; }
+static inline uint64_t typekey_sort(const uint64_t *nodes, uint64_t i) { return nodes[4 * i] & 7; } /* of a member */
 static inline uint64_t typekey_first_byte(const uint64_t *nodes, uint64_t i) { return nodes[4 * i + 1] & 0xffffffff; }
 static inline uint64_t typekey_end_byte(const uint64_t *nodes, uint64_t i) { return nodes[4 * i + 1] >> 32; }
 static inline uint64_t typekey_first_child(const uint64_t *nodes, uint64_t i) { return nodes[4 * i + 2] & 0xffffffff; }
@@ -224,8 +231,21 @@ static inline int typekey_has_children(const uint64_t *nodes, uint64_t i) { retu
 #define TYPEKEY_NAMED 22        /* spelling; bit for `?`; type, 20 or 21 */
 #define TYPEKEY_NON_NULL 23     /* type: A! */
 #define TYPEKEY_NULLABLE 24     /* type: A? */
+#define TYPEKEY_OBJECT 25       /* list of members */
 /* type parameter, no tag:         spelling, opt type (what it extends), opt type (its default) */
 /* parameter, no tag:              bit for rest; spelling; bit for `?`; opt type */
+
+/* Members of an object type: the sort that each has instead of a tag, and its fields behind it. A key is 2 bits, TYPEKEY_KEYED_BY_..,
+   and a spelling. */
+#define TYPEKEY_MEMBER_PROPERTY 0   /* bit for readonly; key; bit for `?`; opt type */
+#define TYPEKEY_MEMBER_METHOD 1     /* key; bit for `?`; then as a call signature */
+#define TYPEKEY_MEMBER_CALL 2       /* opt list of type parameters; opt `this`, which is an opt type; list of parameters; opt return type */
+#define TYPEKEY_MEMBER_CONSTRUCT 3  /* opt list of type parameters; list of parameters; opt return type */
+#define TYPEKEY_MEMBER_INDEX 4      /* bit for readonly; opt parameter, which is a spelling and a type; type */
+
+#define TYPEKEY_KEYED_BY_NAME 0
+#define TYPEKEY_KEYED_BY_STRING 1   /* the spelling is with its quotes */
+#define TYPEKEY_KEYED_BY_NUMBER 2
 
 #define TYPEKEY_KEYWORD_ANY 0
 #define TYPEKEY_KEYWORD_BIGINT 1
@@ -249,23 +269,39 @@ static inline int typekey_has_children(const uint64_t *nodes, uint64_t i) { retu
 #define TYPEKEY_LITERAL_MINUS_NUMBER 5  /* the spelling is without the - */
 #define TYPEKEY_LITERAL_MINUS_BIGINT 6
 
-/* What child number k of a node is, by the node's choices: only children of a function or constructor have no tag. */
+/* What a child is. Children without a tag are an object's, a function's, a constructor's, and a method's or signature's. */
 #define TYPEKEY_CHILD_TAGGED 0
 #define TYPEKEY_CHILD_TYPE_PARAMETER 1
 #define TYPEKEY_CHILD_PARAMETER 2
-static inline int typekey_child(uint64_t choices, uint64_t k) {
-    uint64_t tag = choices & 63, c = choices >> 6, type_parameters = 0, this_type = 0;
-    if (tag != TYPEKEY_FUNCTION && tag != TYPEKEY_CONSTRUCTOR) return TYPEKEY_CHILD_TAGGED;
-    if (tag == TYPEKEY_CONSTRUCTOR) c >>= 1;
+#define TYPEKEY_CHILD_MEMBER 3
+
+/* Child number k where these choices say: opt list of type parameters; opt `this`, unless it has none; list of parameters. */
+static inline int typekey_signature_child(uint64_t c, int may_have_this, uint64_t k) {
+    uint64_t type_parameters = 0, this_type = 0;
     if (c & 1) type_parameters = c >> 1 & 4095, c >>= 12;
     c >>= 1;
-    if (tag == TYPEKEY_FUNCTION) {
+    if (may_have_this) {
         if (c & 1) this_type = c >> 1 & 1, c >>= 1;
         c >>= 1;
     }
     if (k < type_parameters) return TYPEKEY_CHILD_TYPE_PARAMETER;
     k -= type_parameters;
     return k >= this_type && k - this_type < (c & 4095) ? TYPEKEY_CHILD_PARAMETER : TYPEKEY_CHILD_TAGGED;
+}
+
+/* What child number k is of a node that is no member, by the node's choices. */
+static inline int typekey_child(uint64_t choices, uint64_t k) {
+    uint64_t tag = choices & 63, c = choices >> 6;
+    if (tag == TYPEKEY_OBJECT) return TYPEKEY_CHILD_MEMBER;
+    if (tag == TYPEKEY_FUNCTION) return typekey_signature_child(c, 1, k);
+    return tag == TYPEKEY_CONSTRUCTOR ? typekey_signature_child(c >> 1, 0, k) : TYPEKEY_CHILD_TAGGED;
+}
+
+/* The same of a member. */
+static inline int typekey_member_child(uint64_t choices, uint64_t k) {
+    uint64_t sort = choices & 7, c = choices >> 3;
+    if (sort == TYPEKEY_MEMBER_PROPERTY || sort == TYPEKEY_MEMBER_INDEX) return TYPEKEY_CHILD_TAGGED;
+    return typekey_signature_child(sort == TYPEKEY_MEMBER_METHOD ? c >> 3 : c, sort != TYPEKEY_MEMBER_CONSTRUCT, k);
 }
 
 #ifdef __cplusplus

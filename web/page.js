@@ -65,11 +65,13 @@ function named({ tag, choices, spellings }) {
   if (tag === 'template') return spellings;
   if (tag === 'literal') return [spellings.length ? (choices.sort.startsWith('-') ? '-' : '') + spellings[0] : choices.sort];
   if (tag === 'import') return [[`import(${spellings[0]})`, ...spellings.slice(1)].join('.')];
+  if (tag === 'property' || tag === 'method') return [spellings[0] + (choices.optional ? '?' : '')];
+  if (tag === 'index signature') return [`[${spellings.join()}]`];
   return [choices.word ?? spellings.join('.')].filter(Boolean);
 }
 
-function flags({ choices, children }) {
-  const said = Object.entries(choices).filter(([, x]) => x !== 'none' && x !== false);
+function flags({ tag, choices, children }) {
+  const said = Object.entries(choices).filter(([label, x]) => x !== 'none' && x !== false && !(label === 'optional' && ['property', 'method'].includes(tag)));
   const empty = (label, role) => choices[label] && !children.some((c) => c.role === role);
   return [
     ...said.filter(([label]) => ['rest', 'abstract', 'asserts', 'typeof', 'this'].includes(label)).map(([label]) => label),
@@ -156,7 +158,7 @@ class Panel {
   row(node, i) {
     const { first, end } = this.answer.place ? node : node.bits;
     const row = make('div', { class: 'node', role: 'treeitem', tabindex: i ? -1 : 0, 'aria-level': node.depth + 1 },
-      ...(i && node.role !== node.tag ? [make('span', { class: 'role' }, node.role)] : []), make('span', { class: 'tag' }, node.tag), ...named(node).map((s) => make('code', {}, s)),
+      ...(i && ![node.tag, 'member'].includes(node.role) ? [make('span', { class: 'role' }, node.role)] : []), make('span', { class: 'tag' }, node.tag), ...named(node).map((s) => make('code', {}, s)),
       make('span', { class: 'flags' }, flags(node).join(' ')), make('span', { class: 'place' }, `${first}–${end}`));
     row.style.marginInlineStart = `${Math.min(node.depth, 20) * 1.1}rem`;
     row.node = node;

@@ -79,6 +79,21 @@ const checks = {
     same('titles', texts('.message b'), ['Diagnostic 4, bytes 8 to 9', 'Not all was read']);
     same('marked', [texts('.editor .noted'), texts('.editor .unread')], [['B'], ['[C]']]);
   },
+  async 'members'() {
+    await open('');
+    type('{ readonly a?: A; "b"; m<>(this, x): B; (): C; new (): D; readonly [k: string]: E; []: F }');
+    same('rows', all('.node').slice(1).filter((e) => e.getAttribute('aria-level') === '2').map((e) => [...e.children].slice(0, -1).map((c) => c.textContent).filter(Boolean).join(' ')),
+      ['property a? readonly', 'property "b"', 'method m this <>', 'call signature', 'construct signature', 'index signature [k] readonly', 'index signature []']);
+    same('titles', texts('.message b'), ['Diagnostic 1, bytes 24 to 26', 'Diagnostic 12, bytes 83 to 85']);
+    type('{ a: A; get b(): B }');
+    same('words', texts('.message'), ['Refused: Unsupported (4)Accessors are not read here: get.{ a: A; get b(): B }\n        ^']);
+    same('marked', texts('.editor .refused'), ['g']);
+    type('{ a: A; b: B }');
+    $('#more').click();
+    type('{ a: X; b?: B }', 1);
+    same('two', $('#verdict').textContent, '≠ Two types. They differ in 2 places, first at reference A against reference X.');
+    same('marked', texts('.editor .differs'), ['A', 'b: B', 'X', 'b?: B']);
+  },
   async 'brackets'() {
     await open('type=(A)');
     same('off', texts('.tag'), ['reference']);

@@ -31,12 +31,52 @@ test('twelve rows', () => {
   assert.deepEqual(read('new (this: A) => B').diagnostics.map((d) => d.name), ['ThisOnConstructor']);
 });
 
+test('members', () => {
+  const rows = [
+    ['{}', 'object'], ['{ a: A }', 'object(property name a(reference A))'], ['{ readonly "a"?: A, 1 }', 'object(property string "a"(reference A), property number 1)'],
+    ['{ a: A\nb }', 'object(property name a(reference A), property name b)'],
+    ['{ m<T extends A>(this: B, x?: C): x is D }', 'object(method name m(type parameter T(reference A), reference B, parameter x(reference C), predicate x(reference D)))'],
+    ['{ get(): A; new?(): B; set }', 'object(method name get(reference A), method name new(reference B), property name set)'],
+    ['{ <T>(x: T): T, (this) }', 'object(call signature(type parameter T, parameter x(reference T), reference T), call signature)'],
+    ['{ new <T>(x: T), }', 'object(construct signature(type parameter T, parameter x(reference T)))'],
+    ['{ new (this: A<>): B<> }', 'object(construct signature(reference B))', [2, 14, 16], [3, 7, 16], [2, 20, 22]],
+    ['{ readonly [k: string]: A }', 'object(index signature k(keyword string, reference A))'],
+    ['{ [a: A, b: B]: C }', 'object(index signature a(reference A, reference C))', [12, 2, 14]],
+    ['{ []: A }', 'object(index signature(reference A))', [12, 2, 4]],
+    ['{ readonly [a?: boolean,]: C }', 'object(index signature a(keyword boolean, reference C))', [8, 13, 14], [9, 23, 24], [11, 12, 23]],
+    ["{ [a: 'x']: A }", "object(index signature a(literal string 'x', reference A))", [10, 6, 9]],
+    ['{ a: { b: () => C } }[]', 'array(object(property name a(object(property name b(function(reference C))))))'],
+    ['`a${{ m(b) }}c${{ x: `d${{ e?; [k: A]: B }}f` }}g${{}}h`', 'template `a${ }c${ }g${ }h`(object(method name m(parameter b)), object(property name x(template `d${ }f`(object(property name e, index signature k(reference A, reference B))))), object)'],
+  ];
+  for (const [text, want, ...notes] of rows) {
+    const r = read(text);
+    assert.equal(said(r.tree.root), want);
+    assert.deepEqual(r.diagnostics.map((d) => [d.number, d.first, d.end]), notes);
+    assert.equal(r.end.token, cut(text).length - 1);
+    assert.equal(said(keys.takeBack(r.key).tree.root), want);
+  }
+  assert.equal(toHex(read('{ a: A }').key), '16 40 04 00 00 16 14 10 01 00 01 41 00');
+  assert.deepEqual(read('{ readonly a(): B }').key, read('{ a(): B }').key);
+  assert.deepEqual(read('{ readonly [a?: null,]: C; [a: 1, b: 2]: D; [a: 1]: E }').diagnostics.map((d) => d.name), ['OptionalIndex', 'CommaAfterIndex', 'KeywordIndex', 'NotOneIndex', 'LiteralIndex']);
+  const [p, m, i] = read('{ readonly 1?: A; m?<T>(this, x): B; [k: C]: D }').tree.root.children;
+  assert.deepEqual([p.role, p.choices, p.first, p.end], ['member', { readonly: true, key: 'number', optional: true, type: true }, 2, 17]);
+  assert.deepEqual(m.choices, { key: 'name', optional: true, typeParameters: true, this: true, thisType: false, returns: true });
+  assert.deepEqual([i.choices, i.children.map((c) => c.role)], [{ readonly: false, parameter: true }, ['index', 'type']]);
+  const refused = (text) => { const { name, token, byte, sentence } = read(text); return [name, token, byte, sentence]; };
+  assert.deepEqual(refused('{ [a]: A }'), ['Unsupported', 1, 2, 'Computed names of members are not read here.']);
+  assert.deepEqual(refused('{ get a(): A }'), ['Unsupported', 1, 2, 'Accessors are not read here: `get`.']);
+  assert.deepEqual(refused('{ readonly static a: A }'), ['Unsupported', 2, 11, 'Modifiers are not read here: `static`.']);
+  assert.deepEqual(refused('{ a b: A }'), ['Unexpected', 2, 4, '`b` cannot stand here.']);
+  assert.deepEqual(refused('{ [a: string] }').slice(0, 3), ['Unexpected', 6, 14]);
+  assert.deepEqual(refused('{ a: A'), ['Unexpected', 4, 6, 'The text ends before the type does.']);
+  assert.deepEqual(keys.takeBack(fromHex('16 40 06 A0')).bit, 22);
+});
+
 test('refusals say what and where', () => {
   const refused = (text) => { const { name, token, half, byte, sentence } = read(text); return [name, token, half, byte, sentence]; };
   assert.deepEqual(refused('T extends U ? : V'), ['Unexpected', 4, 0, 14, '`:` cannot stand here.']);
   assert.deepEqual(refused('A<=B>'), ['Unexpected', 1, 1, 2, '`=` cannot stand here.']);
   assert.deepEqual(refused('A |'), ['Unexpected', 2, 0, 3, 'The text ends before the type does.']);
-  assert.deepEqual(refused('{ a: B }'), ['Unsupported', 0, 0, 0, 'Object types with members are not read here, only mapped types.']);
   assert.equal(refused('import(A)')[4], 'The source of an import has to be a string.');
   assert.equal(refused('import("m", A)')[4], 'Options of an import are not read here.');
   assert.equal(refused('(...a, b) => C')[4], 'A rest parameter has to be the last.');
@@ -73,6 +113,8 @@ test('what differs', () => {
     ['A | B', 'A | B | C', '4-4'], ['[A, B, C]', '[A?, X, ...C]', '22-22 83-89 108-114'], ['{ [K in A]: B }', '{ [L in X]?: B }', '4-4'],
     ['{ [K in A]: B }', '{ [L in X]: Y }', '12-12 54-54 101-101'], ['(a: A, b?: B) => C', '(x: A, b: Y) => Z', '25-25 94-94 182-182'],
     ['<T, U extends A>() => B', '<V, U>() => C', '23-23 49-49 149-106'], ['`a${A}b${B}c`', '`x${Y}b${[Z]}d`', '22-22 88-88 161-161 204-222'], ["'a'", '"a"', '13-13'],
+    ['{ a: A; b: B }', '{ a: X; readonly b: B }', '72-72 97-97'], ['{ a: A }', '{ "a": A }', '22-22'], ['{ a: A }', '{ a: A; b: B }', '4-4'],
+    ['{ [k: string]: A }', '{ [i: number]: B }', '27-27 51-51 79-79'], ['{ [k: A]: B }', '{ []: B }', '22-22'],
   ];
   for (const [a, b, want] of rows) {
     assert.equal(pairs(a, b), want);
@@ -150,5 +192,7 @@ test('the cutter by itself', () => {
   assert.equal(cuts('public class string of'), '83 public  107 class  70 string  1 of');
   assert.equal(cuts('"a\nb'), '41 "  1 a  1/ b');
   assert.equal(cuts('`a${b} /* '), '6 `a${  1 b  17 }  41 /*');
+  assert.equal(cuts('{ get a, "b"?: c\n;1(): d}'), '16 {  1 get  1 a  31 ,  4 "b"  29 ?  30 :  1 c  32/ ;  2 1  20 (  21 )  30 :  1 d  17 }');
+  assert.equal(cuts('`${{ a: {} }}${{}}`'), '6 `${  16 {  1 a  30 :  16 {  17 }  17 }  7 }${  16 {  17 }  8 }`');
   assert.equal(indexAt('é😀x', 6), 3);
 });

@@ -80,8 +80,10 @@ export type RefusalName =
   | 'BadList' | 'BadToken' | 'Unexpected' | 'Unsupported' | 'TooDeep' | 'TooTall' | 'TooLong' | 'NoRoom' | 'ManyNotes' | 'BadKey' | 'NoSpace' | 'ManyDifferences';
 
 export interface Diagnostic {
-  number: 1 | 2 | 3 | 4 | 5 | 6 | 7;
-  name: 'EmptyTypeParameters' | 'EmptyArguments' | 'ThisOnConstructor' | 'RequiredAfterOptional' | 'RestAfterLabel' | 'OptionalAfterLabel' | 'OptionalRest';
+  number: 1 | 2 | 3 | 4 | 5 | 6 | 7 | 8 | 9 | 10 | 11 | 12;
+  name:
+    | 'EmptyTypeParameters' | 'EmptyArguments' | 'ThisOnConstructor' | 'RequiredAfterOptional' | 'RestAfterLabel' | 'OptionalAfterLabel' | 'OptionalRest'
+    | 'OptionalIndex' | 'CommaAfterIndex' | 'LiteralIndex' | 'KeywordIndex' | 'NotOneIndex';
   /** Bytes of the text. */
   first: number;
   end: number;
@@ -103,7 +105,8 @@ export class Tree implements Iterable<Node> {
 export type Tag =
   | 'reference' | 'keyword' | 'literal' | 'parens' | 'union' | 'intersection' | 'array' | 'indexed' | 'conditional' | 'infer' | 'operator'
   | 'function' | 'constructor' | 'mapped' | 'template' | 'predicate' | 'typeof' | 'import' | 'tuple' | 'optional' | 'rest' | 'named'
-  | 'non-null' | 'nullable' | 'type parameter' | 'parameter';
+  | 'non-null' | 'nullable' | 'object' | 'type parameter' | 'parameter'
+  | 'property' | 'method' | 'call signature' | 'construct signature' | 'index signature';
 
 export interface Node {
   tag: Tag;
@@ -113,9 +116,9 @@ export interface Node {
   /** Its bytes in the text; 0 and 0 in a tree that was taken back. */
   first: number;
   end: number;
-  /** What the node itself says: `word` of a keyword or operator, `sort` of a literal, `optional`, `rest`, `abstract`, … */
+  /** What the node itself says: `word` of a keyword or operator, `sort` of a literal, `key` of a property or method (name, string or number), `readonly`, `optional`, `rest`, … */
   choices: Record<string, boolean | number | string>;
-  /** Names, literals and template pieces in the key's order, and where they stand in the tree's text. */
+  /** Names, literals, keys of members and template pieces in the key's order, and where they stand in the tree's text. */
   spellings: string[];
   spans: { first: number; end: number }[];
   children: Node[];

@@ -24,6 +24,18 @@ const typeParameters = opt('typeParameters', list(child('type parameter', typePa
 const parameters = list(child('parameter', parameter));
 const typeArguments = opt('arguments', list(child('argument')));
 const one = child('type');
+const keyed = [word('key', 2, ['name', 'string', 'number']), spelling, flag('optional')];
+const thisParameter = opt('this', opt('thisType', child('this')));
+const returns = opt('returns', child('returns'));
+
+// Members of an object type, by the sort of three bits that each has instead of a tag.
+const MEMBERS = [
+  ['property', flag('readonly'), ...keyed, opt('type', one)],
+  ['method', ...keyed, typeParameters, thisParameter, parameters, returns],
+  ['call signature', typeParameters, thisParameter, parameters, returns],
+  ['construct signature', typeParameters, parameters, returns],
+  ['index signature', flag('readonly'), opt('parameter', spelling, child('index')), one],
+];
 
 // A row begins with its tag's name.
 const ROWS = [
@@ -39,7 +51,7 @@ const ROWS = [
   ['conditional', child('checked'), child('extends'), child('then'), child('else')],
   ['infer', spelling, opt('constraint', child('extends'))],
   ['operator', word('word', 2, ['keyof', 'unique', 'readonly']), one],
-  ['function', typeParameters, opt('this', opt('thisType', child('this'))), parameters, child('returns')],
+  ['function', typeParameters, thisParameter, parameters, child('returns')],
   ['constructor', flag('abstract'), typeParameters, parameters, child('returns')],
   ['mapped', word('readonly', 2, SIGNED), spelling, child('in'), opt('as', child('as')), word('optional', 2, SIGNED), opt('type', one)],
   ['template', choose('types', 12, (n) => [spelling, ...Array.from({ length: n }, () => [one, spelling]).flat()], Number)],
@@ -52,6 +64,7 @@ const ROWS = [
   ['named', spelling, flag('optional'), one],
   ['non-null', one],
   ['nullable', one],
+  ['object', list(child('member', MEMBERS))],
 ];
 
 const utf8 = new TextDecoder('utf-8', { ignoreBOM: true });
@@ -111,7 +124,7 @@ export class Tree {
         if (f.label) node.choices[f.label] = f.say(k);
         f.then(k).forEach(field);
       };
-      const [tag, ...row] = untagged ?? ROWS[take(6)];
+      const [tag, ...row] = untagged === MEMBERS ? MEMBERS[take(3)] : untagged ?? ROWS[take(6)];
       node.tag = tag;
       row.forEach(field);
       node.bits.end = bit;
@@ -128,11 +141,16 @@ const DIAGNOSTICS = [
   [],
   ['EmptyTypeParameters', 'The list of type parameters is empty.'],
   ['EmptyArguments', 'The list of type arguments is empty.'],
-  ['ThisOnConstructor', 'A constructor type takes no `this`. It is left out of the tree.'],
+  ['ThisOnConstructor', 'A constructor takes no `this`. It is left out of the tree.'],
   ['RequiredAfterOptional', 'A required element cannot come after an optional one.'],
   ['RestAfterLabel', 'The `...` belongs before the label. It is left out of the tree.'],
   ['OptionalAfterLabel', 'The `?` belongs behind the label, not behind the type.'],
   ['OptionalRest', 'A rest element cannot be optional.'],
+  ['OptionalIndex', 'The parameter of an index signature takes no `?`. It is left out of the tree.'],
+  ['CommaAfterIndex', 'An index signature takes no comma behind its parameter.'],
+  ['LiteralIndex', 'The parameter of an index signature cannot be a literal; a mapped type could.'],
+  ['KeywordIndex', 'The parameter of an index signature has to be a string, a number or a symbol.'],
+  ['NotOneIndex', 'An index signature has one parameter. Of several the first is kept.'],
 ];
 
 const REFUSALS = ['', 'BadList', 'BadToken', 'Unexpected', 'Unsupported', 'TooDeep', 'TooTall', 'TooLong', 'NoRoom', 'ManyNotes', 'BadKey', 'NoSpace'];
@@ -143,7 +161,8 @@ const SIDES = ['neither', 'left', 'right'];
 function unsupported(kind, spelled) {
   const IMPORT = 98, OPEN = 20, STRING = 4;
   if (kind(-2) === IMPORT && kind(-1) === OPEN) return 'The source of an import has to be a string.';
-  if (spelled === '{') return 'Object types with members are not read here, only mapped types.';
+  if (spelled === '[') return 'Computed names of members are not read here.';
+  if (['get', 'set'].includes(spelled)) return `Accessors are not read here: \`${spelled}\`.`;
   if (['?', '!', '*'].includes(spelled)) return `A type that begins with \`${spelled}\` is not read here.`;
   if (spelled === '=') return 'Defaults of parameters are not read here.';
   if (spelled === ',') return kind(-1) === STRING && kind(-3) === IMPORT ? 'Options of an import are not read here.' : 'A rest parameter has to be the last.';
@@ -245,7 +264,7 @@ export class TypeKey {
   // Takes a key (bytes) back.
   takeBack(key) {
     const n = key.length, sound = n <= LIMITS.key;
-    // A node has six bits or more, a name three bytes, and the spellings are parts of the key.
+    // A node has six bits or more, or five and a type of nine or more; a name has three bytes, and the spellings are parts of the key.
     const room = sound ? { nodes: 4 * Math.ceil((8 * n) / 6), names: Math.ceil(n / 3), text: n } : { nodes: 0, names: 0, text: 0 };
     const left = this.#takeBack(key, room), [number, ...rest] = left.answer;
     if (number) return { ok: false, number, name: REFUSALS[number], bit: rest[0], sentence: takeBackSentence(number, rest[0], n) };

@@ -37,6 +37,7 @@ def written(tree):
     bits = ["0001"]
     def put(node):
         if node.number is not None: bits.append(format(node.number, "06b"))
+        if node.sort is not None: bits.append(format(node.sort, "03b"))
         for f in node.fields():
             if isinstance(f.value, Node): put(f.value)
             elif isinstance(f.value, bytes): bits.append(format(len(f.value), "016b") + format(int.from_bytes(f.value, "big"), "0%db" % (8 * len(f.value))))
@@ -77,6 +78,60 @@ class Rows(unittest.TestCase):
         self.assertEqual(read("A | B", start=2).key, read("B").key)
 
 
+class Members(unittest.TestCase):
+    # Each sort of member, each diagnostic of index signatures: the tree, and numbers, first and end bytes of its diagnostics.
+    READINGS = {
+        "{}": ("object",), "{ a: A }": ("object(property a(reference A))",), "{ readonly \"a\"?: A, 1 }": ("object(property \"a\"(reference A), property 1)",),
+        "{ a: A\nb }": ("object(property a(reference A), property b)",),
+        "{ m<T extends A>(this: B, x?: C): x is D }":
+            ("object(method m(type parameter T(reference A), reference B, parameter x(reference C), predicate x(reference D)))",),
+        "{ get(): A; new?(): B; set }": ("object(method get(reference A), method new(reference B), property set)",),
+        "{ <T>(x: T): T, (this) }": ("object(call signature(type parameter T, parameter x(reference T), reference T), call signature)",),
+        "{ new <T>(x: T), }": ("object(construct signature(type parameter T, parameter x(reference T)))",),
+        "{ new (this: A<>): B<> }": ("object(construct signature(reference B))", (2, 14, 16), (3, 7, 16), (2, 20, 22)),
+        "{ readonly [k: string]: A }": ("object(index signature k(keyword, reference A))",),
+        "{ [a: A, b: B]: C }": ("object(index signature a(reference A, reference C))", (12, 2, 14)),
+        "{ []: A }": ("object(index signature(reference A))", (12, 2, 4)),
+        "{ readonly [a?: boolean,]: C }": ("object(index signature a(keyword, reference C))", (8, 13, 14), (9, 23, 24), (11, 12, 23)),
+        "{ [a: 'x']: A }": ("object(index signature a(literal 'x', reference A))", (10, 6, 9)),
+        "{ a: { b: () => C } }[]": ("array(object(property a(object(property b(function(reference C))))))",),
+        "`a${{ m(b) }}c${{ x: `d${{ e?; [k: A]: B }}f` }}g${{}}h`":
+            ("template `a${ }c${ }g${ }h`(object(method m(parameter b)), object(property x(template `d${ }f`(object(property e, index signature k(reference A, reference B))))), object)",)}
+
+    def test_rows(self):
+        for text, (tree, *notes) in self.READINGS.items():
+            r = read(text)
+            self.assertEqual((shown(r.tree.root), [tuple(n) for n in r.notes]), (tree, notes), text)
+            self.assertEqual(r.key, model.read(text.encode(), model.cut(text), 0, False)[4], text)
+            self.assertEqual(shown(typekey.take_back(r.key).root), tree, text)
+        self.assertEqual(read("{ a: A }").key.hex(" "), "16 40 04 00 00 16 14 10 01 00 01 41 00")
+        self.assertEqual(read("{ readonly a(): B }").key, read("{ a(): B }").key)
+        self.assertEqual([str(n) for n in read("{ readonly [a?: boolean,]: C }").notes], [
+            "diagnostic 8 (OptionalIndex): a `?` on the parameter of an index signature, at bytes 13 to 14",
+            "diagnostic 9 (CommaAfterIndex): a comma behind the parameter of an index signature, at bytes 23 to 24",
+            "diagnostic 11 (KeywordIndex): a keyword as the type of an index signature's parameter that is no index, at bytes 12 to 23"])
+        self.assertEqual([read(t).notes[0].what for t in ("{ [a: 'x']: A }", "{ []: A }")], [Diagnostic.LiteralIndex, Diagnostic.NotOneIndex])
+
+    def test_fields(self):
+        r = read("{ readonly 1?: A; m?<T>(this, x): B; [k: C]: D }")
+        self.assertEqual((r.tree.root.number, r.tree.root.sort), (25, None))
+        p, m, i = r.tree.root.children
+        self.assertEqual([(n.number, n.sort, n.span) for n in (p, m, i)], [(None, 0, (2, 17)), (None, 1, (18, 36)), (None, 4, (37, 46))])
+        self.assertEqual([p.get(f) for f in ("readonly", "key sort", "key", "optional", "has type")], [1, 2, b"1", 1, 1])
+        self.assertEqual([m.get(f) for f in ("key", "optional", "type parameters", "has this", "has this type", "parameters", "has return type")], [b"m", 1, 1, 1, 0, 1, 1])
+        self.assertEqual([str(i.get(f)) for f in ("readonly", "has parameter", "name", "index", "type")], ["0", "1", "b'k'", "reference 41..42", "reference 45..46"])
+
+    def test_refusals(self):
+        places = {"{ [a]: A }": (4, 1, 2), "{ get a(): A }": (4, 1, 2), "{ readonly static a: A }": (4, 2, 11), "{ a b: A }": (3, 2, 4), "{ [a: string] }": (3, 6, 14),
+                  "{ 1n: A }": (3, 1, 2), "{ a: A": (3, 4, 6), "{ a in T }": (3, 2, 4)}
+        for text, place in places.items():
+            with self.assertRaises(Refused) as x: read(text)
+            self.assertEqual((x.exception.number, x.exception.token, x.exception.byte), place, text)
+        for key, place in {"164006A0": (10, 22), "16400430001610": (10, 26), "164004": (10, 22)}.items():
+            with self.assertRaises(Refused) as x: typekey.take_back(bytes.fromhex(key))
+            self.assertEqual((x.exception.number, x.exception.bit), place, key)
+
+
 class Refusals(unittest.TestCase):
     def sentence(self, sentence, call, *given, **options):
         with self.assertRaises(Refused) as x: call(*given, **options)
@@ -86,7 +141,7 @@ class Refusals(unittest.TestCase):
         no_rule, no_list = "refusal 3 (Unexpected): a token that no rule takes, ", "refusal 1 (BadList): no tokens or too many, too long a text, or a start that is no token"
         self.sentence(no_rule + "at token 4, byte 14", read, "T extends U ? : V")
         self.sentence(no_rule + "behind the first half of token 1, byte 2", read, "A<=B>")
-        self.sentence("refusal 4 (Unsupported): a form that is not read, at token 0, byte 0", read, "{}")
+        self.sentence("refusal 4 (Unsupported): a form that is not read, at token 1, byte 2", read, "{ get a(): B }")
         self.sentence("refusal 5 (TooDeep): a 65th type rule open, at token 64, byte 64", read, "(" * 64 + "A")
         self.sentence("refusal 6 (TooTall): a node higher than 256, at token 257, byte 1537", read, "keyof " * 256 + "A")
         self.sentence("refusal 7 (TooLong): a list of more than 4,095 entries, at token 8191, byte 8191", read, "|".join("A" * 4096))
@@ -215,7 +270,7 @@ class Vectors(unittest.TestCase):
 
     def test_beside_the_model(self):
         """Texts of a grammar, sound and damaged, and keys, sound and damaged: answers and all that is lent."""
-        cases = [c for c in rules_model.Cases(20260).generated(1500) if c]
+        cases = [c for maker in (rules_model.Maker, rules_model.ObjectMaker) for c in rules_model.Cases(20260, maker).generated(1500) if c]
         for sort, text, words, start, parens, lent in cases:
             got, key = self.reads(text, words, start, parens, lent)
             self.assertEqual(got, rules_model.expected((sort, text, words, start, parens, lent)), text)
@@ -239,7 +294,9 @@ class Differences(unittest.TestCase):
         ("{ [K in A]: B }", "{ [L in X]?: B }"): [(4, 4)], ("{ [K in A]: B }", "{ [L in X]: Y }"): [(12, 12), (54, 54), (101, 101)],
         ("(a: A, b?: B) => C", "(x: A, b: Y) => Z"): [(25, 25), (94, 94), (182, 182)],
         ("<T, U extends A>() => B", "<V, U>() => C"): [(23, 23), (49, 49), (149, 106)], ("'a'", '"a"'): [(13, 13)], ("1", "-1"): [(4, 4)],
-        ("A | B | C", "X | Y | Z"): [(40, 40), (83, 83), (126, 126)]}
+        ("A | B | C", "X | Y | Z"): [(40, 40), (83, 83), (126, 126)], ("{ a: A; b: B }", "{ a: X; readonly b: B }"): [(72, 72), (97, 97)],
+        ("{ a: A }", '{ "a": A }'): [(22, 22)], ("{ a: A }", "{ a(): A }"): [(22, 22)], ("{ a: A }", "{ a: A; b: B }"): [(4, 4)],
+        ("{ [k: string]: A }", "{ [i: number]: B }"): [(27, 27), (51, 51), (79, 79)], ("{ [k: A]: B }", "{ []: B }"): [(22, 22)]}
 
     def refusal(self, left, right, **options):
         with self.assertRaises(Refused) as c: differ(bytes.fromhex(left), bytes.fromhex(right), **options)

@@ -119,11 +119,15 @@ class Refused(Exception):
 class Diagnostic(enum.IntEnum):
     """What is reported of a type that is read all the same, with the diagnostic's number."""
     NoTypeParameters, NoArguments, ConstructorThis, RequiredAfter, RestAfterLabel, OptionalAfterLabel, OptionalRest = range(1, 8)
+    OptionalIndex, CommaAfterIndex, LiteralIndex, KeywordIndex, NotOneIndex = range(8, 13)
 
 
 _DIAGNOSTICS = ("type parameters with none between the brackets", "arguments with none between the brackets", "`this` on a constructor",
                 "a required element after an optional one", "dots behind a label", "a `?` after the type behind a label",
-                "an element that is optional and a rest")
+                "an element that is optional and a rest", "a `?` on the parameter of an index signature",
+                "a comma behind the parameter of an index signature", "a literal as the type of an index signature's parameter",
+                "a keyword as the type of an index signature's parameter that is no index",
+                "an index signature with no parameter or more than one")
 
 
 class Note(NamedTuple):
@@ -163,12 +167,19 @@ template: 12 types; spelling piece; *type-and-spelling piece
 predicate: 1 asserts; 1 this; ?spelling name; 1 has type; *type type
 import: 1 typeof; spelling source; 12 names; *spelling name; 1 has arguments; *12 arguments; *type argument
 tuple: 12 elements; *type element
+object: 12 members; *member member
 named: spelling label; 1 optional; type type
 type parameter: spelling name; 1 has constraint; *type constraint; 1 has default; *type default
 parameter: 1 rest; spelling name; 1 optional; 1 has type; *type type
+property: 1 readonly; 2 key sort; spelling key; 1 optional; 1 has type; *type type
+method: 2 key sort; spelling key; 1 optional; 1 has type parameters; *12 type parameters; *type-parameter type parameter; 1 has this; *1 has this type; *type this type; 12 parameters; *parameter parameter; 1 has return type; *type returns
+call signature: 1 has type parameters; *12 type parameters; *type-parameter type parameter; 1 has this; *1 has this type; *type this type; 12 parameters; *parameter parameter; 1 has return type; *type returns
+construct signature: 1 has type parameters; *12 type parameters; *type-parameter type parameter; 12 parameters; *parameter parameter; 1 has return type; *type returns
+index signature: 1 readonly; 1 has parameter; *spelling name; *type index; type type
 """
 TAGS = tuple(("no tag, reference, keyword, literal, parens, union, intersection, array, indexed, conditional, infer, operator, function, constructor, "
-              "mapped, template, predicate, typeof, import, tuple, optional, rest, named, non-null, nullable").split(", "))     # by number
+              "mapped, template, predicate, typeof, import, tuple, optional, rest, named, non-null, nullable, object").split(", "))     # by number
+MEMBERS = "property", "method", "call signature", "construct signature", "index signature"     # by sort, which they have instead of a tag
 
 
 def _rows() -> dict:
@@ -201,8 +212,13 @@ class Node:
 
     @property
     def number(self) -> Optional[int]:
-        """The tag's number in the key; a parameter and a type parameter have none."""
+        """The tag's number in the key; a parameter, a type parameter and a member have none."""
         return TAGS.index(self.tag) if self.tag in TAGS else None
+
+    @property
+    def sort(self) -> Optional[int]:
+        """A member's sort, which it has in the key instead of a tag."""
+        return MEMBERS.index(self.tag) if self.tag in MEMBERS else None
 
     @property
     def span(self) -> Tuple[int, int]:
@@ -215,7 +231,7 @@ class Node:
         tree = self.tree
         word, _, links, _ = tree.nodes[4 * self.at:4 * self.at + 4]
         child, name, said = links & 0xFFFFFFFF, links >> 32, 0
-        if self.tag in TAGS: word >>= 6
+        word >>= 6 if self.tag in TAGS else 3 if self.tag in MEMBERS else 0
         for label, times, what in _ROWS[self.tag]:
             for _ in range(_TIMES[times](said)):
                 if isinstance(what, int):
@@ -230,7 +246,7 @@ class Node:
                     yield Field(label, tree.name(name))
                     child, name = tree.nodes[4 * child + 3], name + 1
                 else:
-                    yield Field(label, Node(tree, child, None if what == "type" else label))
+                    yield Field(label, tree._member(child) if what == "member" else Node(tree, child, None if what == "type" else label))
                     child = tree.nodes[4 * child + 3]
 
     def get(self, name: str) -> Union[int, bytes, Node, None]:
@@ -239,7 +255,7 @@ class Node:
 
     @property
     def names(self) -> List[bytes]:
-        """Its names: the parts of a dotted name, a literal's spelling, a template's pieces."""
+        """Its names: the parts of a dotted name, a literal's spelling, a template's pieces, a member's key."""
         return [f.value for f in self.fields() if isinstance(f.value, bytes)]
 
     @property
@@ -288,11 +304,19 @@ class Tree:
     # The number of the first name behind a type and all that it holds. The node before a parent is its last child and has no
     # sibling after it. Only a template has a name behind its last child.
     def _names_end(self, at: int) -> int:
-        behind = 0
-        while at > 0 and self.nodes[4 * at - 1] == 0:
-            behind += Node(self, at).tag == "template"
-            at -= 1
-        return (self.nodes[4 * at + 2] >> 32) + len(Node(self, at).names) + behind
+        node, behind = Node(self, at), 0
+        while node.at > 0 and self.nodes[4 * node.at - 1] == 0:
+            behind += node.tag == "template"
+            node = self._last_child(node)
+        return (self.nodes[4 * node.at + 2] >> 32) + len(node.names) + behind
+
+    # The last child of a node that has one. Where it can be one without a tag, the fields say what it is.
+    def _last_child(self, node: Node) -> Node:
+        if node.tag == "object": return self._member(node.at - 1)
+        return node.children[-1] if node.tag in MEMBERS[1:4] else Node(self, node.at - 1)
+
+    def _member(self, at: int) -> Node:
+        return Node(self, at, MEMBERS[self.nodes[4 * at] & 7])
 
 
 # ---- the calls
@@ -312,7 +336,7 @@ class Buffers:
 
     @classmethod
     def to_take_back(cls, key: int) -> Buffers:
-        """Enough to take back a key of so many bytes: a node has 6 bits at least, a name 24."""
+        """Enough to take back a key of so many bytes: a node has 6 bits at least, or 5 and a type of 9 or more, a name 24."""
         key = min(key, 262144)
         return cls(4 * (4 * key // 3), key // 3, 0, key)
 

@@ -1,5 +1,5 @@
 #!/usr/bin/env python3
-"""check_header.py: holds the numbers of include/typekey.h against docs/SCOPE.md (refusals, limits, tags) and tools/model.py (kinds, keywords)."""
+"""check_header.py: holds the numbers of include/typekey.h against docs/SCOPE.md (refusals, limits, tags, sorts, diagnostics) and tools/model.py (kinds, keywords)."""
 import os
 import re
 import sys
@@ -21,9 +21,13 @@ def expected():
     for macro, name in zip("MOST_TEXT MOST_TOKENS MOST_OPEN TALLEST LONGEST_LIST MOST_NOTES MOST_KEY".split(),
                            "Text::MOST Tokens::MOST OpenRules::MOST Tree::TALLEST List::LONGEST Notes::MOST Key::MOST".split()):
         yield macro, int(limits[name].replace(",", ""))
-    for number, name in re.findall(r"^\| ([\d, ]+) \| ([a-z, ]+) \| .* \|$", SCOPE.split("## The key")[1].split("##")[0], re.M):
+    tags, sorts = SCOPE.split("## The key")[1].split("##")[0].split("| Sort | Member |")
+    for number, name in re.findall(r"^\| ([\d, ]+) \| ([a-z, ]+) \| .* \|$", tags, re.M):
         for k, s in zip(number.split(", "), name.split(", ")):
             yield {"template": "TEMPLATE_TYPE"}.get(s, s.upper()), int(k)
+    for number, name in re.findall(r"^\| (\d) \| ([a-z ]+) \| .* \|$", sorts, re.M):
+        yield "MEMBER_" + name.replace(" signature", "").upper(), int(number)
+    for number, what in enumerate(re.search(r"member's key: .* from 0: (.*?);", sorts)[1].split(", ")): yield "KEYED_BY_" + what.upper(), number
     for s, k in m.FIXED.items():
         if s.isalpha(): yield "WORD_" + s.upper(), k
     for k, s in enumerate(m.KEYWORD): yield "KEYWORD_" + s.upper(), k
@@ -31,11 +35,14 @@ def expected():
 
 def main():
     wrong = [(n, v, MACROS.get(n)) for n, v in expected() if n not in MACROS or MACROS[n][0] != v]
+    notes = re.findall(r"^\| (\d+) \|", SCOPE.split("## Diagnostics")[1].split("##")[0], re.M)
+    for k in map(int, notes):
+        if [v for n, (v, _) in MACROS.items() if n.startswith("NOTE_")].count(k) != 1: wrong.append(("NOTE_.. of diagnostic %d" % k, "one", "none or several"))
     marks = {v: c for v, c in MACROS.values() if 16 <= v <= 40}
     for s, k in m.FIXED.items():
         if not s.isalpha() and not any(v == k and c == s for v, c in MACROS.values()): wrong.append((s, k, marks.get(k)))
     for w in wrong: print("typekey.h: %s is to be %s, and the header has %s" % w)
-    print("%d numbers of typekey.h, %d wrong" % (len(list(expected())) + sum(not s.isalpha() for s in m.FIXED), len(wrong)))
+    print("%d numbers of typekey.h, %d wrong" % (len(list(expected())) + len(notes) + sum(not s.isalpha() for s in m.FIXED), len(wrong)))
     sys.exit(bool(wrong))
 
 

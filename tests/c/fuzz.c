@@ -16,10 +16,11 @@ static uint64_t below(uint64_t n) { return chance() % n; }
 static int one_in(uint64_t n) { return below(n) == 0; }
 
 /* ---- token lists ---- */
-typedef struct { uint8_t kind; const char *spelled; } Token;
+typedef struct { uint8_t kind, broken; const char *spelled; } Token;   /* broken: a line break stands before it */
 enum { MOST = TYPEKEY_MOST_TOKENS + 8 };
 static Token list[MOST];
 static unsigned count;
+static int break_next;
 
 static const char *const SPELLED[108] = {
     [16] = "{", "}", "[", "]", "(", ")", "<", ">", "<<", "<=", "<<=", "|", "&", "?", ":", ",", ";", ".", "...", "=>", "=", "!", "-", "+", "*",
@@ -27,11 +28,11 @@ static const char *const SPELLED[108] = {
     "abstract", "as", "asserts", "infer", "is", "keyof", "out", "readonly", "unique",
     [96] = "extends", "false", "import", "in", "new", "null", "this", "true", "typeof", "void", "const"};
 
-static void say(int kind, const char *s) { if (count < MOST - 1) list[count++] = (Token){(uint8_t)kind, s}; }
+static void say(int kind, const char *s) { if (count < MOST - 1) list[count++] = (Token){(uint8_t)kind, (uint8_t)break_next, s}; break_next = 0; }
 static void fix(int kind) { say(kind, SPELLED[kind]); }
 static void any_of(int kind, const char *const *all, int n) { say(kind, all[below(n)]); }
 #define ANY(kind, ...) do { static const char *const all[] = {__VA_ARGS__}; any_of(kind, all, sizeof all / sizeof *all); } while (0)
-static void word(void) { ANY(1, "A", "B", "T", "U", "x", "abc", "Name", "_", "$", "\xc3\xa9", "longer_word_than_the_others"); }
+static void word(void) { ANY(1, "A", "B", "T", "U", "x", "abc", "Name", "_", "$", "\xc3\xa9", "get", "set", "longer_word_than_the_others"); }
 static void binding(void) { if (one_in(5)) fix(64 + (int)below(19)); else word(); }
 static void any_name(void) { if (one_in(5)) fix(96 + (int)below(11)); else binding(); }
 
@@ -73,13 +74,14 @@ static void parameters(int d) {
     }
     fix(21);
 }
+static void type_parameters(int d) {
+    fix(22);
+    for (int n = (int)below(3), i = 0; i < n; i++) { if (i) fix(31); binding(); if (one_in(3)) fix(96), type(d); if (one_in(3)) fix(36), type(d); }
+    fix(23);
+}
 static void function(int d) {
     if (one_in(4)) { if (one_in(2)) fix(74); fix(100); }
-    if (one_in(3)) {
-        fix(22);
-        for (int n = (int)below(3), i = 0; i < n; i++) { if (i) fix(31); binding(); if (one_in(3)) fix(96), type(d); if (one_in(3)) fix(36), type(d); }
-        fix(23);
-    }
+    if (one_in(3)) type_parameters(d);
     parameters(d);
     fix(35);
     if (one_in(6)) any_name(), fix(78);
@@ -105,9 +107,44 @@ static void mapped(int d) {
     if (one_in(3)) fix(32);
     fix(17);
 }
+static void member_key(void) { if (one_in(6)) ANY(4, "'k'", "\"\""); else if (one_in(6)) ANY(2, "1", "0x1F"); else if (one_in(6)) ANY(83, "static", "public"); else any_name(); }
+static void signature(int d) {
+    if (one_in(3)) type_parameters(d);
+    parameters(d);
+    if (one_in(4)) return;
+    fix(30);
+    if (one_in(6)) any_name(), fix(78);
+    type(d);
+}
+static void index_signature(int d) {
+    fix(18);
+    for (int n = one_in(4) ? (int)below(4) : 1, i = 0; i < n; i++) {
+        if (i) fix(31);
+        binding();
+        if (one_in(8)) fix(29);
+        fix(30);
+        if (one_in(4)) type(d); else if (one_in(3)) ANY(4, "'s'"); else fix(64 + (int)below(10));
+        if (i == n - 1 && one_in(8)) fix(31);
+    }
+    fix(19), fix(30), type(d);
+}
+static void member(int d) {
+    switch (below(8)) {
+    case 0: signature(d); break;
+    case 1: fix(100), signature(d); break;
+    case 2: if (one_in(3)) fix(81); index_signature(d); break;
+    case 3: case 4: if (one_in(5)) fix(81); member_key(); if (one_in(5)) fix(29); signature(d); break;
+    default: if (one_in(4)) fix(81); member_key(); if (one_in(4)) fix(29); if (!one_in(4)) fix(30), type(d);
+    }
+}
+static void object(int d) {
+    fix(16);
+    for (int n = (int)below(4); n; n--) { member(d); switch (below(n > 1 ? 3 : 4)) { case 0: fix(32); break; case 1: fix(31); break; case 2: break_next = 1; break; default: break; } }
+    fix(17);
+}
 static void primary(int d) {
     int n;
-    switch (below(d > 0 ? 24 : 9)) {
+    switch (below(d > 0 ? 28 : 9)) {
     case 0: case 1: case 2: word(); dotted(); break;
     case 3: case 4: fix(64 + (int)below(10)); break;
     case 5: fix((int[]){101, 105, 102}[below(3)]); break;
@@ -127,6 +164,7 @@ static void primary(int d) {
         break;
     case 21: fix(76); if (one_in(3)) fix(102); else any_name(); if (one_in(2)) fix(78), type(d - 1); break;
     case 22: fix(102), fix(78), type(d - 1); break;
+    case 23: case 24: case 25: case 26: object(d - 1); break;
     default: word(), fix(24), binding(), fix(23), parameters(d - 1), fix(35), type(d - 1), fix(23);
     }
 }
@@ -157,7 +195,7 @@ static void type(int d) {
 /* Shapes at the limits. */
 static void large(void) {
     int n = 60 + (int)below(8), i;
-    switch (below(8)) {
+    switch (below(11)) {
     case 0: for (i = 0; i < n; i++) fix(20); word(); for (i = 0; i < n; i++) fix(21); break;
     case 1: for (i = 0; i < n; i++) word(), fix(22); word(); for (i = 0; i < n; i++) fix(23); break;
     case 2: n = 250 + (int)below(10); for (i = 0; i < n; i++) fix(79); word(); break;
@@ -165,6 +203,9 @@ static void large(void) {
     case 4: n = 4090 + (int)below(10); for (i = 0; i < n; i++) fix(27), word(); break;
     case 5: n = 4090 + (int)below(10); word(); for (i = 0; i < n; i++) fix(33), any_name(); break;
     case 6: n = 28 + (int)below(8); fix(18); for (i = 0; i < n; i++) { if (i) fix(31); word(), fix(22), fix(23); } fix(19); break;
+    case 7: for (i = 0; i < n; i++) fix(16), word(), fix(30); word(); for (i = 0; i < n; i++) fix(17); break;
+    case 8: for (i = 0; i < n; i++) fix(16), word(), fix(20), fix(21), fix(30); word(); for (i = 0; i < n; i++) fix(17); break;
+    case 9: n = 4090 + (int)below(10); fix(16); for (i = 0; i < n; i++) word(), fix(32); fix(17); break;
     default: n = TYPEKEY_MOST_TOKENS - 4 + (int)below(6); word(); for (i = 1; i < n; i++) fix(i % 2 ? 27 : 64 + i % 10);
     }
 }
@@ -193,7 +234,7 @@ static void lay(void) {
     int tight = one_in(3) || count > 4000;
     laid_len = laid_count = 0;
     for (unsigned i = 0; i < count; i++) {
-        int line = one_in(25);
+        int line = list[i].broken || one_in(25);
         size_t n = strlen(list[i].spelled);
         if (laid_len + n + 4 > TYPEKEY_MOST_TEXT) break;
         if (line) laid[laid_len++] = '\n';
@@ -379,7 +420,7 @@ static void a_read(int sampled) {
         memcpy(kept_nodes, nodes.at, 32 * kept[1]), memcpy(kept_key, key.at, kept[4]);
         if (kept[2]) memcpy(kept_names, names.at, 8 * kept[2]);
         if (kept[3]) memcpy(kept_notes, notes.at, 24 * kept[3]);
-        for (uint64_t i = 0; i < kept[3]; i++) must(kept_notes[3 * i] - 1 < 7 && kept_notes[3 * i + 1] < kept_notes[3 * i + 2] && kept_notes[3 * i + 2] <= laid_len, "a note");
+        for (uint64_t i = 0; i < kept[3]; i++) must(kept_notes[3 * i] - 1 < TYPEKEY_NOTE_NOT_ONE_INDEX && kept_notes[3 * i + 1] < kept_notes[3 * i + 2] && kept_notes[3 * i + 2] <= laid_len, "a note");
         must(key_of_tree(kept_nodes, kept[1], kept_names, kept[2], text.at, text.count, 1, made) == kept[4] && memcmp(made, kept_key, kept[4]) == 0, "a reading's key is not its tree's");
     }
     /* again, with the bits of options that say nothing as others */

@@ -3,14 +3,15 @@
 #define TREE_H
 #include "lent.h"
 
-/* A row is its node's fields in order: a digit is so many bits, s a spelling, t a child, p a type parameter, q a parameter, ? an opt of
-   the field after it, * a list of it; L, S and T are what is special to a literal, a predicate and a template. */
-static const char *const ROW[25] = {0, "*s?*t", "4", "L", "t", "*t", "*t", "t", "tt", "tttt", "s?t", "2t", "?*p??t*qt", "1?*p*qt", "2st?t2?t", "T", "1S?t", "*s?*t",
-                                    "1s*s?*t", "*t", "t", "t", "s1t", "t", "t"};
-static const char *const SORT_ROW[3] = {0, "s?t?t", "1s1?t"};
+/* A row is its node's fields in order: a digit is so many bits, s a spelling, t a child, p a type parameter, q a parameter, m a member, ? an
+   opt of the field after it, * a list of it; L, S, T and I are what is special to a literal, a predicate, a template and an index signature. */
+static const char *const ROW[26] = {0, "*s?*t", "4", "L", "t", "*t", "*t", "t", "tt", "tttt", "s?t", "2t", "?*p??t*qt", "1?*p*qt", "2st?t2?t", "T", "1S?t", "*s?*t",
+                                    "1s*s?*t", "*t", "t", "t", "s1t", "t", "t", "*m"};
+static const char *const CHILD_ROW[3] = {0, "s?t?t", "1s1?t"};
+static const char *const MEMBER_ROW[5] = {"12s1?t", "2s1?*p??t*q?t", "?*p??t*q?t", "?*p*q?t", "1?It"};
 
 typedef struct { const uint64_t *nodes, *names; const uint8_t *text; uint64_t text_len, named, bits; int placed; uint8_t *out; } Tree;
-typedef struct { uint64_t node, choices, left, kid, kids; } At;
+typedef struct { uint64_t node, choices, left, kid, kids; int what; } At;
 
 static void bits_out(Tree *t, uint64_t value, int width) {
     while (width--) {
@@ -34,17 +35,17 @@ static void spelling(Tree *t) {
     for (uint64_t i = 0; i < length; i++) bits_out(t, t->text[start + i], 8);
 }
 
-static void node_out(Tree *t, uint64_t i, int sort);
+static void node_out(Tree *t, uint64_t i, int what);
 
-static void child(Tree *t, At *a, int sort) {
+static void child(Tree *t, At *a, int what) {
     must(typekey_has_children(t->nodes, a->node), "a node with children seems to have none");
-    must(typekey_child(a->choices, a->kids) == sort, "the sort of a child");
+    must((a->what == TYPEKEY_CHILD_MEMBER ? typekey_member_child(a->choices, a->kids) : typekey_child(a->choices, a->kids)) == what, "what a child is");
     a->kid = a->kids ? typekey_next_sibling(t->nodes, a->kid) : typekey_first_child(t->nodes, a->node);
     must(a->kid < a->node && (a->kids == 0 || a->kid != 0), "the number of a child");
     a->kids++;
     uint64_t first = typekey_first_byte(t->nodes, a->kid), end = typekey_end_byte(t->nodes, a->kid);
     if (t->placed) must(first < end && typekey_first_byte(t->nodes, a->node) <= first && end <= typekey_end_byte(t->nodes, a->node), "a child's span is not in its parent's");
-    node_out(t, a->kid, sort);
+    node_out(t, a->kid, what);
 }
 
 static const char *past(const char *row) {
@@ -60,6 +61,7 @@ static const char *field(Tree *t, At *a, const char *row) {
     case 't': child(t, a, TYPEKEY_CHILD_TAGGED); break;
     case 'p': child(t, a, TYPEKEY_CHILD_TYPE_PARAMETER); break;
     case 'q': child(t, a, TYPEKEY_CHILD_PARAMETER); break;
+    case 'm': child(t, a, TYPEKEY_CHILD_MEMBER); break;
     case '?':
         if (chosen(t, a, 1)) field(t, a, row + 1);
         break;
@@ -78,21 +80,26 @@ static const char *field(Tree *t, At *a, const char *row) {
         spelling(t);
         for (; n; n--) child(t, a, TYPEKEY_CHILD_TAGGED), spelling(t);
         break;
+    case 'I': spelling(t), child(t, a, TYPEKEY_CHILD_TAGGED); break;
     default: chosen(t, a, *row - '0');
     }
     return past(row);
 }
 
-static void node_out(Tree *t, uint64_t i, int sort) {
-    At a = {i, typekey_choices(t->nodes, i), typekey_choices(t->nodes, i), 0, 0};
+static void node_out(Tree *t, uint64_t i, int what) {
+    At a = {i, typekey_choices(t->nodes, i), typekey_choices(t->nodes, i), 0, 0, what};
     must(typekey_first_name(t->nodes, i) == t->named, "a node's first name");
     if (!t->placed) must(t->nodes[4 * i + 1] == 0, "a span in a tree that was taken back");
-    const char *row = SORT_ROW[sort];
-    if (sort == TYPEKEY_CHILD_TAGGED) {
+    const char *row;
+    if (what == TYPEKEY_CHILD_TAGGED) {
         uint64_t tag = chosen(t, &a, 6);
-        must(tag == typekey_tag(t->nodes, i) && tag >= 1 && tag <= 24, "no tag");
+        must(tag == typekey_tag(t->nodes, i) && tag >= 1 && tag <= TYPEKEY_OBJECT, "no tag");
         row = ROW[tag];
-    }
+    } else if (what == TYPEKEY_CHILD_MEMBER) {
+        uint64_t sort = chosen(t, &a, 3);
+        must(sort == typekey_sort(t->nodes, i) && sort <= TYPEKEY_MEMBER_INDEX, "no sort of a member");
+        row = MEMBER_ROW[sort];
+    } else row = CHILD_ROW[what];
     while (*row) row = field(t, &a, row);
     must(a.left == 0, "bits behind a node's choices");
     must(a.kids ? a.kid == i - 1 && typekey_next_sibling(t->nodes, a.kid) == 0 : !typekey_has_children(t->nodes, i) && typekey_first_child(t->nodes, i) == 0, "a node's last child");

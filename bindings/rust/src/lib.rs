@@ -118,7 +118,7 @@ impl Need {
         Need { nodes: 4 * (tokens + 4), names: tokens, notes: 96, bytes: least(text + 12 * tokens + 16, 262_144) }
     }
 
-    /// Enough to take back a key of so many bytes: a node has 6 bits at least, a name 24.
+    /// Enough to take back a key of so many bytes: a node has 6 bits at least, or 5 and a type of 9 or more, a name 24.
     pub const fn to_take_back(key: usize) -> Need {
         let key = least(key, 262_144);
         Need { nodes: 4 * (4 * key / 3), names: key / 3, notes: 0, bytes: key }

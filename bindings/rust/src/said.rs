@@ -151,7 +151,7 @@ pub enum Diagnostic {
     NoTypeParameters = 1,
     /// Arguments with none between `<` and `>`.
     NoArguments,
-    /// A `this` parameter on a constructor.
+    /// A `this` parameter on a constructor or a construct signature.
     ConstructorThis,
     /// A required element somewhere after an optional one.
     RequiredAfter,
@@ -161,11 +161,21 @@ pub enum Diagnostic {
     OptionalAfterLabel,
     /// An element that is optional and a rest.
     OptionalRest,
+    /// A `?` on the parameter of an index signature.
+    OptionalIndex,
+    /// A comma behind the last parameter of an index signature.
+    CommaAfterIndex,
+    /// A literal as the type of such a parameter.
+    LiteralIndex,
+    /// A keyword as its type that is no index.
+    KeywordIndex,
+    /// An index signature with no parameter, or with more than one.
+    NotOneIndex,
 }
 
 use Diagnostic::*;
 
-const DIAGNOSTICS: [(Diagnostic, &str); 7] = [
+const DIAGNOSTICS: [(Diagnostic, &str); 12] = [
     (NoTypeParameters, "type parameters with none between the brackets"),
     (NoArguments, "arguments with none between the brackets"),
     (ConstructorThis, "`this` on a constructor"),
@@ -173,6 +183,11 @@ const DIAGNOSTICS: [(Diagnostic, &str); 7] = [
     (RestAfterLabel, "dots behind a label"),
     (OptionalAfterLabel, "a `?` after the type behind a label"),
     (OptionalRest, "an element that is optional and a rest"),
+    (OptionalIndex, "a `?` on the parameter of an index signature"),
+    (CommaAfterIndex, "a comma behind the parameter of an index signature"),
+    (LiteralIndex, "a literal as the type of an index signature's parameter"),
+    (KeywordIndex, "a keyword as the type of an index signature's parameter that is no index"),
+    (NotOneIndex, "an index signature with no parameter or more than one"),
 ];
 
 impl Diagnostic {

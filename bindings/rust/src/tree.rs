@@ -2,7 +2,8 @@
 use core::fmt;
 use core::ops::Range;
 
-/// What a node is. The first 24 have their number in the key as discriminant; the last two have none there.
+/// What a node is. The first 25 have their number in the key as discriminant. A type parameter and a parameter have none
+/// there; the last five, members of object types, have a sort instead.
 #[derive(Clone, Copy, Debug, PartialEq, Eq, Hash)]
 #[repr(u8)]
 #[allow(missing_docs)]
@@ -33,13 +34,25 @@ pub enum Tag {
     NonNull,
     /// `A?`
     Nullable,
+    /// `{ a: A }`; its children are members.
+    Object,
     TypeParameter,
     Parameter,
+    /// `a: A`
+    Property,
+    /// `a(): A`
+    Method,
+    /// `(): A`
+    CallSignature,
+    /// `new (): A`
+    ConstructSignature,
+    /// `[k: string]: A`
+    IndexSignature,
 }
 
 use Tag::*;
 
-const TAGS: [(Tag, &str); 26] = [
+const TAGS: [(Tag, &str); 32] = [
     (Reference, "reference"),
     (Keyword, "keyword"),
     (Literal, "literal"),
@@ -64,14 +77,28 @@ const TAGS: [(Tag, &str); 26] = [
     (Named, "named"),
     (NonNull, "non-null"),
     (Nullable, "nullable"),
+    (Object, "object"),
     (TypeParameter, "type parameter"),
     (Parameter, "parameter"),
+    (Property, "property"),
+    (Method, "method"),
+    (CallSignature, "call signature"),
+    (ConstructSignature, "construct signature"),
+    (IndexSignature, "index signature"),
 ];
 
+// Members, by their sorts.
+const MEMBERS: [Tag; 5] = [Property, Method, CallSignature, ConstructSignature, IndexSignature];
+
 impl Tag {
-    /// The tag's number in the key; a parameter and a type parameter have none.
+    /// The tag's number in the key; a parameter, a type parameter and a member have none.
     pub const fn number(self) -> Option<u8> {
         if (self as u8) < TypeParameter as u8 { Some(self as u8) } else { None }
+    }
+
+    /// A member's sort, which it has in the key instead of a tag.
+    pub const fn sort(self) -> Option<u8> {
+        if self as u8 >= Property as u8 { Some(self as u8 - Property as u8) } else { None }
     }
 
     /// Its name in the node table.
@@ -95,6 +122,7 @@ enum What {
     Type,
     OfTypeParameter,
     OfParameter,
+    OfMember,
     // A type and a spelling.
     Both,
 }
@@ -188,6 +216,7 @@ fn row(tag: Tag) -> &'static [Part] {
             ("argument", Type, Said),
         ],
         Tuple => &[("elements", Bits(12), Once), ("element", Type, Said)],
+        Object => &[("members", Bits(12), Once), ("member", OfMember, Said)],
         Named => &[("label", Spelling, Once), ("optional", Bits(1), Once), ("type", Type, Once)],
         TypeParameter => &[
             ("name", Spelling, Once),
@@ -202,6 +231,57 @@ fn row(tag: Tag) -> &'static [Part] {
             ("optional", Bits(1), Once),
             ("has type", Bits(1), Once),
             ("type", Type, Said),
+        ],
+        Property => &[
+            ("readonly", Bits(1), Once),
+            ("key sort", Bits(2), Once),
+            ("key", Spelling, Once),
+            ("optional", Bits(1), Once),
+            ("has type", Bits(1), Once),
+            ("type", Type, Said),
+        ],
+        Method => &[
+            ("key sort", Bits(2), Once),
+            ("key", Spelling, Once),
+            ("optional", Bits(1), Once),
+            ("has type parameters", Bits(1), Once),
+            ("type parameters", Bits(12), Said),
+            ("type parameter", OfTypeParameter, Said),
+            ("has this", Bits(1), Once),
+            ("has this type", Bits(1), Said),
+            ("this type", Type, Said),
+            ("parameters", Bits(12), Once),
+            ("parameter", OfParameter, Said),
+            ("has return type", Bits(1), Once),
+            ("returns", Type, Said),
+        ],
+        CallSignature => &[
+            ("has type parameters", Bits(1), Once),
+            ("type parameters", Bits(12), Said),
+            ("type parameter", OfTypeParameter, Said),
+            ("has this", Bits(1), Once),
+            ("has this type", Bits(1), Said),
+            ("this type", Type, Said),
+            ("parameters", Bits(12), Once),
+            ("parameter", OfParameter, Said),
+            ("has return type", Bits(1), Once),
+            ("returns", Type, Said),
+        ],
+        ConstructSignature => &[
+            ("has type parameters", Bits(1), Once),
+            ("type parameters", Bits(12), Said),
+            ("type parameter", OfTypeParameter, Said),
+            ("parameters", Bits(12), Once),
+            ("parameter", OfParameter, Said),
+            ("has return type", Bits(1), Once),
+            ("returns", Type, Said),
+        ],
+        IndexSignature => &[
+            ("readonly", Bits(1), Once),
+            ("has parameter", Bits(1), Once),
+            ("name", Spelling, Said),
+            ("index", Type, Said),
+            ("type", Type, Once),
         ],
     }
 }
@@ -252,6 +332,11 @@ impl<'a> Tree<'a> {
         Node { tree: *self, at, tag }
     }
 
+    // A member, which has a sort.
+    fn member(&self, at: u32) -> Node<'a> {
+        Node { tree: *self, at, tag: MEMBERS[(self.word(at, 0) & 7) as usize] }
+    }
+
     fn word(&self, at: u32, which: usize) -> u64 {
         self.nodes[4 * at as usize + which]
     }
@@ -267,13 +352,22 @@ impl<'a> Tree<'a> {
     }
 
     // The number of the first name behind a type and all that it holds. Only a template has a name behind its last child.
-    fn names_end(&self, mut at: u32) -> u32 {
-        let mut behind = 0;
-        while self.has_children(at) {
-            behind += (self.node(at).tag == Template) as u32;
-            at -= 1;
+    fn names_end(&self, at: u32) -> u32 {
+        let (mut node, mut behind) = (self.node(at), 0);
+        while self.has_children(node.at) {
+            behind += (node.tag == Template) as u32;
+            node = self.last_child(&node);
         }
-        (self.word(at, 2) >> 32) as u32 + self.node(at).names().count() as u32 + behind
+        (self.word(node.at, 2) >> 32) as u32 + node.names().count() as u32 + behind
+    }
+
+    // The last child of a node that has one. Where it can be one without a tag, the fields say what it is.
+    fn last_child(&self, node: &Node<'a>) -> Node<'a> {
+        match node.tag {
+            Object => self.member(node.at - 1),
+            Method | CallSignature | ConstructSignature => node.children().last().unwrap(),
+            _ => self.node(node.at - 1),
+        }
     }
 }
 
@@ -304,7 +398,7 @@ impl<'a> Node<'a> {
         self.fields().find(|f| f.name == name).map(|f| f.value)
     }
 
-    /// Its names: the parts of a dotted name, a literal's spelling, a template's pieces.
+    /// Its names: the parts of a dotted name, a literal's spelling, a template's pieces, a member's key.
     pub fn names(&self) -> impl Iterator<Item = &'a [u8]> + use<'a> {
         self.fields().filter_map(|f| if let Value::Name(n) = f.value { Some(n) } else { None })
     }
@@ -374,7 +468,11 @@ impl Default for Step {
 impl Step {
     fn of(node: &Node) -> Step {
         let links = node.tree.word(node.at, 2);
-        let shift = if node.tag.number().is_some() { 6 } else { 0 };
+        let shift = match (node.tag.number(), node.tag.sort()) {
+            (Some(_), _) => 6,
+            (_, Some(_)) => 3,
+            _ => 0,
+        };
         Step { at: node.at, tag: node.tag, shift, child: links as u32, name: (links >> 32) as u32, ..Step::default() }
     }
 
@@ -415,6 +513,7 @@ impl Step {
             Type => self.node(tree, None),
             OfTypeParameter => self.node(tree, Some(TypeParameter)),
             OfParameter => self.node(tree, Some(Parameter)),
+            OfMember => self.node(tree, Some(tree.member(self.child).tag)),
             Both if self.left % 2 == 1 => {
                 self.name = tree.names_end(self.child);
                 return Some(Field { name: "type", value: self.node(tree, None) });

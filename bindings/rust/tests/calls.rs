@@ -1,15 +1,18 @@
 //! The calls by example: document 01's twelve rows, refusals, empty and null slices, and walks.
 use typekey::*;
 
-/// Cuts a text of words and marks into tokens. It is for these tests alone: no strings, numbers, templates or comments.
+/// Cuts a text of words, marks, digits and simple strings into tokens. It is for these tests alone: no templates, comments or
+/// other numbers.
 fn cut(text: &str) -> Vec<u64> {
     const MARKS: [&str; 5] = ["<<=", "...", "<<", "<=", "=>"];
     let (mut tokens, mut at, mut newline) = (Vec::new(), 0, false);
     while at < text.len() {
         let rest = &text[at..];
         let word = rest.find(|c: char| !c.is_alphanumeric()).unwrap_or(rest.len());
+        let quote = rest.starts_with(['"', '\'']).then(|| rest[1..].find(&rest[..1]).unwrap() + 2);
         let length = match MARKS.iter().find(|m| rest.starts_with(**m)) {
             _ if word > 0 => word,
+            _ if quote.is_some() => quote.unwrap(),
             Some(mark) => mark.len(),
             None => 1,
         };
@@ -17,7 +20,13 @@ fn cut(text: &str) -> Vec<u64> {
         if spelling.trim().is_empty() {
             newline |= spelling == "\n";
         } else {
-            tokens.push(token(kind_of(spelling.as_bytes()), newline, at as u32, length as u32));
+            let digits = spelling.bytes().all(|b| b.is_ascii_digit());
+            let kind = match quote {
+                Some(_) => STRING,
+                None if digits => NUMBER,
+                None => kind_of(spelling.as_bytes()),
+            };
+            tokens.push(token(kind, newline, at as u32, length as u32));
             newline = false;
         }
         at += length;
@@ -87,6 +96,104 @@ fn rows() {
 }
 
 #[test]
+fn members() {
+    type Notes<'a> = &'a [(u8, usize, usize)];
+    let rows: [(&str, &str, Notes); 15] = [
+        ("{}", "object", &[]),
+        ("{ a: A }", "object(property a(reference A))", &[]),
+        ("{ readonly \"a\"?: A, 1 }", "object(property \"a\"(reference A), property 1)", &[]),
+        ("{ a: A\nb }", "object(property a(reference A), property b)", &[]),
+        (
+            "{ m<T extends A>(this: B, x?: C): x is D }",
+            "object(method m(type parameter T(reference A), reference B, parameter x(reference C), predicate x(reference D)))",
+            &[],
+        ),
+        ("{ get(): A; new?(): B; set }", "object(method get(reference A), method new(reference B), property set)", &[]),
+        (
+            "{ <T>(x: T): T, (this) }",
+            "object(call signature(type parameter T, parameter x(reference T), reference T), call signature)",
+            &[],
+        ),
+        ("{ new <T>(x: T), }", "object(construct signature(type parameter T, parameter x(reference T)))", &[]),
+        (
+            "{ new (this: A<>): B<> }",
+            "object(construct signature(reference B))",
+            &[(2, 14, 16), (3, 7, 16), (2, 20, 22)],
+        ),
+        ("{ readonly [k: string]: A }", "object(index signature k(keyword, reference A))", &[]),
+        ("{ [a: A, b: B]: C }", "object(index signature a(reference A, reference C))", &[(12, 2, 14)]),
+        ("{ []: A }", "object(index signature(reference A))", &[(12, 2, 4)]),
+        (
+            "{ readonly [a?: boolean,]: C }",
+            "object(index signature a(keyword, reference C))",
+            &[(8, 13, 14), (9, 23, 24), (11, 12, 23)],
+        ),
+        ("{ [a: 'x']: A }", "object(index signature a(literal 'x', reference A))", &[(10, 6, 9)]),
+        ("{ a: { b: () => C } }[]", "array(object(property a(object(property b(function(reference C))))))", &[]),
+    ];
+    let (mut buffers, mut others) = (Buffers::default(), Buffers::default());
+    for (text, tree, notes) in rows {
+        let tokens = cut(text);
+        let r = read(text.as_bytes(), &tokens, Options::default(), &mut buffers).unwrap();
+        assert_eq!(shown(r.tree.root()), tree, "{text}");
+        let said: Vec<_> = r.notes().map(|n| (n.what.number(), n.span.start, n.span.end)).collect();
+        assert_eq!(said, notes, "{text}");
+        assert_eq!(r.end, End { token: tokens.len() - 1, half: false }, "{text}");
+        assert_eq!(shown(take_back(r.key, &mut others).unwrap().root()), tree, "{text}");
+    }
+    let key = [0x16, 0x40, 0x04, 0x00, 0x00, 0x16, 0x14, 0x10, 0x01, 0x00, 0x01, 0x41, 0x00];
+    assert_eq!(key_of("{ a: A }", Options::default()).unwrap(), key);
+    assert_eq!(key_of("{ readonly a(): B }", Options::default()), key_of("{ a(): B }", Options::default()));
+}
+
+#[test]
+fn what_members_hold() {
+    let (text, mut buffers) = ("{ readonly 1?: A; m?<T>(this, x): B; [k: C]: D }", Buffers::default());
+    let r = read(text.as_bytes(), &cut(text), Options::default(), &mut buffers).unwrap();
+    assert_eq!((r.tree.root().tag.number(), r.tree.root().tag.sort()), (Some(25), None));
+    let members: Vec<Node> = r.tree.root().children().collect();
+    let sorts: Vec<_> = members.iter().map(|m| (m.tag, m.tag.number(), m.tag.sort(), m.span())).collect();
+    assert_eq!(
+        sorts,
+        [
+            (Tag::Property, None, Some(0), 2..17),
+            (Tag::Method, None, Some(1), 18..36),
+            (Tag::IndexSignature, None, Some(4), 37..46)
+        ]
+    );
+    let number = |m: &Node, name: &str| match m.get(name) {
+        Some(Value::Number { is, .. }) => is,
+        other => panic!("{name}: {other:?}"),
+    };
+    let said = |m: &Node, names: &[&str]| names.iter().map(|n| number(m, n)).collect::<Vec<_>>();
+    assert_eq!(said(&members[0], &["readonly", "key sort", "optional", "has type"]), [1, 2, 1, 1]);
+    assert!(matches!(members[0].get("key"), Some(Value::Name(b"1"))));
+    let of_method = ["key sort", "optional", "type parameters", "has this", "has this type", "parameters"];
+    assert_eq!(said(&members[1], &of_method), [0, 1, 1, 1, 0, 1]);
+    let fields: Vec<String> = members[2].fields().map(|f| f.name.to_string()).collect();
+    assert_eq!(fields, ["readonly", "has parameter", "name", "index", "type"]);
+}
+
+#[test]
+fn members_that_are_refused() {
+    let cases = [
+        ("{ [a]: A }", Why::Unsupported, 1, 2),
+        ("{ get a(): A }", Why::Unsupported, 1, 2),
+        ("{ readonly static a: A }", Why::Unsupported, 2, 11),
+        ("{ a b: A }", Why::Unexpected, 2, 4),
+        ("{ [a: string] }", Why::Unexpected, 6, 14),
+        ("{ a: A", Why::Unexpected, 4, 6),
+    ];
+    for (text, why, token, byte) in cases {
+        assert_eq!(refused(text), Refusal { why, place: Place::Token { token, half: false, byte } }, "{text}");
+    }
+    for (key, bit) in [(&[0x16, 0x40, 0x06, 0xA0][..], 22), (&[0x16, 0x40, 0x04, 0x30, 0x00, 0x16, 0x10], 26)] {
+        let bad = take_back(key, &mut Buffers::default()).unwrap_err();
+        assert_eq!(bad, Refusal { why: Why::BadKey, place: Place::Bit(bit) });
+    }
+}
+
+#[test]
 fn notes_say_what_and_where() {
     let (text, mut buffers) = ("[a?: A, B]", Buffers::default());
     let r = read(text.as_bytes(), &cut(text), Options::default(), &mut buffers).unwrap();
@@ -94,6 +201,11 @@ fn notes_say_what_and_where() {
     assert_eq!(notes, [Note { what: Diagnostic::RequiredAfter, span: 8..9 }]);
     let sentence = "diagnostic 4 (RequiredAfter): a required element after an optional one, at bytes 8 to 9";
     assert_eq!(notes[0].to_string(), sentence);
+    let text = "{ []: A }";
+    let r = read(text.as_bytes(), &cut(text), Options::default(), &mut buffers).unwrap();
+    let sentence =
+        "diagnostic 12 (NotOneIndex): an index signature with no parameter or more than one, at bytes 2 to 4";
+    assert_eq!(r.notes().map(|n| n.to_string()).collect::<Vec<_>>(), [sentence]);
 }
 
 #[test]
@@ -342,6 +454,25 @@ fn pieces_of_nested_templates() {
     let mut buffers = Buffers::default();
     let r = read(text, &tokens, Options::default(), &mut buffers).unwrap();
     assert_eq!(shown(r.tree.root()), "template `a${ }d${ }e`(template `b${ }c`(reference X), reference Y)");
+}
+
+#[test]
+fn pieces_behind_members() {
+    let text = b"`a${{ m(b) }}c`";
+    let tokens = [
+        token(TEMPLATE_HEAD, false, 0, 4),
+        token(kind_of(b"{"), false, 4, 1),
+        token(WORD, false, 6, 1),
+        token(kind_of(b"("), false, 7, 1),
+        token(WORD, false, 8, 1),
+        token(kind_of(b")"), false, 9, 1),
+        token(kind_of(b"}"), false, 11, 1),
+        token(TEMPLATE_TAIL, false, 12, 3),
+        token(EOF, false, 15, 0),
+    ];
+    let mut buffers = Buffers::default();
+    let r = read(text, &tokens, Options::default(), &mut buffers).unwrap();
+    assert_eq!(shown(r.tree.root()), "template `a${ }c`(object(method m(parameter b)))");
 }
 
 #[test]

@@ -36,6 +36,9 @@ impl Bits {
         if let Some(tag) = node.tag.number() {
             self.put(6, tag as u64);
         }
+        if let Some(sort) = node.tag.sort() {
+            self.put(3, sort as u64);
+        }
         for field in node.fields() {
             match field.value {
                 Value::Number { bits, is } => self.put(bits, is as u64),

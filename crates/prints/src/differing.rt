@@ -109,6 +109,8 @@ fn way(
     at: usize,
     steps: &[u64; 260],
     depth: usize,
+    names: &[u64],
+    letters: &[u8],
     named: bool,
     form: usize,
     first: bool,
@@ -119,10 +121,10 @@ fn way(
     if form == Form::JSON {
         let p = comma(out, at, first);
         let q = bytes(out, p, b"{\"path\":\"");
-        let r = trail::path(out, q, steps, depth);
+        let r = trail::path(out, q, steps, depth, names, letters, Shape::JSON);
         return trail::to_name(out, r, named);
     }
-    let p = trail::path(out, at, steps, depth);
+    let p = trail::path(out, at, steps, depth, names, letters, Shape::SHOWN);
     trail::to_name(out, p, named)
 }
 
@@ -156,7 +158,17 @@ fn pair(
     let j = trail::spot_of(list, number);
     let named = trail::by_name(visits, i, right, j);
     let v = visit_at(visits, i);
-    let p = way(out, at, steps, v.depth, named, form, number == 0);
+    let p = way(
+        out,
+        at,
+        steps,
+        v.depth,
+        names,
+        letters,
+        named,
+        form,
+        number == 0,
+    );
     let l = shifted(i, named);
     let r = shifted(j, named);
     if form == Form::JSON {
@@ -209,6 +221,7 @@ fn told_visit(
 {
     let bit = trail::behind(open, steps, names, visits, i, t.bit);
     if !trail::is_met(visits, i, t.bit, list, trail::left_of(t.next)) {
+        trail::keep_name(open, steps, visits, i);
         return Reached {
             at: t.at,
             next: t.next,

@@ -1,6 +1,7 @@
 // One JSON object for a reading: what it came to, its place or its key, end, diagnostics and tree.
 ghost use Prim.Native.Nat.{_<_};
 ghost use lib.ListN.{length};
+use crate::tree::Tag;
 use crate::tree::place_word;
 use crate::tree::spelling;
 use crate::tree::tag_of;
@@ -31,8 +32,98 @@ fn span(out: &mut [u8; 65536], at: usize, w: u64) -> usize
     numbered(out, p, b",\"end\":", (w / 4294967296) as usize)
 }
 
-// How a node begins: its items follow, in the key's order.
-fn node(
+// ---- What a member says of itself by name, for a program that does not know the places of its items
+
+// The number of a choice.
+fn number_at(visits: &[u64], i: usize) -> usize {
+    let v = visit_at(visits, i);
+    v.number
+}
+
+// A choice that is true or false.
+fn flag(out: &mut [u8; 65536], at: usize, lead: &[u8], number: usize) -> usize
+    requires { ⌜ at < 65536 ⌝ }
+    ensures { λ r. ⌜ r < 65536 ⌝ }
+{
+    let p = bytes(out, at, lead);
+    pick(out, p, b"false|true|", number)
+}
+
+// A spelling as the field `name`.
+fn called(out: &mut [u8; 65536], at: usize, names: &[u64], text: &[u8], number: usize) -> usize
+    requires { ⌜ at < 65536 ⌝ }
+    ensures { λ r. ⌜ r < 65536 ⌝ }
+{
+    let p = bytes(out, at, b",\"name\":");
+    name(out, p, names, text, number)
+}
+
+// The key of a property or a method, which begins at a visit, and its mark.
+fn keyed(
+    out: &mut [u8; 65536],
+    at: usize,
+    names: &[u64],
+    text: &[u8],
+    visits: &[u64],
+    i: usize,
+) -> usize
+    requires { ⌜ at < 65536 ⌝ }
+    ensures { λ r. ⌜ r < 65536 ⌝ }
+{
+    let p = bytes(out, at, b",\"key\":\"");
+    let q = pick(out, p, b"name|string|number|", number_at(visits, i));
+    let r = byte(out, q, b'"');
+    let s = called(out, r, names, text, number_at(visits, more(i)));
+    flag(out, s, b",\"optional\":", number_at(visits, more(more(i))))
+}
+
+// The name of an index signature's parameter, if it has one.
+fn indexed(
+    out: &mut [u8; 65536],
+    at: usize,
+    names: &[u64],
+    text: &[u8],
+    visits: &[u64],
+    i: usize,
+) -> usize
+    requires { ⌜ at < 65536 ⌝ }
+    ensures { λ r. ⌜ r < 65536 ⌝ }
+{
+    if number_at(visits, i) == 0 {
+        return at;
+    }
+    called(out, at, names, text, number_at(visits, more(i)))
+}
+
+// The fields of a node of a tag, whose choices begin at a visit behind the tag's.
+fn own_fields(
+    out: &mut [u8; 65536],
+    at: usize,
+    names: &[u64],
+    text: &[u8],
+    visits: &[u64],
+    i: usize,
+    tag: usize,
+) -> usize
+    requires { ⌜ at < 65536 ⌝ }
+    ensures { λ r. ⌜ r < 65536 ⌝ }
+{
+    if tag == Tag::METHOD {
+        return keyed(out, at, names, text, visits, i);
+    }
+    if tag == Tag::PROPERTY {
+        let p = flag(out, at, b",\"readonly\":", number_at(visits, i));
+        return keyed(out, p, names, text, visits, more(i));
+    }
+    if tag == Tag::INDEX_SIGNATURE {
+        let p = flag(out, at, b",\"readonly\":", number_at(visits, i));
+        return indexed(out, p, names, text, visits, more(i));
+    }
+    at
+}
+
+// A node's tag and its bytes, if it was read from a text.
+fn headed(
     out: &mut [u8; 65536],
     at: usize,
     nodes: &[u64],
@@ -47,10 +138,29 @@ fn node(
     let q = say::tag(out, p, tag);
     let r = byte(out, q, b'"');
     if bare {
-        return bytes(out, r, b",\"items\":[");
+        return r;
     }
-    let s = span(out, r, place_word(nodes, number));
-    bytes(out, s, b",\"items\":[")
+    span(out, r, place_word(nodes, number))
+}
+
+// How a node begins, whose visit has a number: its items follow, in the key's order.
+fn node(
+    out: &mut [u8; 65536],
+    at: usize,
+    nodes: &[u64],
+    names: &[u64],
+    text: &[u8],
+    visits: &[u64],
+    i: usize,
+    bare: bool,
+) -> usize
+    requires { ⌜ at < 65536 ⌝ }
+    ensures { λ r. ⌜ r < 65536 ⌝ }
+{
+    let tag = tag_of(visits, i);
+    let p = headed(out, at, nodes, number_at(visits, i), tag, bare);
+    let q = own_fields(out, p, names, text, visits, more(more(i)), tag);
+    bytes(out, q, b",\"items\":[")
 }
 
 // A comma, unless what follows is the first.
@@ -123,7 +233,7 @@ fn item(
 {
     let p = comma(out, at, leads(visits, i));
     if v.kind == NODE {
-        return node(out, p, nodes, v.number, tag_of(visits, i), bare);
+        return node(out, p, nodes, names, text, visits, i, bare);
     }
     if v.kind == CHOICE {
         return numbered(out, p, b"", v.number);

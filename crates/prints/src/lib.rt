@@ -3,6 +3,7 @@ pub mod brief;
 pub mod differing;
 pub mod json;
 pub mod reading;
+pub mod tagged;
 pub mod taking;
 pub mod trail;
 pub mod tree;

@@ -2,6 +2,7 @@
 ghost use Prim.Native.Nat.{_<_, _≤_};
 ghost use lib.ListN.{length};
 use crate::json;
+use crate::tagged::walk;
 use crate::tree;
 use lines::line::byte;
 use lines::line::bytes;
@@ -17,7 +18,6 @@ use speech::put::numbered;
 use speech::say;
 use speech::say::Note;
 use speech::say::note_at;
-use visits::visits::walk;
 use words::cursor::word_at;
 use words::limits::Tree;
 use words::token;
@@ -223,9 +223,9 @@ fn in_json(
     bytes(out, s, b"}\n")
 }
 
-// How many words the visits of so many nodes and names have at most: seven visits a node, one a name.
+// How many words the visits of so many nodes and names have at most: ten visits a node, which a method has, one a name.
 pub fn visit_words(nodes: usize, names: usize) -> usize {
-    21 * least(nodes, 1_000_000) + 3 * least(names, 1_000_000)
+    30 * least(nodes, 1_000_000) + 3 * least(names, 1_000_000)
 }
 
 // A form that shows the tree, whose visits have so many words.

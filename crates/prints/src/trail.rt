@@ -4,9 +4,13 @@ use crate::tree::Known;
 use crate::tree::Tag;
 use crate::tree::choosing;
 use crate::tree::entered;
+use crate::tree::known_at;
 use crate::tree::naming;
+use crate::tree::owner;
+use crate::tree::spelling;
 use crate::tree::tag_of;
 use keys::store::name_at;
+use lines::line::byte;
 use lines::line::bytes;
 use speech::put::more;
 use speech::put::pick;
@@ -45,9 +49,24 @@ fn import_width(phase: usize) -> usize {
     }
 }
 
-// The width of a node's tag.
+// The width of a node's tag, or of a member's sort.
 fn tag_width(tag: usize) -> usize {
-    if Tag::TYPE_PARAMETER <= tag { 0 } else { 6 }
+    match tag {
+        26 | 27 => 0,
+        28..=32 => 3,
+        _ => 6,
+    }
+}
+
+fn property_width(phase: usize) -> usize {
+    if phase == 2 { 2 } else { 1 }
+}
+
+fn method_width(phase: usize) -> usize {
+    if phase == 1 {
+        return 2;
+    }
+    function_width(phase)
 }
 
 // The width of the choice that a node has next.
@@ -59,11 +78,13 @@ fn width(tag: usize, phase: usize) -> usize {
         1 | 17 => count_if(phase != 2),
         2 => 4,
         3 => 3,
-        5 | 6 | 15 | 19 => 12,
+        5 | 6 | 15 | 19 | 25 => 12,
         11 => 2,
-        12 | 13 => function_width(phase),
+        12 | 13 | 30 | 31 => function_width(phase),
         14 => mapped_width(phase),
         18 => import_width(phase),
+        28 => property_width(phase),
+        29 => method_width(phase),
         _ => 1,
     }
 }
@@ -79,7 +100,7 @@ fn eight(n: usize) -> usize {
     plus(four, four)
 }
 
-// ---- Steps: a number of a list, and which of several, 0 where there is one
+// ---- Steps: a number of a list, and which of several, 0 where there is one; above them a name's number and one, once it is known
 
 struct Step {
     role: usize,
@@ -89,6 +110,35 @@ struct Step {
 fn set_step(steps: &mut [u64; 260], depth: usize, s: Step) {
     if depth < 260 {
         steps[depth] = (s.role % 64 + 64 * (s.which % 65536)) as u64;
+        return;
+    }
+}
+
+fn set_name(steps: &mut [u64; 260], depth: usize, number: usize) {
+    if depth < 260 {
+        steps[depth] = steps[depth] % 4194304 + 4194304 * ((number % 65536 + 1) as u64);
+        return;
+    }
+}
+
+// Whether a node is a member with a key: a property or a method.
+fn is_keyed(k: Known) -> bool {
+    let tag = k.tag;
+    match tag {
+        28 | 29 => true,
+        _ => false,
+    }
+}
+
+// A visit that no pair speaks of: the step to a member gets the member's name, which both trees have then.
+pub fn keep_name(open: &[u64; 260], steps: &mut [u64; 260], visits: &[u64], i: usize) {
+    let v = visit_at(visits, i);
+    if v.kind != NAME {
+        return;
+    }
+    let d = owner(v.depth);
+    if is_keyed(known_at(open, d)) {
+        set_name(steps, d, v.number);
         return;
     }
 }
@@ -123,6 +173,13 @@ fn mapped_step(phase: usize) -> Step {
     }
 }
 
+fn index_step(k: Known) -> Step {
+    if k.phase != 4 {
+        return one(0);
+    }
+    if k.kids == 0 { one(4) } else { one(0) }
+}
+
 // The step from a node to a child of a tag.
 fn kid_step(k: Known, child: usize) -> Step {
     let tag = k.tag;
@@ -133,11 +190,13 @@ fn kid_step(k: Known, child: usize) -> Step {
         8 => one(plus(3, k.kids)),
         9 => one(plus(5, k.kids)),
         10 => one(9),
-        12 | 13 => function_step(k, child),
+        12 | 13 | 29..=31 => function_step(k, child),
         14 => mapped_step(k.phase),
         15 => next_kid(0, k),
         19 => next_kid(15, k),
-        25 => { if k.phase == 2 { one(9) } else { one(16) } }
+        25 => next_kid(24, k),
+        26 => { if k.phase == 2 { one(9) } else { one(16) } }
+        32 => index_step(k),
         _ => one(0),
     }
 }
@@ -351,17 +410,45 @@ fn which(out: &mut [u8; 65536], at: usize, n: usize) -> usize
     speech::put::numbered(out, at, b" ", n)
 }
 
-fn step_said(out: &mut [u8; 65536], at: usize, w: u64) -> usize
+// The name of a member, in brackets.
+fn called(
+    out: &mut [u8; 65536],
+    at: usize,
+    names: &[u64],
+    text: &[u8],
+    number: usize,
+    shape: usize,
+) -> usize
+    requires { ⌜ at < 65536 ⌝ }
+    ensures { λ r. ⌜ r < 65536 ⌝ }
+{
+    if number == 0 {
+        return at;
+    }
+    let p = bytes(out, at, b" (");
+    let q = spelling(out, p, names, text, number - 1, shape);
+    byte(out, q, b')')
+}
+
+fn step_said(
+    out: &mut [u8; 65536],
+    at: usize,
+    w: u64,
+    names: &[u64],
+    text: &[u8],
+    shape: usize,
+) -> usize
     requires { ⌜ at < 65536 ⌝ }
     ensures { λ r. ⌜ r < 65536 ⌝ }
 {
     let p = pick(
         out,
         at,
-        b"type|argument|entry|object|index|check|extends|then|else|constraint|type parameter|this type|parameter|return type|name type|element|default|name|spelling|key|piece|source|label|element type|",
+        b"type|argument|entry|object|index|check|extends|then|else|constraint|type parameter|this type|parameter|return type|name type|element|default|name|spelling|key|piece|source|label|element type|member|",
         (w % 64) as usize,
     );
-    which(out, p, (w / 64) as usize)
+    let q = which(out, p, (w / 64 % 65536) as usize);
+    called(out, q, names, text, (w / 4194304) as usize, shape)
 }
 
 // What stands between two steps.
@@ -376,7 +463,15 @@ fn mark(out: &mut [u8; 65536], at: usize, first: bool) -> usize
 }
 
 // The steps to a depth.
-pub fn path(out: &mut [u8; 65536], at: usize, steps: &[u64; 260], depth: usize) -> usize
+pub fn path(
+    out: &mut [u8; 65536],
+    at: usize,
+    steps: &[u64; 260],
+    depth: usize,
+    names: &[u64],
+    text: &[u8],
+    shape: usize,
+) -> usize
     requires { ⌜ at < 65536 ⌝ }
     ensures { λ r. ⌜ r < 65536 ⌝ }
 {
@@ -388,7 +483,7 @@ pub fn path(out: &mut [u8; 65536], at: usize, steps: &[u64; 260], depth: usize) 
     while d < depth {
         p = mark(out, p, d == 0);
         d += 1;
-        p = step_said(out, p, word_at(steps, d));
+        p = step_said(out, p, word_at(steps, d), names, text, shape);
     }
     p
 }

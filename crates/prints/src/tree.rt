@@ -17,13 +17,21 @@ use visits::visits::Visit;
 use visits::visits::visit_at;
 use words::cursor::word_at;
 
-// The two rows of the table that have no tag.
+// The tag of an object, and of the rows of the table that have none: the five sorts of members from the property on.
 pub struct Tag {}
 
 impl Tag {
-    pub const TYPE_PARAMETER: usize = 25;
+    pub const OBJECT: usize = 25;
 
-    pub const PARAMETER: usize = 26;
+    pub const TYPE_PARAMETER: usize = 26;
+
+    pub const PARAMETER: usize = 27;
+
+    pub const PROPERTY: usize = 28;
+
+    pub const METHOD: usize = 29;
+
+    pub const INDEX_SIGNATURE: usize = 32;
 }
 
 // What is known of an open node: its tag, how far its choices are, whether it has a child yet, its children and its names
@@ -110,16 +118,24 @@ fn mapped_role(phase: usize) -> usize {
     }
 }
 
+fn index_role(k: Known) -> usize {
+    if k.phase != 4 {
+        return 10;
+    }
+    if k.kids == 0 { 1 } else { 10 }
+}
+
 fn role_of(k: Known, child: usize) -> usize {
     let tag = k.tag;
     match tag {
         8 => k.kids,
         9 => more(more(k.kids)),
         10 => 3,
-        12 | 13 => function_role(k, child),
+        12 | 13 | 29..=31 => function_role(k, child),
         14 => mapped_role(k.phase),
         16 => 11,
-        25 => { if k.phase == 2 { 3 } else { 12 } }
+        26 => { if k.phase == 2 { 3 } else { 12 } }
+        32 => index_role(k),
         _ => 0,
     }
 }
@@ -208,6 +224,28 @@ fn parameter_word(phase: usize, number: usize) -> usize {
     }
 }
 
+fn property_word(phase: usize, number: usize) -> usize {
+    match phase {
+        1 => word_if(number, 1, 10),
+        3 => word_if(number, 1, 17),
+        _ => 0,
+    }
+}
+
+fn method_word(phase: usize, number: usize) -> usize {
+    if phase == 11 {
+        return word_if(number, 1, 17);
+    }
+    function_word(phase, number)
+}
+
+fn index_word(phase: usize, number: usize) -> usize {
+    if phase == 1 {
+        return word_if(number, 1, 10);
+    }
+    0
+}
+
 fn arguments_word(phase: usize, number: usize) -> usize {
     if phase == 3 {
         return word_if(number, 0, 11);
@@ -229,7 +267,11 @@ pub fn choice_word(tag: usize, phase: usize, number: usize) -> usize {
         16 => predicate_word(phase, number),
         18 => import_word(phase, number),
         22 => word_if(number, 1, 17),
-        26 => parameter_word(phase, number),
+        27 => parameter_word(phase, number),
+        28 => property_word(phase, number),
+        29 => method_word(phase, number),
+        30 | 31 => function_word(phase, number),
+        32 => index_word(phase, number),
         _ => 0,
     }
 }
@@ -256,13 +298,37 @@ fn constructor_phase(phase: usize, number: usize) -> usize {
     }
 }
 
+// Behind a method's key and its mark all is as in a call signature.
+fn method_phase(phase: usize, number: usize) -> usize {
+    match phase {
+        1 => 11,
+        11 => 2,
+        2 => function_phase(1, number),
+        _ => function_phase(phase, number),
+    }
+}
+
+fn construct_phase(phase: usize, number: usize) -> usize {
+    if phase == 1 {
+        return way(number, 7, 3);
+    }
+    constructor_phase(phase, number)
+}
+
+fn index_phase(phase: usize, number: usize) -> usize {
+    if phase == 2 {
+        return way(number, 3, 4);
+    }
+    more(phase)
+}
+
 fn next_phase(tag: usize, phase: usize, number: usize) -> usize {
     if phase == 0 {
         return 1;
     }
     match tag {
         3 => { if 5 <= number { 3 } else { 2 } }
-        12 => function_phase(phase, number),
+        12 | 30 => function_phase(phase, number),
         13 => constructor_phase(phase, number),
         18 => {
             if phase == 3 {
@@ -271,6 +337,9 @@ fn next_phase(tag: usize, phase: usize, number: usize) -> usize {
                 more(phase)
             }
         }
+        29 => method_phase(phase, number),
+        31 => construct_phase(phase, number),
+        32 => index_phase(phase, number),
         _ => more(phase),
     }
 }

@@ -77,12 +77,12 @@ pub fn diagnostic(out: &mut [u8; 65536], at: usize, number: usize) -> usize
     pick(
         out,
         at,
-        b"|empty type parameters|empty arguments|this on a constructor|required element after an optional one|rest after a label|? after a labelled type|optional and rest|",
+        b"|empty type parameters|empty arguments|this on a constructor|required element after an optional one|rest after a label|? after a labelled type|optional and rest|? on an index parameter|comma after an index parameter|index parameter of a literal type|index parameter of a keyword type that cannot be an index|not exactly one index parameter|",
         number,
     )
 }
 
-// The name of a tag; 25 is a type parameter, 26 a parameter.
+// The name of a tag; 26 is a type parameter, 27 a parameter, 28 and on are the sorts of members.
 pub fn tag(out: &mut [u8; 65536], at: usize, number: usize) -> usize
     requires { ⌜ at < 65536 ⌝ }
     ensures { λ r. ⌜ r < 65536 ⌝ }
@@ -90,7 +90,7 @@ pub fn tag(out: &mut [u8; 65536], at: usize, number: usize) -> usize
     pick(
         out,
         at,
-        b"|reference|keyword|literal|parens|union|intersection|array|indexed|conditional|infer|operator|function|constructor|mapped|template|predicate|typeof|import|tuple|optional|rest|named|non-null|nullable|type parameter|parameter|",
+        b"|reference|keyword|literal|parens|union|intersection|array|indexed|conditional|infer|operator|function|constructor|mapped|template|predicate|typeof|import|tuple|optional|rest|named|non-null|nullable|object|type parameter|parameter|property|method|call signature|construct signature|index signature|",
         number,
     )
 }

@@ -11,6 +11,7 @@ use prints::differing;
 use prints::differing::HALF;
 use prints::reading;
 use prints::reading::Extent;
+use prints::tagged::walk;
 use speech::ask::Asked;
 use speech::ask::From;
 use speech::ask::Job;
@@ -30,7 +31,6 @@ use typekey::reading::Reading;
 use typekey::reading::read;
 use typekey::taking::Taking;
 use typekey::taking::take_back;
-use visits::visits::walk;
 use words::limits::Tree;
 
 // ---- The two keys

@@ -5,10 +5,10 @@ use Rattle.prints.proofs.trail.path.Statement.{statement}
 use Rattle.prints.proofs.trail.path.Tie as tie
 
 abbrev Inv-loop : tie.InvT-loop
-Inv-loop out₀ at steps depth p₀ d₀ out p d = p < 65536
+Inv-loop out₀ at steps depth names text shape p₀ d₀ out p d = p < 65536
 
 abbrev μ-loop : tie.MeasureT-loop
-μ-loop out₀ at steps depth p₀ d₀ out p d = depth - d
+μ-loop out₀ at steps depth names text shape p₀ d₀ out p d = depth - d
 
 slice-aggregate-bytes : tie.Need-slice-aggregate-bytes Inv-loop μ-loop
 slice-aggregate-bytes c = search needs
