@@ -7,7 +7,7 @@
    Lent memory. Each slice is two arguments: a pointer and how many ELEMENTS it has. A slice of none may be null; `answer` may not.
    Slices of words stand at multiples of 8. A slice that is written overlaps no other. Nothing is asked of what slices hold.
    A call allocates nothing, keeps nothing and ends on every input; threads may call at the same time with slices of their own. The
-   deepest types took some 210 KiB of stack on x86-64: give a thread that calls 512.
+   deepest types took some 245 KiB of stack on x86-64: give a thread that calls 512.
    Of each slice that is written, all past the part used is zero; after a refusal all of it is zero. So a call's time grows with
    what it is lent: lend by need (see "How much to lend").
 
