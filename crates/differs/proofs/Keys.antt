@@ -87,7 +87,8 @@ starting-table (suc (suc (suc (suc zero)))) zero e = refl
 starting-table (suc (suc (suc (suc zero)))) (suc t) e = refl
 starting-table (suc (suc (suc (suc (suc zero))))) zero e = refl
 starting-table (suc (suc (suc (suc (suc zero))))) (suc t) e = refl
-starting-table (suc (suc (suc (suc (suc (suc c)))))) t e = refl
+starting-table (suc (suc (suc (suc (suc (suc zero)))))) t e = absurd (omega arith)
+starting-table (suc (suc (suc (suc (suc (suc (suc c))))))) t e = refl
 
 -- ---- Keys
 

@@ -266,7 +266,8 @@ thick-table (suc (suc (suc (suc zero)))) zero v h = omega (arith, word-first h)
 thick-table (suc (suc (suc (suc zero)))) (suc t) v h = clash (cc (some nodeTable h))
 thick-table (suc (suc (suc (suc (suc zero))))) zero v h = omega (arith, choice-first (omega arith) h)
 thick-table (suc (suc (suc (suc (suc zero))))) (suc t) v h = clash (cc (some nodeTable h))
-thick-table (suc (suc (suc (suc (suc (suc c)))))) t v h = clash (cc (some nodeTable h))
+thick-table (suc (suc (suc (suc (suc (suc zero)))))) t v h = omega arith
+thick-table (suc (suc (suc (suc (suc (suc (suc c))))))) t v h = clash (cc (some nodeTable h))
 
 -- The pairs of two trees rise strictly on both sides: each place stands there once, in the key's order, and inside the tree.
 pub in-order : {t u : Value} → Fits nodeTable type t → Fits nodeTable type u

@@ -37,7 +37,8 @@ eager-table (suc (suc (suc (suc zero)))) zero e = eager-both eager-word
 eager-table (suc (suc (suc (suc zero)))) (suc t) e = eager-never
 eager-table (suc (suc (suc (suc (suc zero))))) zero e = eager-both (eager-choose (le-refl 1))
 eager-table (suc (suc (suc (suc (suc zero))))) (suc t) e = eager-never
-eager-table (suc (suc (suc (suc (suc (suc c)))))) t e = eager-never
+eager-table (suc (suc (suc (suc (suc (suc zero)))))) t e = absurd (omega arith)
+eager-table (suc (suc (suc (suc (suc (suc (suc c))))))) t e = eager-never
 
 -- Another edition's number leads to nothing.
 other-edition : (e : ℕ) → (e ≡ 1 → ⊥) → isNever (typeUnder newest e) ≡ true
