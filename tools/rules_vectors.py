@@ -135,24 +135,24 @@ OBJECTS = r"""
 { [a?]: A } |  | 3 at 4
 { [a, b: B]: C } |  | 3 at 3
 { [a: A b: B]: C } |  | 3 at 5
-{ [a]: A } |  | 4 at 1
-{ [a.b](): A } |  | 4 at 1
-{ readonly ["a"]: A } |  | 4 at 2
-{ [a ? b : c]: A } |  | 4 at 1
+{ [a]: A } |  | 31 at 1
+{ [a.b](): A } |  | 31 at 1
+{ readonly ["a"]: A } |  | 31 at 2
+{ [a ? b : c]: A } |  | 31 at 1
 { [...a: A]: B } |  | 3 at 2
 { [public a: A]: B } |  | 3 at 3
 { [in: A]: B } |  | 3 at 2
-{ [class: A]: B } |  | 4 at 1
-{ [readonly]: A } |  | 4 at 1
-{ get a(): A } |  | 4 at 1
-{ set#a: A } |  | 4 at 1
-{ get [a](): A } |  | 4 at 1
+{ [class: A]: B } |  | 31 at 1
+{ [readonly]: A } |  | 31 at 1
+{ get a(): A } |  | 31 at 1
+{ set#a: A } |  | 31 at 1
+{ get [a](): A } |  | 31 at 1
 { get: A; set(): B; get<T>(): C; set? } |  | end 23
-{ static a: A } |  | 4 at 1
-{ abstract#a: A } |  | 4 at 1
-{ out [a: A]: B } |  | 4 at 1
-{ readonly static a: A } |  | 4 at 2
-{ readonly get a(): A } |  | 4 at 2
+{ static a: A } |  | 31 at 1
+{ abstract#a: A } |  | 31 at 1
+{ out [a: A]: B } |  | 31 at 1
+{ readonly static a: A } |  | 31 at 2
+{ readonly get a(): A } |  | 31 at 2
 { static: A; abstract(): B } |  | end 11
 { readonly#a: A } |  | end 6
 { readonly: A; readonly readonly: B; readonly? } |  | end 13
@@ -192,12 +192,50 @@ OBJECTS = r"""
 { new (this): A<> } | records 1 | 9 at 9
 """
 
+# Rows for the places of refusals (02, W2): which form is not read, and its token, half and byte.
+PLACES = r"""
+? A |  | 20 at 0 half 0 byte 0
+A | ! B |  | 20 at 2 half 0 byte 4
+A[*] |  | 20 at 2 half 0 byte 2
+(readonly a: B) => C |  | 21 at 1 half 0 byte 1
+(readonly this: A) => B |  | 21 at 1 half 0 byte 1
+(a = 1) => A |  | 22 at 2 half 0 byte 3
+(this = A) => B |  | 22 at 2 half 0 byte 6
+(...a = 1, b) => C |  | 22 at 3 half 0 byte 6
+(a, this: B) => C |  | 23 at 3 half 0 byte 4
+(...this) => A |  | 23 at 2 half 0 byte 4
+(...this = A) => B |  | 23 at 2 half 0 byte 4
+(...a, b) => C |  | 24 at 3 half 0 byte 5
+<in T>() => A |  | 25 at 1 half 0 byte 1
+<out T>() => A |  | 25 at 1 half 0 byte 1
+<const T>() => A |  | 25 at 1 half 0 byte 1
+import(A) |  | 26 at 2 half 0 byte 7
+import("a", {}) |  | 27 at 3 half 0 byte 10
+{ [a]: B } |  | 31 at 1 half 0 byte 2
+{ readonly get a(): A } |  | 31 at 2 half 0 byte 11
+{ m(static a) } |  | 21 at 3 half 0 byte 4
+T extends U ? : V |  | 3 at 4 half 0 byte 14
+A<=B> |  | 3 at 1 half 1 byte 2
+A<<B> |  | 3 at 4 half 0 byte 5
+A<<T>() => ?> |  | 20 at 7 half 0 byte 11
+A | |  | 3 at 2 half 0 byte 3
+{ a b } |  | 3 at 2 half 0 byte 4
+(*64 A |  | 5 at 64 half 0 byte 64
+(*63 A<<T>() => T> |  | 5 at 64 half 1 byte 65
+A<B> | room 0 | 8 at 3 half 0 byte 3
+A<<T>() => T> | room 0 | 8 at 3 half 0 byte 4
+A<> | records 0 | 9 at 3 half 0 byte 3
+A.b | key 5 | 11 at 0 half 0 byte 0
+"""
 
-def objects():
+
+def objects(rows=OBJECTS):
     """Text, lent words, preserve_parens and the numbers that it comes to, of each row."""
-    for line in OBJECTS.strip().split("\n"):
+    for line in rows.strip().split("\n"):
         t, how, says = re.match(r"(.*) \| (.*?) ?\| (.*)$", line).groups()
+        t = re.sub(r"^\(\*(\d+) ", lambda x: "(" * int(x[1]), t)
         lent = list(AMPLE)
+        if how.startswith("key"): lent[3] = int(how.split()[1])
         if how.startswith("room"): lent[0] = 4 * int(how.split()[1])
         if how.startswith("records"): lent[2] = 3 * int(how.split()[1])
         yield t.replace("#", "\n"), tuple(lent), how == "brackets kept", says
@@ -216,6 +254,14 @@ def object_rows(v):
         said, key = numbers(read(t.encode(), m.cut(t), 0, parens, lent))
         assert says in (said, said + "; key " + key), (t, says, said, key)
         v.add("W1", t, lent, parens)
+
+
+def place_rows(v):
+    """The rows of places, each as it says."""
+    for t, lent, parens, says in objects(PLACES):
+        x = read(t.encode(), m.cut(t), 0, parens, lent)
+        assert says == "%d at %d half %d byte %d" % x[0][:4], (t, says, x[0])
+        v.add("W2", t, lent, parens)
 
 
 def object_texts(v):
@@ -561,7 +607,7 @@ def taken(v):
 def stored():
     v = Vectors()
     for part in (rows, by_example, by_kind, mapped, elements, deep, high, long, short_of_room, many_notes, in_a_trial, orders, bad_lists, bad_words,
-                 generated, object_rows, object_texts, short_of_key, taken):
+                 generated, object_rows, object_texts, place_rows, short_of_key, taken):
         part(v)
     missing = set(ITEMS) - set(i for c in v for i in c[0].split())
     assert not missing, missing

@@ -10,7 +10,7 @@ use Rattle.words.specs.Cursor.{kindAt}
 use Rattle.keys.specs.Placed.{Placed, Opt, present}
 use Rattle.keys.specs.Store.{Run, _⊕_}
 use Rattle.rules.specs.Notes.{note}
-use Rattle.rules.specs.Refusal.{unexpected, unsupported}
+use Rattle.rules.specs.Refusal.{unexpected, defaultValue, restNotLast}
 use Rattle.rules.specs.State as rule
 use Rattle.rules.specs.State.{State, Result, read, next, end, reportIf}
 use Rattle.rules.specs.List.{noEntry}
@@ -36,9 +36,9 @@ pub data Follows (W : List ℕ) (close : ℕ) (m : Mark) (a : Answer) : Type 0 w
 
 -- After a parameter: no default; the `)`; a comma that is passed, but not after a rest; or none of these.
 pub data Separates (W : List ℕ) (isRest : Bool) (m : Mark) (a : Answer) : Type 0 where
-  default : here W Eq m ≡ true → a ≡ refusedAt unsupported m → Separates W isRest m a
+  default : here W Eq m ≡ true → a ≡ refusedAt defaultValue m → Separates W isRest m a
   closes : here W Eq m ≡ false → here W RParen m ≡ true → a ≡ takenAt m → Separates W isRest m a
-  behindRest : here W Eq m ≡ false → here W RParen m ≡ false → isRest ≡ true → here W Comma m ≡ true → a ≡ refusedAt unsupported m → Separates W isRest m a
+  behindRest : here W Eq m ≡ false → here W RParen m ≡ false → isRest ≡ true → here W Comma m ≡ true → a ≡ refusedAt restNotLast m → Separates W isRest m a
   goes : here W Eq m ≡ false → here W RParen m ≡ false → isRest ≡ false → here W Comma m ≡ true → a ≡ takenAt (nextMark m) → Separates W isRest m a
   stops : here W Eq m ≡ false → here W RParen m ≡ false → here W Comma m ≡ false → a ≡ refusedAt unexpected m → Separates W isRest m a
 

@@ -12,7 +12,7 @@ use Rattle.words.specs.Cursor.{kindAt}
 use Rattle.words.specs.Ahead.{propertyKey, indexStart}
 use Rattle.keys.specs.Bits.{unit}
 use Rattle.keys.specs.Placed.{Placed}
-use Rattle.rules.specs.Refusal.{unexpected, unsupported}
+use Rattle.rules.specs.Refusal.{unexpected, memberForm}
 use Rattle.rules.specs.State as rule
 use Rattle.rules.specs.State.{State, Result, Reader, refuse, next, kind, stands, first, spelling, past}
 use Rattle.rules.specs.Object as object
@@ -60,7 +60,7 @@ module _ (g : rule.Given) (T : Reader) (b : ℕ) (readonly : Bool) (s : State) w
   key-property e h = rw (e, h)
 
   -- What may not stand there does.
-  pub behind-unsupported : object.unsupportedHere g s ≡ true → object.behindReadonly g T b readonly s ≡ refuse unsupported (s .at) (s .half)
+  pub behind-unsupported : object.unsupportedHere g s ≡ true → object.behindReadonly g T b readonly s ≡ refuse memberForm (s .at) (s .half)
   unfolding object.behindReadonly
   behind-unsupported e = rw e
 
@@ -77,7 +77,7 @@ module _ (g : rule.Given) (T : Reader) (b : ℕ) (readonly : Bool) (s : State) w
 
   -- Another bracket does.
   pub behind-computed : object.unsupportedHere g s ≡ false → stands g LBrack s ≡ true → indexStart (g .words) (s .at) ≡ false
-      → object.behindReadonly g T b readonly s ≡ refuse unsupported (s .at) (s .half)
+      → object.behindReadonly g T b readonly s ≡ refuse memberForm (s .at) (s .half)
   unfolding object.behindReadonly
   behind-computed e k i = rw (e, k, i)
 

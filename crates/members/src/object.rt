@@ -189,7 +189,7 @@ fn behind_readonly(
     ensures { λ r. ⌜ Along (length (now (words .entry))) m (r .m) × HeadHas (length (now (words .entry))) m r ⌝ }
 {
     if unsupported_here(text, words, classes, m) {
-        return MemberHead::refused(Refusal::UNSUPPORTED, m);
+        return MemberHead::refused(Refusal::MEMBER_FORM, m);
     }
     if kind_at(words, m) != Kind::L_BRACK {
         return with_key(words, classes, names, readonly, m);
@@ -202,7 +202,7 @@ fn behind_readonly(
             m,
         };
     }
-    MemberHead::refused(Refusal::UNSUPPORTED, m)
+    MemberHead::refused(Refusal::MEMBER_FORM, m)
 }
 
 // A key and its `?`: a method's if a signature follows, else a property's.

@@ -15,7 +15,7 @@ use Rattle.words.specs.Cursor.{sameLine, kindAt}
 use Rattle.keys.specs.Bits.{unit}
 use Rattle.keys.specs.Placed.{Placed, Spelling, Opt}
 use Rattle.keys.specs.Store.{_⊕_}
-use Rattle.rules.specs.Refusal.{unexpected, unsupported, tooLong}
+use Rattle.rules.specs.Refusal.{unexpected, tooLong, importSource as oddSource, importOptions}
 use Rattle.rules.specs.State as rule
 use Rattle.rules.specs.State.{State, Result, read, refuse, refused, then, next, halved, stands, end, spelling, make, turns}
 use Rattle.rules.specs.List.{count}
@@ -70,11 +70,11 @@ module _ (g : rule.Given) (s : State) where
   source-none a = rw a
 
   module _ (a : stands g LParen s ≡ true) where
-    pub source-other : stands g Str (next s) ≡ false → importSource g s ≡ refused unsupported (next s)
+    pub source-other : stands g Str (next s) ≡ false → importSource g s ≡ refused oddSource (next s)
     source-other b = rw (a, b)
 
     module _ (b : stands g Str (next s) ≡ true) where
-      pub source-comma : stands g Comma (next (next s)) ≡ true → importSource g s ≡ refused unsupported (next (next s))
+      pub source-comma : stands g Comma (next (next s)) ≡ true → importSource g s ≡ refused importOptions (next (next s))
       source-comma c = rw (a, b, c)
 
       pub source-open : stands g Comma (next (next s)) ≡ false → stands g RParen (next (next s)) ≡ false → importSource g s ≡ refused unexpected (next (next s))

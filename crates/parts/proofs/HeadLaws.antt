@@ -11,7 +11,7 @@ use Rattle.words.specs.Class as class
 use Rattle.words.specs.Cursor.{wholeKind, kindAt, sameLine}
 use Rattle.keys.specs.Bits.{unit}
 use Rattle.keys.specs.Placed.{Spelling}
-use Rattle.rules.specs.Refusal.{unsupported}
+use Rattle.rules.specs.Refusal.{misplacedThis, typeParameterModifier}
 use Rattle.rules.specs.State as rule
 use Rattle.rules.specs.State.{State, Result, read, refuse, then, past}
 use Rattle.rules.specs.TypeParameters as types
@@ -40,22 +40,22 @@ module _ (text W O : List ℕ) (given : Given) (m : Mark) where
 
 -- ---- A type parameter up to its constraint
 
-why-some : (b : Bool) (why : ℕ) → why ≡ whyIf b unsupported → (why ≡ 0 → ⊥) → (b ≡ true) × (why ≡ unsupported)
+why-some : (b : Bool) (why : ℕ) → why ≡ whyIf b typeParameterModifier → (why ≡ 0 → ⊥) → (b ≡ true) × (why ≡ typeParameterModifier)
 why-some true why e n = (refl, e)
 why-some false why e n = absurd (n e)
 
-why-none : (b : Bool) (why : ℕ) → why ≡ whyIf b unsupported → why ≡ 0 → b ≡ false
-why-none true why e n = absurd (let z : unsupported ≡ 0 = sym e ∙ n in omega arith)
+why-none : (b : Bool) (why : ℕ) → why ≡ whyIf b typeParameterModifier → why ≡ 0 → b ≡ false
+why-none true why e n = absurd (let z : typeParameterModifier ≡ 0 = sym e ∙ n in omega arith)
 why-none false why e n = refl
 
-module _ (g : rule.Given) (s : State) (why : ℕ) (e : why ≡ whyIf (types.varies g s) unsupported) where
+module _ (g : rule.Given) (s : State) (why : ℕ) (e : why ≡ whyIf (types.varies g s) typeParameterModifier) where
   type-head-refused : (why ≡ 0 → ⊥) → typeParameterHead g s ≡ refuse why (s .at) (s .half)
   type-head-refused n = let w = why-some (types.varies g s) why e n in rw (w .0, w .1)
 
   type-head-named : why ≡ 0 → typeParameterHead g s ≡ oneName 0 g s
   type-head-named n = rw (why-none (types.varies g s) why e n)
 
-module _ (text W O : List ℕ) (given : Given) (m : Mark) (why : ℕ) (e : why ≡ whyIf (types.varies (givenOf text W given) (view m O)) unsupported) {M M' : List ℕ} where
+module _ (text W O : List ℕ) (given : Given) (m : Mark) (why : ℕ) (e : why ≡ whyIf (types.varies (givenOf text W given) (view m O)) typeParameterModifier) {M M' : List ℕ} where
   pub type-head-stops : (why ≡ 0 → ⊥) → SaysNames one Any (typeParameterHead (givenOf text W given) (view m O)) why m m M M' O
   type-head-stops n = names-refused n (type-head-refused (givenOf text W given) (view m O) why e n)
 
@@ -68,7 +68,7 @@ module _ (text W O : List ℕ) (given : Given) (m : Mark) (why : ℕ) (e : why �
 -- From behind the dots, if they stood there.
 abbrev headFrom : rule.Given → Bool → State → Result (Spelling × Bool)
 headFrom g isRest s =
-    test (isRest and rule.stands g This s) (λ _. rule.refused unsupported s) λ _.
+    test (isRest and rule.stands g This s) (λ _. rule.refused misplacedThis s) λ _.
     then (oneName 0 g s) λ x q.
     read (x, rule.stands g Question q) (past g Question q)
 
@@ -77,7 +77,7 @@ module _ (text W O : List ℕ) (given : Given) (m p : Mark) (e : p ≡ pastMark 
   head-from = ap (headFrom (givenOf text W given) (here W Dot3 m)) (sym (ap (λ (x : Mark). view x O) e ∙ view-past text W given Dot3 m O))
 
   -- A `this` stands behind the dots.
-  pub head-this : (here W Dot3 m and here W This p) ≡ true → parameterHead (givenOf text W given) (view m O) ≡ refuse unsupported (p .at) (p .half)
+  pub head-this : (here W Dot3 m and here W This p) ≡ true → parameterHead (givenOf text W given) (view m O) ≡ refuse misplacedThis (p .at) (p .half)
   head-this h = head-from ∙ rw h
 
   head-named : (here W Dot3 m and here W This p) ≡ false

@@ -16,7 +16,7 @@ use Rattle.keys.specs.Table.{opt, args, when, times, spelling as spellingForm}
 use Rattle.keys.specs.Placed.{Placed, tree, join, bit, spell, spellings, entries, listedNames, maybeList, Spelling, Opt}
 use Rattle.keys.specs.Store.{Run, done, name, plant, packed, _⊕_}
 use Rattle.keys.proofs.StoreLaws.{join-done}
-use Rattle.rules.specs.Refusal.{unexpected, unsupported}
+use Rattle.rules.specs.Refusal.{unexpected, importSource as oddSource, importOptions}
 use Rattle.rules.specs.State.{Given, State, Result, Reader, read, refuse, refused, then, next, stands, first, end, spelling, make, turns}
 use Rattle.rules.specs.List.{count}
 use Rattle.rules.specs.Names.{dotsFrom, dotted}
@@ -65,7 +65,7 @@ module _ (g : Given) (T : Reader) (b : ℕ) where
 
       whole : Bool → State → Result Placed
       whole i s =
-          test (stands g LParen s) (λ _. test (stands g Str (next s)) (λ _. importFrom g T b i (spelling g (next s)) (next (next s))) λ _. refused unsupported (next s)) λ _.
+          test (stands g LParen s) (λ _. test (stands g Str (next s)) (λ _. importFrom g T b i (spelling g (next s)) (next (next s))) λ _. refused oddSource (next s)) λ _.
           refused unexpected s
 
       dots : (l : Result (List Spelling))
@@ -74,9 +74,9 @@ module _ (g : Given) (T : Reader) (b : ℕ) where
       dots (refuse n j h) = refl
 
       by : (a b c d : Bool)
-          → test a (λ _. test b (λ _. test c (λ _. refused unsupported (next p)) λ _. test d (λ _. then (dotsFrom g (turns g) [] (next (next p))) λ l q. behindNames (import i (spelling g p) l) q) λ _. refused unexpected (next p)) λ _. refused unsupported p) (λ _. refused unexpected (next s))
+          → test a (λ _. test b (λ _. test c (λ _. refused importOptions (next p)) λ _. test d (λ _. then (dotsFrom g (turns g) [] (next (next p))) λ l q. behindNames (import i (spelling g p) l) q) λ _. refused unexpected (next p)) λ _. refused oddSource p) (λ _. refused unexpected (next s))
           ≡ then
-          (then (test a (λ _. test b (λ _. test c (λ _. refused unsupported (next p)) λ _. test d (λ _. read (spelling g p) (next (next p))) λ _. refused unexpected (next p)) λ _. refused unsupported p) (λ _. refused unexpected (next s)))
+          (then (test a (λ _. test b (λ _. test c (λ _. refused importOptions (next p)) λ _. test d (λ _. read (spelling g p) (next (next p))) λ _. refused unexpected (next p)) λ _. refused oddSource p) (λ _. refused unexpected (next s)))
           (λ x q. then (dotsFrom g (turns g) [] q) λ l q. read (import i x l) q)) behindNames
       by false b c d = refl
       by true false c d = refl

@@ -8,13 +8,13 @@ use lib.ListN.{length}
 use Rattle.words.specs.Kind.{Colon, Dot3, RParen, This}
 use Rattle.words.specs.Test.{_and_, _or_}
 use Rattle.keys.specs.Placed.{Placed, Opt, absent, present}
-use Rattle.rules.specs.Refusal.{unexpected, unsupported}
+use Rattle.rules.specs.Refusal.{unexpected, defaultValue, restNotLast}
 use Rattle.rules.specs.State as rule
 use Rattle.rules.specs.State.{State, Result, Reader, read, refuse, next, stands, optional, turns}
 use Rattle.rules.specs.Function.{ThisParameter, parametersOf, modified, freed, separated, parameter, parametersFrom, thisFirst, parameters}
 use Rattle.marks.specs.State.{view, nextMark}
 use Rattle.marks.specs.List.{Separates, default, closes, behindRest, goes, stops}
-use Rattle.parts.specs.Function.{Opens, plain, freedMark}
+use Rattle.parts.specs.Function.{whyNone, Opens, plain, freedMark}
 use Rattle.parts.specs.Function as opens
 use Rattle.marks.proofs.Answers.{then-read, then-refused}
 use Rattle.marks.specs.declared.state.Mark.{Mark}
@@ -29,9 +29,9 @@ module _ {A : Type 0} (g : rule.Given) (isRest : Bool) (m : Mark) (O : List ℕ)
   separated-goes z f = by s
     where
       by : Separates (g .words) isRest m a → separated g isRest (view m O) close on ≡ on (view (a .m) O)
-      by (default i e) = absurd (let z' : unsupported ≡ 0 = sym (ap (λ (x : Answer). x .why) e) ∙ z in omega arith)
+      by (default i e) = absurd (let z' : defaultValue ≡ 0 = sym (ap (λ (x : Answer). x .why) e) ∙ z in omega arith)
       by (closes i j e) = rw (i, j, e) (sym (f (view m O) j))
-      by (behindRest i j k l e) = absurd (let z' : unsupported ≡ 0 = sym (ap (λ (x : Answer). x .why) e) ∙ z in omega arith)
+      by (behindRest i j k l e) = absurd (let z' : restNotLast ≡ 0 = sym (ap (λ (x : Answer). x .why) e) ∙ z in omega arith)
       by (goes i j k l e) = rw (i, j, k, l, e)
       by (stops i j k e) = absurd (let z' : unexpected ≡ 0 = sym (ap (λ (x : Answer). x .why) e) ∙ z in omega arith)
 
@@ -58,13 +58,15 @@ module _ (g : rule.Given) (T : Reader) (this : Opt ThisParameter) (n : ℕ) (l :
   parameters-closed s c = rw c
 
   -- No parameter can begin here.
-  pub parameters-none : (s : State) → stands g RParen s ≡ false → (modified g s or stands g This s) ≡ true → parametersFrom g T this (suc n) l s ≡ refuse unsupported (s .at) (s .half)
+  pub parameters-none : (s : State) → stands g RParen s ≡ false → (whyNone (modified g s) (stands g This s) ≡ 0 → ⊥)
+      → parametersFrom g T this (suc n) l s ≡ refuse (whyNone (modified g s) (stands g This s)) (s .at) (s .half)
   unfolding parametersFrom
-  parameters-none s c e = by (modified g s) (stands g This s) refl refl e
+  parameters-none s c = by (modified g s) (stands g This s) refl refl
     where
-      by : (x y : Bool) → modified g s ≡ x → stands g This s ≡ y → (x or y) ≡ true → parametersFrom g T this (suc n) l s ≡ refuse unsupported (s .at) (s .half)
+      by : (x y : Bool) → modified g s ≡ x → stands g This s ≡ y → (whyNone x y ≡ 0 → ⊥) → parametersFrom g T this (suc n) l s ≡ refuse (whyNone x y) (s .at) (s .half)
       by true y p q h = rw (c, p)
-      by false y p q h = rw (c, p, q ∙ h)
+      by false true p q h = rw (c, p, q)
+      by false false p q h = absurd (h refl)
 
   both-false : (x y : Bool) → (x or y) ≡ false → (x ≡ false) × (y ≡ false)
   both-false true y h = let z : _≡_ {A = ℕ} 0 1 = cc in absurd (omega arith)

@@ -16,7 +16,7 @@ use Rattle.keys.specs.Placed as node
 use Rattle.keys.specs.Placed.{Placed, tree, Spelling, spell, number, pick, join, void, literalSpelling, absent, present}
 use Rattle.keys.specs.Key.{nodeTable}
 use Rattle.keys.specs.Store.{done, plant, packed}
-use Rattle.rules.specs.Refusal.{unexpected, unsupported}
+use Rattle.rules.specs.Refusal.{unexpected, prefixMark}
 use Rattle.rules.specs.State.{Given, State, Result, read, Reader, refused, then, next, kind, kindAfter, stands, nextOnLine, first, end, spelling, make}
 use Rattle.rules.specs.List.{position}
 use Rattle.rules.specs.Function.{subject, predicates, returnType}
@@ -289,7 +289,7 @@ module _ (g : Given) (T : Reader) (s : State) where
   unfolding rule.reference nameAt
   reference-name b = rw (b, other-kind class.bindingWord (kind g s) Typeof refl b, other-kind class.bindingWord (kind g s) Import refl b)
 
-  pub reference-marked : class.bindingWord (kind g s) ≡ false → among (Question ∷ Bang ∷ Star ∷ []) (kind g s) ≡ true → rule.reference g T s ≡ refused unsupported s
+  pub reference-marked : class.bindingWord (kind g s) ≡ false → among (Question ∷ Bang ∷ Star ∷ []) (kind g s) ≡ true → rule.reference g T s ≡ refused prefixMark s
   unfolding rule.reference
   reference-marked b m = rw (b, m)
 

@@ -12,7 +12,7 @@ use Rattle.keys.specs.Bits.{unit}
 use Rattle.keys.specs.Placed as node
 use Rattle.keys.specs.Placed.{Placed, Spelling, Opt}
 use Rattle.keys.specs.Store.{_⊕_}
-use Rattle.rules.specs.Refusal.{unsupported}
+use Rattle.rules.specs.Refusal as refusal
 use Rattle.rules.specs.State as rule
 use Rattle.rules.specs.State.{State, Result, read, refused, then, next, stands, end, spelling, expect, make, turns}
 use Rattle.rules.specs.List.{count}
@@ -66,10 +66,10 @@ abbrev pub importSource : rule.Given → State → Result Spelling
 importSource g s =
     expect g LParen s λ q.
     test (stands g Str q) (λ _.
-    test (stands g Comma (next q)) (λ _. refused unsupported (next q)) λ _.
+    test (stands g Comma (next q)) (λ _. refused refusal.importOptions (next q)) λ _.
     expect g RParen (next q) λ p.
     read (spelling g q) p) λ _.
-    refused unsupported q
+    refused refusal.importSource q
 
 -- An import after its word.
 abbrev pub importHead : rule.Given → Bool → State → Result Naming

@@ -12,7 +12,7 @@ use Rattle.keys.specs.Limits.{recordWords}
 use Rattle.keys.specs.Bits.{unit}
 use Rattle.keys.specs.Placed.{Placed, Spelling, Opt, absent, present}
 use Rattle.keys.specs.Store.{Run, done, _⊕_}
-use Rattle.rules.specs.Refusal.{unexpected, unsupported}
+use Rattle.rules.specs.Refusal.{unexpected, parameterModifier, misplacedThis, typeParameterModifier}
 use Rattle.rules.specs.State as rule
 use Rattle.rules.specs.State.{State, Result, Reader, read, refused, then, stands, past}
 use Rattle.rules.specs.List.{count}
@@ -38,6 +38,11 @@ use Rattle.parts.specs.declared.function.Params.{Params}
 abbrev pub whyIf : Bool → ℕ → ℕ
 whyIf true n = n
 whyIf false n = 0
+
+-- Why no parameter begins here, 0 if one may: a modifier word, or a `this` that is not first.
+abbrev pub whyNone : (modifier this : Bool) → ℕ
+whyNone true this = parameterModifier
+whyNone false this = whyIf this misplacedThis
 
 -- The bits of a `this`: 0 for none, 1 without a type, 3 with one.
 abbrev pub typeBits : Opt Placed → ℕ
@@ -103,12 +108,12 @@ pub record HeadIs (W : List ℕ) (m : Mark) (h : FunctionHead) : Type 0 where
 
 -- A type parameter up to its constraint.
 abbrev pub typeParameterHead : rule.Given → State → Result Spelling
-typeParameterHead g s = test (types.varies g s) (λ _. refused unsupported s) (λ _. oneName 0 g s)
+typeParameterHead g s = test (types.varies g s) (λ _. refused typeParameterModifier s) (λ _. oneName 0 g s)
 
 -- A parameter up to its type: its name, and whether a `?` stands behind it.
 abbrev pub parameterHead : rule.Given → State → Result (Spelling × Bool)
 parameterHead g s =
-    test (stands g Dot3 s and stands g This (past g Dot3 s)) (λ _. refused unsupported (past g Dot3 s)) λ _.
+    test (stands g Dot3 s and stands g This (past g Dot3 s)) (λ _. refused misplacedThis (past g Dot3 s)) λ _.
     then (oneName 0 g (past g Dot3 s)) λ x q.
     read (x, stands g Question q) (past g Question q)
 

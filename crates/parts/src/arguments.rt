@@ -156,11 +156,11 @@ fn import_source(words: &[u64], names: &mut [u64], m: Mark) -> Answer
     }
     let p = next(m);
     if kind_at(words, p) != Kind::STR {
-        return Answer::refused(Refusal::UNSUPPORTED, p);
+        return Answer::refused(Refusal::IMPORT_SOURCE, p);
     }
     let q = spell(words, names, p);
     if kind_at(words, q) == Kind::COMMA {
-        return Answer::refused(Refusal::UNSUPPORTED, q);
+        return Answer::refused(Refusal::IMPORT_OPTIONS, q);
     }
     if kind_at(words, q) != Kind::R_PAREN {
         return Answer::refused(Refusal::UNEXPECTED, q);

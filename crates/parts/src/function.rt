@@ -13,14 +13,14 @@ ghost use Rattle.words.specs.Ahead.{functionStart};
 ghost use Rattle.words.specs.Cursor.{firstByte, endByte};
 ghost use Rattle.keys.specs.Limits.{recordWords};
 ghost use Rattle.keys.specs.Bits.{unit};
-ghost use Rattle.rules.specs.Refusal.{unsupported};
+ghost use Rattle.rules.specs.Refusal.{typeParameterModifier};
 ghost use Rattle.rules.specs.TypeRule as type;
 ghost use Rattle.rules.specs.TypeParameters as types;
 ghost use Rattle.rules.specs.Function as rule;
 ghost use Rattle.marks.specs.State.{AnyGiven, view, givenOf, nextMark, Sound, Inside, Moved, Along, Under, Reached, placeOf};
 ghost use Rattle.marks.specs.Says.{Any, one, StartsNames};
 ghost use Rattle.marks.specs.List.{here, Separates};
-ghost use Rattle.parts.specs.Function.{whyIf, HeadIs, typeParameterHead, Opens, freedMark, beforeThis, behindThis, freedUsed, listScale, thisScale, newChoices, callChoices, functionChoices, constructorChoices, MakesFunction, LinksParams, MayPutConstructor, MayPutFunction, StartsParameter};
+ghost use Rattle.parts.specs.Function.{whyIf, whyNone, HeadIs, typeParameterHead, Opens, freedMark, beforeThis, behindThis, freedUsed, listScale, thisScale, newChoices, callChoices, functionChoices, constructorChoices, MakesFunction, LinksParams, MayPutConstructor, MayPutFunction, StartsParameter};
 ghost use Rattle.marks.specs.Names.{MayName};
 use marks::names::name;
 use marks::node::Count;
@@ -180,20 +180,20 @@ impl Params {
 // Why no type parameter can begin here, 0 if nothing is against it: const, in, or out before a binding word.
 pub fn varies(words: &[u64], classes: &[u16; 256], m: Mark) -> usize
     requires { ⌜ (now classes ≡ classWords) × (m .at < 2 ^ 63) ⌝ }
-    ensures { λ r. ⌜ ((text O : List ℕ) (given : AnyGiven) → r ≡ whyIf (types.varies (givenOf text (now (words .entry)) given) (view m O)) unsupported) ⌝ }
+    ensures { λ r. ⌜ ((text O : List ℕ) (given : AnyGiven) → r ≡ whyIf (types.varies (givenOf text (now (words .entry)) given) (view m O)) typeParameterModifier) ⌝ }
 {
     let kind = kind_at(words, m);
     if kind == Kind::CONST {
-        return Refusal::UNSUPPORTED;
+        return Refusal::TYPE_PARAMETER_MODIFIER;
     }
     if kind == Kind::IN {
-        return Refusal::UNSUPPORTED;
+        return Refusal::TYPE_PARAMETER_MODIFIER;
     }
     if kind != Kind::OUT {
         return 0;
     }
     if in_class(classes, kind_after(words, m, 1), Class::BINDING_WORD) {
-        return Refusal::UNSUPPORTED;
+        return Refusal::TYPE_PARAMETER_MODIFIER;
     }
     0
 }
@@ -229,7 +229,7 @@ pub fn param_head(words: &[u64], classes: &[u16; 256], names: &mut [u64], m: Mar
     let rest = kind_at(words, m) == Kind::DOT3;
     let p = past(words, Kind::DOT3, m);
     if this_after(words, rest, p) {
-        return Head::refused(Refusal::UNSUPPORTED, p);
+        return Head::refused(Refusal::MISPLACED_THIS, p);
     }
     let a = name(words, classes, names, Class::BINDING_WORD, p);
     if a.why != 0 {
@@ -257,13 +257,13 @@ fn this_after(words: &[u64], rest: bool, m: Mark) -> bool
 // Why no parameter can begin here, 0 if nothing is against it: a modifier word, or a `this` that is not first.
 pub fn no_param(words: &[u64], classes: &[u16; 256], m: Mark) -> usize
     requires { ⌜ (now classes ≡ classWords) × (m .at < 2 ^ 62) ⌝ }
-    ensures { λ r. ⌜ ((text O : List ℕ) (given : AnyGiven) → r ≡ whyIf (rule.modified (givenOf text (now (words .entry)) given) (view m O) or here (now (words .entry)) kind.This m) unsupported) ⌝ }
+    ensures { λ r. ⌜ ((text O : List ℕ) (given : AnyGiven) → r ≡ whyNone (rule.modified (givenOf text (now (words .entry)) given) (view m O)) (here (now (words .entry)) kind.This m)) ⌝ }
 {
     if modifies(words, classes, m.at) {
-        return Refusal::UNSUPPORTED;
+        return Refusal::PARAMETER_MODIFIER;
     }
     if kind_at(words, m) == Kind::THIS {
-        return Refusal::UNSUPPORTED;
+        return Refusal::MISPLACED_THIS;
     }
     0
 }
@@ -276,7 +276,7 @@ pub fn separated(words: &[u64], rest: bool, m: Mark) -> Answer
 {
     let kind = kind_at(words, m);
     if kind == Kind::EQ {
-        return Answer::refused(Refusal::UNSUPPORTED, m);
+        return Answer::refused(Refusal::DEFAULT_VALUE, m);
     }
     if kind == Kind::R_PAREN {
         return Answer::taken(m);
@@ -285,7 +285,7 @@ pub fn separated(words: &[u64], rest: bool, m: Mark) -> Answer
         return Answer::refused(Refusal::UNEXPECTED, m);
     }
     if rest {
-        return Answer::refused(Refusal::UNSUPPORTED, m);
+        return Answer::refused(Refusal::REST_NOT_LAST, m);
     }
     Answer::taken(next(m))
 }

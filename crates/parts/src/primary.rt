@@ -213,9 +213,9 @@ fn other_start(classes: &[u16; 256], kind: usize) -> Start
         return Start::Name;
     }
     match kind {
-        Kind::QUESTION => Start::Nothing(Refusal::UNSUPPORTED),
-        Kind::BANG => Start::Nothing(Refusal::UNSUPPORTED),
-        Kind::STAR => Start::Nothing(Refusal::UNSUPPORTED),
+        Kind::QUESTION => Start::Nothing(Refusal::PREFIX_MARK),
+        Kind::BANG => Start::Nothing(Refusal::PREFIX_MARK),
+        Kind::STAR => Start::Nothing(Refusal::PREFIX_MARK),
         _ => Start::Nothing(Refusal::UNEXPECTED),
     }
 }

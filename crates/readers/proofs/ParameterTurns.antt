@@ -11,13 +11,13 @@ use Rattle.words.specs.Test.{_or_}
 use Rattle.keys.specs.Placed.{Placed, Opt}
 use Rattle.keys.specs.Store.{Run, _⊕_}
 use Rattle.keys.proofs.StoreLaws.{join-done}
-use Rattle.rules.specs.Refusal.{unexpected, unsupported}
+use Rattle.rules.specs.Refusal.{unexpected, parameterModifier, defaultValue, misplacedThis, restNotLast}
 use Rattle.rules.specs.State.{Given, State, Result, Reader, read, refuse, stands, turns}
 use Rattle.rules.specs.Function.{ThisParameter, Parameters, modified, parameter, parametersFrom}
 use Rattle.marks.specs.State.{view, nextMark}
 use Rattle.marks.specs.Laid.{runIn, runs, IsNode, Was, BuiltAt}
 use Rattle.marks.specs.List.{Separates, default, closes, behindRest, goes, stops}
-use Rattle.parts.specs.Function.{whyIf, ThisIs}
+use Rattle.parts.specs.Function.{whyNone, ThisIs}
 use Rattle.readers.specs.Ring.{SaysRest}
 use Rattle.marks.proofs.LeafLaws.{noKids}
 use Rattle.parts.proofs.ShapeLaws.{all-more}
@@ -30,15 +30,11 @@ use Rattle.parts.specs.declared.function.This.{This as ThisCode}
 use Rattle.parts.specs.declared.function.Params.{Params}
 use Rattle.readers.proofs.Loops.{ParametersTurn}
 
--- A refusal's number that is 0: its test does not hold.
-pub why-none : (b : Bool) {why : ℕ} → why ≡ whyIf b unsupported → why ≡ 0 → b ≡ false
-why-none true e n = absurd (let z : unsupported ≡ 0 = sym e ∙ n in omega arith)
-why-none false e n = refl
-
--- One that is not: its test holds, and it is that number.
-why-some : (b : Bool) {why : ℕ} → why ≡ whyIf b unsupported → (why ≡ 0 → ⊥) → (b ≡ true) × (why ≡ unsupported)
-why-some true e n = (refl, e)
-why-some false e n = absurd (n e)
+-- A parameter may begin: neither a modifier word nor a `this` is there.
+pub why-none : (a b : Bool) {why : ℕ} → why ≡ whyNone a b → why ≡ 0 → (a or b) ≡ false
+why-none true b e n = absurd (let z : parameterModifier ≡ 0 = sym e ∙ n in omega arith)
+why-none false true e n = absurd (let z : misplacedThis ≡ 0 = sym e ∙ n in omega arith)
+why-none false false e n = refl
 
 -- What separates is the same where the kind before it is.
 pub separates-as : {W : List ℕ} {x y : ℕ} (k : ℕ) {q : Mark} {a : Answer} → x ≡ y → Separates W (eqb x k) q a → Separates W (eqb y k) q a
@@ -69,11 +65,10 @@ module _ (g : Given) (T : Reader) (th : Opt ThisParameter) where
       }
 
   -- No parameter can begin here.
-  pub parameters-why : (n : ℕ) (l : List Placed) (s : State) {why : ℕ} → stands g RParen s ≡ false → why ≡ whyIf (modified g s or stands g This s) unsupported
+  pub parameters-why : (n : ℕ) (l : List Placed) (s : State) {why : ℕ} → stands g RParen s ≡ false → why ≡ whyNone (modified g s) (stands g This s)
       → (why ≡ 0 → ⊥) → parametersFrom g T th (suc n) l s ≡ refuse why (s .at) (s .half)
   parameters-why n l s c e z =
-      let w = why-some (modified g s or stands g This s) e z in
-      parameters-none g T th n l s c (w .0) ∙ ap (λ (k : ℕ). refuse k (s .at) (s .half)) (sym (w .1))
+      parameters-none g T th n l s c (λ x. z (e ∙ x)) ∙ ap (λ (k : ℕ). refuse k (s .at) (s .half)) (sym e)
 
   module _ {B : Was} (t : Run) (s : State) {count : ℕ} {k : Kids} {p : Mark} {N M O : List ℕ} (w : ParametersTurn g T th s B t count k p N M O) where
     -- After a parameter that was read the loop stands at its head again.
@@ -113,14 +108,14 @@ module _ (g : Given) (T : Reader) (th : Opt ThisParameter) where
             }
 
         by : Separates (g .words) (stands g Dot3 (view p O)) q a → ParametersTurn g T th s B t (count + 1) k' (a .m) N' M' O'
-        by (default y m) = absurd (let v : unsupported ≡ 0 = sym (ap (λ (z : Answer). z .why) m) ∙ h in omega arith)
+        by (default y m) = absurd (let v : defaultValue ≡ 0 = sym (ap (λ (z : Answer). z .why) m) ∙ h in omega arith)
         by (closes y z m) =
             let closed : stands g RParen (view (a .m) O') ≡ true = subst (λ (v : Answer). stands g RParen (view (v .m) O') ≡ true) (sym m) z in
             turn (length (g .words)) (omega arith)
             (next-is (w .fuel - 1) one-less
             ∙ parameters-closed g T th (w .fuel - 1) l' (view (a .m) O') closed
             ∙ sym (parameters-closed g T th (length (g .words)) l' (view (a .m) O') closed))
-        by (behindRest y z r v m) = absurd (let v' : unsupported ≡ 0 = sym (ap (λ (z : Answer). z .why) m) ∙ h in omega arith)
+        by (behindRest y z r v m) = absurd (let v' : restNotLast ≡ 0 = sym (ap (λ (z : Answer). z .why) m) ∙ h in omega arith)
         by (goes y z r v m) =
             let at-is : a .m .at ≡ q .at + 1 = ap (λ (z : Answer). z .m .at) m in
             turn (w .fuel - 1) (omega (arith, w .enough)) (next-is (w .fuel - 1) one-less)

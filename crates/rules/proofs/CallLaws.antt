@@ -13,6 +13,7 @@ use Rattle.words.specs.Check.{Verdict, sound, refused, none, goodWord, judged, 
 use Rattle.keys.specs.Limits.{noSpace}
 use Rattle.keys.specs.Table.{type}
 use Rattle.words.specs.Word.{end}
+use Rattle.words.specs.Cursor.{firstByte}
 use Rattle.keys.specs.Form.{nodes, Bytes}
 use Rattle.keys.specs.Placed.{Placed, bare}
 use Rattle.keys.specs.Key.{nodeTable, keyOf}
@@ -23,7 +24,7 @@ use Rattle.rules.specs.Notes.{Note, noteWords}
 use Rattle.rules.specs.State.{Given, State, Result, read as got, refuse}
 use Rattle.rules.specs.Read.{refuses, Lent, given, granted, denied, fits, checked, outcome, Called, written, read}
 use Rattle.rules.specs.Refusal.{isRule}
-use Rattle.rules.specs.Call.{Call, left, ruled, grants, Granted, Kept, AllZero, IsRefusal, is-badList, is-badToken, is-rules, is-noSpace}
+use Rattle.rules.specs.Call.{Call, left, ruled, grants, Granted, Kept, AllZero, IsCursor, IsRefusal, is-badList, is-badToken, is-rules, is-noSpace}
 use Rattle.rules.proofs.TokenLaws.{both-true}
 use Rattle.rules.proofs.Gives.{Gives, gives, stops, Got, Good, itself}
 use Rattle.rules.proofs.RuleLaws.{reading-gives}
@@ -36,13 +37,15 @@ gave {P = P} {a = a} {s = s} (gives {a = b} {q = q} h) e =
     rw (← x, ← y) h
 gave (stops k i) e = clash (cc)
 
--- A refusal has a number of the rules', at a token.
-stopped : {g : Given} {A : Type 0} {P : A → State → Type 0} {r : Result A} {n i h : ℕ} → Gives g P r → r ≡ refuse n i h → T (isRule n) × (i < length (g .words))
-stopped {g} {n = n} {i = i} (gives h) e = clash (cc)
-stopped {g} {n = n} {i = i} (stops {n = m} {i = j} k l) e =
-    let x : m ≡ n = cc in
-    let y : j ≡ i = cc in
-    (rw (← x) k, rw (← y) l)
+-- A refusal has a number of the rules', where reading may stand.
+stopped : {g : Given} {A : Type 0} {P : A → State → Type 0} {r : Result A} {n i h : ℕ} → Gives g P r → r ≡ refuse n i h
+    → T (isRule n) × IsCursor (g .text) (g .words) i h
+stopped (gives h) e = clash (cc)
+stopped {n = n} {i = i} {h = h} (stops {n = m} {i = j} {h = k} x l) e =
+    let a : m ≡ n = cc in
+    let b : j ≡ i = cc in
+    let c : k ≡ h = cc in
+    (rw (← a) x, rw (← b, ← c) l)
 
 -- ---- A granted call
 
@@ -161,40 +164,46 @@ list-refused text before i (w ∷ ws) {n} {p} e = by (goodWord text before (none
         let y : i ≡ p = cc in
         (x, omega arith)
 
-check-refused : (text words : List ℕ) (start : ℕ) {n p : ℕ} → check text words start ≡ refused n p → IsRefusal (length words) n p
+check-refused : (text words : List ℕ) (start : ℕ) {n p : ℕ} → check text words start ≡ refused n p → IsRefusal text words n p 0 0
 check-refused text words start {n} {p} e = by (goodList text words start) e
   where
-    by : (b : Bool) → test b (λ _. wordsFrom text 0 0 words) (λ _. refused 1 0) ≡ refused n p → IsRefusal (length words) n p
+    by : (b : Bool) → test b (λ _. wordsFrom text 0 0 words) (λ _. refused 1 0) ≡ refused n p → IsRefusal text words n p 0 0
     by true j = let r = list-refused text 0 0 words j in rw (r .0) (is-badToken {p = p} (omega arith))
     by false j =
         let x : n ≡ 1 = cc in
         let y : p ≡ 0 = cc in
         rw (x, y) is-badList
 
-pub call-refusal : (c : Call) → Bytes (c .text) → {n p h b : ℕ} → left c .answer ≡ refuses n p h b → IsRefusal (length (c .words)) n p
+pub call-refusal : (c : Call) → Bytes (c .text) → {n p h b : ℕ} → left c .answer ≡ refuses n p h b → IsRefusal (c .text) (c .words) n p h b
 unfolding read
 call-refusal c bytes {n} {p} {h} {b} e = by (check (c .text) (c .words) (c .start)) refl (ruled c) refl e
   where
     by-fit : (fit : Bool) (t : Placed) (s : State)
         → written (c .lent) (test fit (λ _. granted t (s .notes) (s .at) (s .half) (keyOf (bare t))) λ _. denied noSpace 0 0 0) .answer ≡ refuses n p h b
-        → IsRefusal (length (c .words)) n p
+        → IsRefusal (c .text) (c .words) n p h b
     by-fit true t s j = clash (cc)
     by-fit false t s j =
         let x : n ≡ noSpace = cc in
         let y : p ≡ 0 = cc in
-        rw (x, y) is-noSpace
+        let z : h ≡ 0 = cc in
+        let w : b ≡ 0 = cc in
+        rw (x, y, z, w) is-noSpace
 
     by : (v : Verdict) → check (c .text) (c .words) (c .start) ≡ v → (r : Result Placed) → ruled c ≡ r
         → written (c .lent) (checked (given (c .text) (c .words) (c .parens) (c .lent)) (c .start) (c .lent) v) .answer ≡ refuses n p h b
-        → IsRefusal (length (c .words)) n p
+        → IsRefusal (c .text) (c .words) n p h b
     by (refused m q) i r f j =
         let x : m ≡ n = cc in
         let y : q ≡ p = cc in
-        check-refused (c .text) (c .words) (c .start) (i ∙ cc)
+        let z : h ≡ 0 = cc in
+        let w : b ≡ 0 = cc in
+        rw (z, w) (check-refused (c .text) (c .words) (c .start) (i ∙ cc))
     by sound i (got t s) f j = by-fit (fits (c .lent) t (keyOf (bare t))) t s (rw f at j)
     by sound i (refuse m q k) f j =
         let l = rw f at j in
         let x : m ≡ n = cc in
         let y : q ≡ p = cc in
+        let z : k ≡ h = cc in
+        let w : firstByte (c .words) q k ≡ b = cc in
         let r = stopped (reading-gives _ (record { bytes = bytes; start = c .start; sound = i })) f in
-        is-rules {n = n} {p = p} (subst (λ (k : ℕ). T (isRule k)) x (r .0)) (omega arith)
+        rw (← x, ← y, ← z, ← w) (is-rules (r .0) (r .1))

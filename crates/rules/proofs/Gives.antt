@@ -23,27 +23,34 @@ use Rattle.keys.proofs.BitsLaws.{clash}
 use Rattle.rules.specs.Notes.{Note}
 use Rattle.rules.specs.State.{Given, State, Result, Reader, read, refuse, then, next, past, stands, kind, first, end, spelling, overlong, make, report, reportIf}
 use Rattle.rules.specs.Refusal.{isRule}
+use Rattle.rules.specs.Call.{IsCursor}
 use Rattle.rules.specs.List.{count}
 use Rattle.rules.specs.Told.{Told}
 use Rattle.rules.specs.Weight.{weight}
 use Rattle.rules.proofs.ToldLaws.{told-more}
-use Rattle.rules.proofs.TokenLaws.{no-end, whole-end, Checked, token-spells, taken-before, word-sized}
+use Rattle.rules.proofs.TokenLaws.{no-end, whole-end, Checked, token-spells, taken-before, word-inside, word-sized}
 use Rattle.rules.proofs.PlaceLaws.{Spans, spans-le, spans-up, spans-down, spans-join, spans-flat, spans-front, spans-more}
 
--- What was read is such, and a refusal has a number of the rules', at a token.
+-- What was read is such, and a refusal has a number of the rules', where reading may stand.
 pub data Gives (g : Given) {A : Type 0} (P : A → State → Type 0) : Result A → Type 0 where
   gives : {a : A} {q : State} → P a q → Gives g P (read a q)
-  stops : {n i h : ℕ} → T (isRule n) → i < length (g .words) → Gives g P (refuse n i h)
+  stops : {n i h : ℕ} → T (isRule n) → IsCursor (g .text) (g .words) i h → Gives g P (refuse n i h)
 
--- Where a reading stands: at a token, no earlier than what was taken ends; n nodes are in use, and nodes and diagnostics keep within their limits and what is lent.
+-- Where a reading stands: at a token in the text, no earlier than what was taken ends; n nodes are in use, and nodes and diagnostics keep within their limits and what is lent.
 pub record At (g : Given) (n : ℕ) (s : State) : Type 0 where
   pub used : s .nodes ≡ n
   pub roomy : s .nodes ≤ g .room
   pub few : length (s .notes) ≤ mostNotes
   pub recorded : length (s .notes) ≤ g .records
   pub inside : s .at < length (g .words)
+  pub one : s .half ≤ 1
+  pub shown : first g s ≤ length (g .text)
   pub order : end g s ≤ first g s
   pub rest : (kind g s ≡ Eof → ⊥) → s .half < size (wordAt (g .words) (s .at))
+
+-- A refusal there has its place.
+pub cursor : {g : Given} {n : ℕ} {s : State} → At g n s → IsCursor (g .text) (g .words) (s .at) (s .half)
+cursor a = record { token = a .inside; one = a .one; byte = a .shown }
 
 -- How many nodes are in a value.
 abbrev pub sizeOf : Placed → ℕ
@@ -136,8 +143,8 @@ module _ {g : Given} {A : Type 0} {P : A → State → Type 0} where
       → Gives g P (test b x y)
   gives-must b f h = gives-test b h f
 
-  pub refusal : {m : ℕ} {s : State} {b c : Bool} {n h : ℕ} → At g m s → T (isRule n) → b ≡ c → Unit {0} → Gives g P (refuse n (s .at) h)
-  refusal a k e u = stops k (a .inside)
+  pub refusal : {m : ℕ} {s : State} {b c : Bool} {n : ℕ} → At g m s → T (isRule n) → b ≡ c → Unit {0} → Gives g P (refuse n (s .at) (s .half))
+  refusal a k e u = stops k (cursor a)
 
 -- ---- Past a token
 
@@ -164,6 +171,8 @@ step {g} c f e s h a =
         few = a .few;
         recorded = a .recorded;
         inside = omega arith;
+        one = omega arith;
+        shown = omega (arith, word-inside (g .text) (g .words) (c .start) (c .sound) (s .at + 1));
         order = omega (arith, end-next g s);
         rest = λ ne. token-spells g c (s .at + 1) ne .some;
       };
@@ -213,7 +222,7 @@ past-whole g k s a = by (stands g k s)
 -- The same count, said otherwise.
 pub counted : {g : Given} {n m : ℕ} {s : State} → n ≡ m → At g n s → At g m s
 counted e a =
-    record { used = a .used ∙ e; roomy = a .roomy; few = a .few; recorded = a .recorded; inside = a .inside; order = a .order; rest = a .rest }
+    record { used = a .used ∙ e; roomy = a .roomy; few = a .few; recorded = a .recorded; inside = a .inside; one = a .one; shown = a .shown; order = a .order; rest = a .rest }
 
 -- A measure that adds up over pairs adds up over a list that grows at its end.
 sum-more : (m : Value → ℕ) → m nothing ≡ 0 → ((a b : Value) → m (pair a b) ≡ m a + m b) → (l : List Placed) (t : Placed)
@@ -320,6 +329,8 @@ module _ {g : Given} {m n lo : ℕ} where
             few = a .few;
             recorded = a .recorded;
             inside = a .inside;
+            one = a .one;
+            shown = a .shown;
             order = a .order;
             rest = a .rest;
           };
@@ -357,6 +368,8 @@ module _ {g : Given} {A B : Type 0} {P : A → Type 0} {shape : A → Placed} {k
             few = omega (arith, leb-false mostNotes (length (s .notes)) (full .0));
             recorded = omega (arith, leb-false (g .records) (length (s .notes)) (full .1));
             inside = x .inside;
+            one = x .one;
+            shown = x .shown;
             order = x .order;
             rest = x .rest;
           };

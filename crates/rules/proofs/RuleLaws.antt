@@ -39,12 +39,12 @@ use Rattle.rules.specs.Reading.{readType, reading}
 use Rattle.words.specs.Ahead.{starter, mappedStart, functionStart, propertyKey, indexStart}
 use Rattle.words.specs.Word.{size}
 use Rattle.words.specs.Cursor.{wordAt}
-use Rattle.rules.proofs.TokenLaws.{both-true, or-first, among-each, Checked, token-spells, spelled-by, split-size, start-inside, taken-before}
+use Rattle.rules.proofs.TokenLaws.{both-true, or-first, among-each, Checked, token-spells, spelled-by, split-size, word-inside, start-inside, taken-before}
 use Rattle.rules.specs.Told.{Told}
 use Rattle.rules.specs.Weight.{weight}
 use Rattle.rules.proofs.ToldLaws.{told-here, told-subject, told-literal, told-names, told-element}
 use Rattle.rules.proofs.PlaceLaws.{Spans, spans-le, spans-up, spans-flat, spans-element}
-use Rattle.rules.proofs.Gives.{Gives, gives, stops, At, Has, Got, Good, Enough, Step, Past, sizeOf, weightOf, worth, itself, Reads, ReadsNames, ReadsOn, ReadsTree, ReadsIf, ReadsAbout, ReadsTypes, gives-then, gives-test, gives-must, gives-mark, gives-or, refusal, step, past-mark, past-more, past-whole, counted, weight-more, flat-has, front-has, join-has, _&_, regroup, drop-void, has-le, has-down, pick-has, has-on, has-next, has-more, gives-down, made-by, made, reported, reported-if, enough-more, list-is, names-are, if-list-is}
+use Rattle.rules.proofs.Gives.{Gives, gives, stops, At, cursor, Has, Got, Good, Enough, Step, Past, sizeOf, weightOf, worth, itself, Reads, ReadsNames, ReadsOn, ReadsTree, ReadsIf, ReadsAbout, ReadsTypes, gives-then, gives-test, gives-must, gives-mark, gives-or, refusal, step, past-mark, past-more, past-whole, counted, weight-more, flat-has, front-has, join-has, _&_, regroup, drop-void, has-le, has-down, pick-has, has-on, has-next, has-more, gives-down, made-by, made, reported, reported-if, enough-more, list-is, names-are, if-list-is}
 use Rattle.rules.proofs.PartLaws.{key-sort, names-size, names-weight, subject-size, subject-weight, element-size, as-under-name, pieces-more, keyword-below, literal-size, literal-weight, literal-fits, negative-fits, asserted}
 
 -- How parameters stand as values, where a constructor gave the nodes of its `this` back.
@@ -69,7 +69,7 @@ module _ (g : Given) (c : Checked g) where
     list-from : (m n lo fuel : ℕ) (l : List Placed) (s : State) → Enough (Is f) 0 l → Has g n lo (entries l) s → weightOf (entries l) + m ≤ worth g s + 8
         → Gives g (Got g (Enough (Is f) 0) entries 1 m n lo) (listFrom g close entry fuel l s)
     unfolding listFrom
-    list-from m n lo zero l s e x o = stops tt (x .at .inside)
+    list-from m n lo zero l s e x o = stops tt (cursor (x .at))
     list-from m n lo (suc fuel) l s e x o =
         gives-or c close ok s (x .at) (λ u _. gives (record { is = e; has = has-next x u; whole = refl; rise = omega (arith, has-le x); light = omega arith })) λ _ _.
         gives-then (reads l _ (end g s) s (x .at .order) (x .at)) λ t q b.
@@ -103,7 +103,7 @@ module _ (g : Given) (c : Checked g) where
   dots-give : (m n lo least fuel : ℕ) (l : List Spelling) (s : State) → Got g (Enough IsSpelling least) node.listedNames 1 m n lo l s
       → Gives g (Got g (Enough IsSpelling least) node.listedNames 1 m n lo) (dotsFrom g fuel l s)
   unfolding dotsFrom
-  dots-give m n lo least zero l s h = stops tt (h .has .at .inside)
+  dots-give m n lo least zero l s h = stops tt (cursor (h .has .at))
   dots-give m n lo least (suc fuel) l s h =
       gives-mark c Dot refl s (h .has .at) (λ _ _. gives h) λ t _.
       gives-then (name-gives _ lo (next s) (omega arith) (t .at)) λ x q b.
@@ -169,6 +169,8 @@ module _ (g : Given) (c : Checked g) where
                 few = a .few;
                 recorded = a .recorded;
                 inside = a .inside;
+                one = omega arith;
+                shown = omega (arith, long i, word-inside (g .text) (g .words) (c .start) (c .sound) (s .at));
                 order = omega arith;
                 rest = λ _. long i;
               };
@@ -273,7 +275,7 @@ module _ (g : Given) (c : Checked g) where
           → (fuel : ℕ) (l : List Placed) (s : State) → Enough (Is param) 0 l → Has g (n + sizeOf (shapeOfThis isNew this)) (end g from) (entries l) s
           → weightOf (shapeOfParameters isNew (parametersOf this l)) + m ≤ worth g s + 8 → Gives g (Got g AreParameters (shapeOfParameters isNew) 1 m n lo) (parametersFrom g T this fuel l s)
       unfolding parametersFrom
-      parameters-from this t x zero l s e y o = stops tt (y .at .inside)
+      parameters-from this t x zero l s e y o = stops tt (cursor (y .at))
       parameters-from this t x (suc fuel) l s e y o =
           gives-or c RParen refl s (y .at)
           (λ u _. gives (record { is = record { this-is = t; others = e }; has = x & has-next y u; whole = refl; rise = omega (arith, has-le x, has-le y); light = omega arith })) λ _ _.
@@ -323,7 +325,7 @@ module _ (g : Given) (c : Checked g) where
           freed-has true p s q a x =
               let b = x .at in
               flat-has void refl tt (has-le x)
-              (record { used = a .used; roomy = a .roomy; few = b .few; recorded = b .recorded; inside = b .inside; order = b .order; rest = b .rest })
+              (record { used = a .used; roomy = a .roomy; few = b .few; recorded = b .recorded; inside = b .inside; one = b .one; shown = b .shown; order = b .order; rest = b .rest })
           freed-has false p s q a x = pick-has 1 x
 
           absent-has : (isNew : Bool) (q : State) → lo ≤ end g q → At g n q → Has g n lo (shapeOfThis isNew absent) q
@@ -597,7 +599,7 @@ module _ (g : Given) (c : Checked g) where
     back x b =
         let y = b .has .at in
         has-on x
-        (record { used = x .at .used; roomy = x .at .roomy; few = y .few; recorded = y .recorded; inside = y .inside; order = y .order; rest = y .rest })
+        (record { used = x .at .used; roomy = x .at .roomy; few = y .few; recorded = y .recorded; inside = y .inside; one = y .one; shown = y .shown; order = y .order; rest = y .rest })
         (has-le (b .has))
 
     freed-whole : (later : Bool) (s q : State) → q .half ≡ 0 → freed later s q .half ≡ 0
@@ -621,7 +623,7 @@ module _ (g : Given) (c : Checked g) where
     index-from : (m n lo fuel : ℕ) (ps : IndexParameters) (s : State) → s .half ≡ 0 → AreIndex ps → Has g n lo (shapeOfKept ps) s → weightOf (shapeOfKept ps) + m ≤ worth g s
         → Gives g (Got g AreIndex shapeOfKept 0 m n lo) (indexFrom g T fuel ps s)
     unfolding indexFrom
-    index-from m n lo zero ps s w i x o = stops tt (x .at .inside)
+    index-from m n lo zero ps s w i x o = stops tt (cursor (x .at))
     index-from m n lo (suc fuel) ps s w i x o =
         gives-test (stands g RBrack s) (λ _ _. gives (record { is = i; has = x; whole = w; rise = omega (arith, has-le x); light = omega arith })) λ _ _.
         gives-then (index-parameter _ (end g s) s (x .at .order) (x .at)) λ p q b.
@@ -702,7 +704,7 @@ module _ (g : Given) (c : Checked g) where
     members-from : (m n lo fuel : ℕ) (l : List Placed) (s : State) → Enough (Is member) 0 l → Has g n lo (entries l) s → weightOf (entries l) + m ≤ worth g s
         → Gives g (Got g (Enough (Is member) 0) entries 1 m n lo) (membersFrom g T fuel l s)
     unfolding membersFrom
-    members-from m n lo zero l s e x o = stops tt (x .at .inside)
+    members-from m n lo zero l s e x o = stops tt (cursor (x .at))
     members-from m n lo (suc fuel) l s e x o =
         gives-or c RCurly refl s (x .at) (λ u _. gives (record { is = e; has = has-next x u; whole = refl; rise = omega (arith, has-le x); light = omega arith })) λ _ _.
         gives-then (member-reads _ (end g s) s (x .at .order) (x .at)) λ t q b.
@@ -722,7 +724,7 @@ module _ (g : Given) (c : Checked g) where
         → weightOf (entries (node.pieces l)) + m ≤ worth g s
         → Gives g (Got g (Each IsPiece) (λ (l : List (Placed × Spelling)). entries (node.pieces l)) 0 m n lo) (piecesFrom g T fuel l s)
     unfolding piecesFrom
-    pieces-from m n lo zero l s e x o = stops tt (x .at .inside)
+    pieces-from m n lo zero l s e x o = stops tt (cursor (x .at))
     pieces-from m n lo (suc fuel) l s e x o =
         gives-then (h true _ (end g s) s (x .at .order) (x .at)) λ t q b.
         let p : Placed × Spelling = (t, spelling g q) in
@@ -834,7 +836,7 @@ module _ (g : Given) (c : Checked g) where
         gives-test (stands g LParen s) (λ e _. brackets-give n lo s e l a) λ _ _.
         gives-test (among (NoSubstitutionTemplate ∷ TemplateHead ∷ []) (kind g s)) (λ e _. template-gives n lo s e l a) λ _ _.
         gives-test (class.bindingWord (kind g s)) (λ _ _. named-gives 1 (λ b e l o. makers.reference-is b e o) (worth g s) n lo (first g s) s l (omega arith) (omega arith) a) λ _ _.
-        gives-test (among (Question ∷ Bang ∷ Star ∷ []) (kind g s)) (refusal a tt) λ _ _. stops tt (a .inside)
+        gives-test (among (Question ∷ Bang ∷ Star ∷ []) (kind g s)) (refusal a tt) λ _ _. stops tt (cursor a)
 
     worded-gives : ReadsTree g type (worded g T)
     unfolding worded
@@ -878,7 +880,7 @@ module _ (g : Given) (c : Checked g) where
 
     postfix-from : (m n b fuel : ℕ) (t : Placed) (s : State) → Got g (Good type) itself 1 m n b t s → Gives g (Got g (Good type) itself 1 m n b) (postfixFrom g T b fuel t s)
     unfolding postfixFrom
-    postfix-from m n b zero t s x = stops tt (x .has .at .inside)
+    postfix-from m n b zero t s x = stops tt (cursor (x .has .at))
     postfix-from m n b (suc fuel) t s x =
         gives-test (suffixed g s)
         (λ e _. gives-then (suffix-gives m n b b t s e (omega arith) (omega arith) (x .is .is) (x .has) (x .light)) λ u q d. postfix-from m n b fuel u q d) λ _ _. gives x
@@ -912,7 +914,7 @@ module _ (g : Given) (c : Checked g) where
 
     operator-from : (on : Bool) (fuel : ℕ) → ReadsTree g type (operatorFrom g T on fuel)
     unfolding operatorFrom operand
-    operator-from on zero n lo s l a = stops tt (a .inside)
+    operator-from on zero n lo s l a = stops tt (cursor a)
     operator-from on (suc fuel) n lo s l a =
         gives-test (not (among operators (kind g s))) (λ _ _. gives-test (stands g Infer s) (λ e _. infer-gives on n lo s e l a) λ _ _. postfix-gives n lo s l a) λ e _.
         let isOne = not-false (among operators (kind g s)) e in
@@ -928,7 +930,7 @@ module _ (g : Given) (c : Checked g) where
       parts-from : (m n lo fuel : ℕ) (l : List Placed) (s : State) → Got g (Enough (Is type) 1) entries 1 m n lo l s
           → (stands g mark s ≡ false → weightOf (entries l) + m + 2 ≤ worth g s) → Gives g (Got g (Enough (Is type) 1) entries 1 (m + 4) n lo) (partsFrom g mark part fuel l s)
       unfolding partsFrom
-      parts-from m n lo zero l s x o = stops tt (x .has .at .inside)
+      parts-from m n lo zero l s x o = stops tt (cursor (x .has .at))
       parts-from m n lo (suc fuel) l s x o =
           gives-mark c mark ok s (x .has .at) (λ e _. gives (record { is = x .is; has = x .has; whole = x .whole; rise = x .rise; light = omega (arith, o e) })) λ u _.
           gives-then (reads _ (end g s) (next s) (omega arith) (u .at)) λ t q b.
@@ -988,7 +990,7 @@ module _ (g : Given) (c : Checked g) where
 
 types-read : (g : Given) → Checked g → (n : ℕ) → ReadsTypes g (readType g n)
 unfolding readType
-types-read g c zero = λ on m lo s l a. stops tt (a .inside)
+types-read g c zero = λ on m lo s l a. stops tt (cursor a)
 types-read g c (suc n) = λ on m lo s l a. type-gives g c (readType g n) (types-read g c n) on m lo s l a
 
 begin-at : (g : Given) (c : Checked g) → At g 0 (begin (c .start))
@@ -999,6 +1001,8 @@ begin-at g c =
       few = omega arith;
       recorded = omega arith;
       inside = start-inside g c;
+      one = omega arith;
+      shown = omega (arith, word-inside (g .text) (g .words) (c .start) (c .sound) (c .start));
       order = taken-before g c (c .start) (start-inside g c);
       rest = λ ne. token-spells g c (c .start) ne .some;
     }

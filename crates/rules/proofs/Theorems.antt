@@ -147,8 +147,8 @@ call-refused c e = by (outcome (c .text) (c .words) (c .start) (c .parens) (c .l
         let l = c .lent in
         record { nodesZero = filled-zero (l .nodes); namesZero = filled-zero (l .names); notesZero = filled-zero (l .notes); keyZero = filled-zero (l .key) }
 
--- It refuses under 1 to 9 or 11, at a token of the list, and at 0 for 1 and 11.
-pub refusals : (c : Call) → Bytes (c .text) → {n p h b : ℕ} → left c .answer ≡ refuses n p h b → IsRefusal (length (c .words)) n p
+-- It refuses under one of the numbers: the rules' where reading stood, by token, half and byte, 2 at a word, 1 and 11 at 0.
+pub refusals : (c : Call) → Bytes (c .text) → {n p h b : ℕ} → left c .answer ≡ refuses n p h b → IsRefusal (c .text) (c .words) n p h b
 refusals c bytes e = call-refusal c bytes e
 
 -- Every output is left as long as it was lent.

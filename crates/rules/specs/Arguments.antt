@@ -8,7 +8,7 @@ use Rattle.words.specs.Test.{_and_, among, test}
 use Rattle.words.specs.Kind.{Str, LParen, RParen, LAngle, RAngle, ShiftLeft, LtEq, ShiftLeftEq, Comma, Import}
 use Rattle.keys.specs.Placed as node
 use Rattle.keys.specs.Placed.{Placed, Spelling, Opt, absent, present}
-use Rattle.rules.specs.Refusal.{unsupported}
+use Rattle.rules.specs.Refusal.{importSource, importOptions}
 use Rattle.rules.specs.Notes.{note, emptyArguments}
 use Rattle.rules.specs.State.{Given, State, Result, read, Reader, refused, then, next, halved, kind, stands, onLine, first, end, spelling, turns, expect, make, reportIf}
 use Rattle.rules.specs.Names.{dotsFrom, dotted}
@@ -41,7 +41,7 @@ module _ (g : Given) (T : Reader) where
   -- Primary: an import from the token after its source on; options would begin with a comma
   unfoldable pub importFrom : ℕ → Bool → Spelling → State → Result Placed
   importFrom b isTypeof x s =
-      test (stands g Comma s) (λ _. refused unsupported s) λ _.
+      test (stands g Comma s) (λ _. refused importOptions s) λ _.
       expect g RParen s λ q.
       then (dotsFrom g (turns g) [] q) λ l q.
       then (arguments q) λ ts q.
@@ -53,4 +53,4 @@ module _ (g : Given) (T : Reader) where
       expect g Import s λ q.
       expect g LParen q λ q.
       test (stands g Str q) (λ _. importFrom b isTypeof (spelling g q) (next q)) λ _.
-      refused unsupported q
+      refused importSource q

@@ -2,9 +2,10 @@
 use mathlib.Core.Path.{_≡_}
 use mathlib.Core.Bool.{Bool, true, false}
 use mathlib.Core.List.{List}
-use Prim.Native.Nat.{ℕ, _<_}
+use Prim.Native.Nat.{ℕ, _<_, _≤_}
 use lib.Dec.{T}
 use lib.ListN.{length, take, replicate}
+use Rattle.words.specs.Cursor.{firstByte}
 use Rattle.keys.specs.Limits.{noSpace}
 use Rattle.keys.specs.Form.{Bytes}
 use Rattle.keys.specs.Placed.{Placed}
@@ -63,9 +64,15 @@ pub record AllZero (l : Lent) (r : Called) : Type 0 where
   pub notesZero : r .noteWords ≡ replicate (l .notes) 0
   pub keyZero : r .key ≡ replicate (l .key) 0
 
--- A refusal that a call may meet, by its number and place, where the list has so many tokens: 1 and 11 at 0, the others at a token.
-pub data IsRefusal (tokens : ℕ) : ℕ → ℕ → Type 0 where
-  is-badList : IsRefusal tokens 1 0
-  is-badToken : {p : ℕ} → p < tokens → IsRefusal tokens 2 p
-  is-rules : {n p : ℕ} → T (isRule n) → p < tokens → IsRefusal tokens n p
-  is-noSpace : IsRefusal tokens noSpace 0
+-- Where reading may stand: at a token, of which the first half may be used; the first byte that is not used is in the text, or its end.
+pub record IsCursor (text words : List ℕ) (at half : ℕ) : Type 0 where
+  pub token : at < length words
+  pub one : half ≤ 1
+  pub byte : firstByte words at half ≤ length text
+
+-- A refusal that a call may meet, by its number, token, half and byte: 1 and 11 at 0, 2 at a word, and the others where reading stood.
+pub data IsRefusal (text words : List ℕ) : (number token half byte : ℕ) → Type 0 where
+  is-badList : IsRefusal text words 1 0 0 0
+  is-badToken : {p : ℕ} → p < length words → IsRefusal text words 2 p 0 0
+  is-rules : {n p h : ℕ} → T (isRule n) → IsCursor text words p h → IsRefusal text words n p h (firstByte words p h)
+  is-noSpace : IsRefusal text words noSpace 0 0 0

@@ -11,7 +11,7 @@ use Rattle.words.specs.Cursor.{wordAt}
 use Rattle.words.specs.Ahead.{modifies}
 use Rattle.keys.specs.Placed as node
 use Rattle.keys.specs.Placed.{Placed, Spelling, Opt, absent, present}
-use Rattle.rules.specs.Refusal.{unexpected, unsupported}
+use Rattle.rules.specs.Refusal.{unexpected, parameterModifier, defaultValue, misplacedThis, restNotLast}
 use Rattle.rules.specs.Notes.{note, thisOnConstructor}
 use Rattle.rules.specs.State.{Given, State, Result, read, Reader, refused, then, next, kind, kindAfter, stands, nextOnLine, first, end, spelling, turns, past, expect, optional, make, report}
 use Rattle.rules.specs.Names.{bindingWord}
@@ -58,9 +58,9 @@ freed false s q = q
 -- after a parameter the list ends or goes on; a default, and a comma that follows a rest, are refused
 abbrev pub separated : {A : Type 0} → Given → Bool → State → (State → Result A) → (State → Result A) → Result A
 separated g isRest s close on =
-    test (stands g Eq s) (λ _. refused unsupported s) λ _.
+    test (stands g Eq s) (λ _. refused defaultValue s) λ _.
     test (stands g RParen s) (λ _. close (next s)) λ _.
-    test (isRest and stands g Comma s) (λ _. refused unsupported s) λ _.
+    test (isRest and stands g Comma s) (λ _. refused restNotLast s) λ _.
     expect g Comma s on
 
 -- diagnostic 3 for a constructor's `this`
@@ -72,7 +72,7 @@ module _ (g : Given) (T : Reader) where
   -- Function: one parameter, of which only its name must be there
   unfoldable pub parameter : State → Result Placed
   parameter s =
-      test (stands g Dot3 s and stands g This (past g Dot3 s)) (λ _. refused unsupported (past g Dot3 s)) λ _.
+      test (stands g Dot3 s and stands g This (past g Dot3 s)) (λ _. refused misplacedThis (past g Dot3 s)) λ _.
       then (bindingWord g (past g Dot3 s)) λ x q.
       then (optional g Colon (T true) (past g Question q)) λ t p.
       make g [] (node.parameter (first g s) (end g p) (stands g Dot3 s) x (stands g Question q) t) p
@@ -82,8 +82,8 @@ module _ (g : Given) (T : Reader) where
   parametersFrom this zero l s = refused unexpected s
   parametersFrom this (suc n) l s =
       test (stands g RParen s) (λ _. read (parametersOf this l) (next s)) λ _.
-      test (modified g s) (λ _. refused unsupported s) λ _.
-      test (stands g This s) (λ _. refused unsupported s) λ _.
+      test (modified g s) (λ _. refused parameterModifier s) λ _.
+      test (stands g This s) (λ _. refused misplacedThis s) λ _.
       then (parameter s) λ t q.
       separated g (stands g Dot3 s) q (read (parametersOf this (l ++ (t ∷ [])))) λ p. parametersFrom this n (l ++ (t ∷ [])) p
 

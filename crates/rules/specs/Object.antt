@@ -9,7 +9,7 @@ use Rattle.words.specs.Kind.{NumberLiteral, Str, LCurly, RCurly, LBrack, RBrack
 use Rattle.words.specs.Ahead.{propertyKey, readonlyStart, modifierStart, accessorStart, indexStart}
 use Rattle.keys.specs.Placed as node
 use Rattle.keys.specs.Placed.{Placed, Spelling, PropertyKey, Opt, absent, present, firstOf, endOf, isLiteral, isNoIndex}
-use Rattle.rules.specs.Refusal.{unexpected, unsupported}
+use Rattle.rules.specs.Refusal.{unexpected, memberForm}
 use Rattle.rules.specs.Notes.{note, askedIndex, commaAfterIndex, literalIndex, keywordIndex, notOneIndex}
 use Rattle.rules.specs.State.{Given, State, Result, read, Reader, refused, then, next, kind, kindAfter, stands, onLine, first, end, spelling, turns, past, expect, optional, make, report, reportIf}
 use Rattle.rules.specs.Names.{bindingWord}
@@ -184,10 +184,10 @@ module _ (g : Given) (T : Reader) where
   -- Member: behind a readonly if there is one; computed names, accessors and other modifiers are refused
   unfoldable pub behindReadonly : ℕ → Bool → State → Result Placed
   behindReadonly b readonly s =
-      test (unsupportedHere g s) (λ _. refused unsupported s) λ _.
+      test (unsupportedHere g s) (λ _. refused memberForm s) λ _.
       test (not (stands g LBrack s)) (λ _. withKey b readonly s) λ _.
       test (indexStart (g .words) (s .at)) (λ _. index b readonly s) λ _.
-      refused unsupported s
+      refused memberForm s
 
   -- Member: by what it begins with
   unfoldable pub member : State → Result Placed

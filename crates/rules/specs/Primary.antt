@@ -9,7 +9,7 @@ use Rattle.words.specs.Class as class
 use Rattle.words.specs.Ahead.{mappedStart}
 use Rattle.keys.specs.Placed as node
 use Rattle.keys.specs.Placed.{Placed, absent, present}
-use Rattle.rules.specs.Refusal.{unexpected, unsupported}
+use Rattle.rules.specs.Refusal.{unexpected, prefixMark}
 use Rattle.rules.specs.State.{Given, State, Result, read, Reader, refused, then, next, kind, kindAfter, stands, onLine, nextOnLine, first, end, spelling, expect, optional, make}
 use Rattle.rules.specs.List.{position}
 use Rattle.rules.specs.Function.{subject}
@@ -97,7 +97,7 @@ module _ (g : Given) (T : Reader) where
   unfoldable pub reference : State → Result Placed
   reference s =
       test (class.bindingWord (kind g s)) (λ _. named g T node.reference (first g s) s) λ _.
-      test (among (Question ∷ Bang ∷ Star ∷ []) (kind g s)) (λ _. refused unsupported s) λ _.
+      test (among (Question ∷ Bang ∷ Star ∷ []) (kind g s)) (λ _. refused prefixMark s) λ _.
       refused unexpected s
 
   -- Primary: what a mark or a template opens; if none does, a reference

@@ -6,7 +6,7 @@ use Rattle.words.specs.Kind.{LAngle, RAngle, Eq, Out, Extends, In, Const}
 use Rattle.words.specs.Class as class
 use Rattle.keys.specs.Placed as node
 use Rattle.keys.specs.Placed.{Placed, Opt, absent, present}
-use Rattle.rules.specs.Refusal.{unsupported}
+use Rattle.rules.specs.Refusal.{typeParameterModifier}
 use Rattle.rules.specs.Notes.{note, emptyTypeParameters}
 use Rattle.rules.specs.State.{Given, State, Result, read, Reader, refused, then, next, kindAfter, stands, first, end, optional, make, reportIf}
 use Rattle.rules.specs.Names.{bindingWord}
@@ -20,7 +20,7 @@ module _ (g : Given) (T : Reader) (on : Bool) where
   -- Type parameters: a name, its constraint and its default, if they stand there
   unfoldable pub typeParameter : State → Result Placed
   typeParameter s =
-      test (varies g s) (λ _. refused unsupported s) λ _.
+      test (varies g s) (λ _. refused typeParameterModifier s) λ _.
       then (bindingWord g s) λ x q.
       then (optional g Extends (T on) q) λ t q.
       then (optional g Eq (T on) q) λ d q.

@@ -44,8 +44,8 @@ use Rattle.typekey.specs.declared.taking.Taking.the-variants.{Taken}
 
 -- ---- What a caller of `read` sees
 module _ (c : Call) (bytes : Bytes (c .text)) {z : Called} (seen : z ≡ left c) where
-  -- Demand 1: a refusal has one of the numbers, at a token of the list, or at 0 for 1 and 11.
-  pub refusal-placed : {n i h b : ℕ} → z .answer ≡ refuses n i h b → IsRefusal (length (c .words)) n i
+  -- Demand 1, with W2: a refusal has one of the numbers, at a token of the list with its half and byte, or at 0 for 1 and 11.
+  pub refusal-placed : {n i h b : ℕ} → z .answer ≡ refuses n i h b → IsRefusal (c .text) (c .words) n i h b
   refusal-placed e = rules.refusals c bytes (sym (ap (λ y. y .answer) seen) ∙ e)
 
   -- Every lent output is then all zero.

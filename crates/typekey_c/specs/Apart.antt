@@ -31,7 +31,7 @@ use Rattle.typekey_c.specs.Words.{told, toldBack, toldDifference}
 Numbered : rules.Answer → Type 0
 Numbered a = (n i h b : ℕ) → a ≡ refuses n i h b → 0 < n
 
-above-zero : {tokens n p : ℕ} → call.IsRefusal tokens n p → 0 < n
+above-zero : {text words : List ℕ} {n p h b : ℕ} → call.IsRefusal text words n p h b → 0 < n
 above-zero call.is-badList = omega arith
 above-zero (call.is-badToken l) = omega arith
 above-zero (call.is-rules {n = zero} a l) = absurd a

@@ -1,7 +1,7 @@
 -- What may not stand there; a key; an index signature; another bracket.
 use mathlib.Core.Path.{refl, sym, _∙_}
 use native.Mathlib.Omega.{arith}
-use Rattle.rules.specs.Refusal.{unsupported}
+use Rattle.rules.specs.Refusal.{memberForm}
 use Rattle.marks.specs.State.{view, givenOf}
 use Rattle.marks.proofs.MarkLaws.{is-here, is-not-here, along-same}
 use Rattle.members.proofs.HeadLaws.{behind-unsupported, behind-key, behind-computed, finds-refused, finds-got, finds-from, has-refused, got-index}
@@ -23,8 +23,8 @@ returns c =
     let if1 = c .before .if1 in
     let refused = c .refused in (
       λ O given b.
-          finds-refused unsupported (args .m) (λ z. omega arith) (refused .ensures) (λ T. behind-unsupported (givenOf (args .text .now) (args .words .now) given) T b (args .readonly) (view (args .m) O) (sym (unsupported-here .ensures O given) ∙ if1 .taken)),
-      (rw (refused .ensures) (along-same (pre .0 .2)), has-refused unsupported (args .m) (refused .ensures) (omega arith) (omega arith)),
+          finds-refused memberForm (args .m) (λ z. omega arith) (refused .ensures) (λ T. behind-unsupported (givenOf (args .text .now) (args .words .now) given) T b (args .readonly) (view (args .m) O) (sym (unsupported-here .ensures O given) ∙ if1 .taken)),
+      (rw (refused .ensures) (along-same (pre .0 .2)), has-refused memberForm (args .m) (refused .ensures) (omega arith) (omega arith)),
     )
 
 kind-at-requires : tie.Need-kind-at-requires
@@ -97,9 +97,9 @@ returns-4 c =
     let if3 = c .before .if3 in
     let refused2 = c .refused2 in (
       λ O given b.
-          finds-refused unsupported (args .m) (λ z. omega arith) (refused2 .ensures)
+          finds-refused memberForm (args .m) (λ z. omega arith) (refused2 .ensures)
           (λ T. behind-computed (givenOf (args .text .now) (args .words .now) given) T b (args .readonly) (view (args .m) O) (sym (unsupported-here .ensures O given) ∙ if1 .left) (is-here (args .words .now) (args .m) (kind-at .ensures .0) (if2 .left)) (sym (index-start .ensures) ∙ if3 .left)),
-      (rw (refused2 .ensures) (along-same (pre .0 .2)), has-refused unsupported (args .m) (refused2 .ensures) (omega arith) (omega arith)),
+      (rw (refused2 .ensures) (along-same (pre .0 .2)), has-refused memberForm (args .m) (refused2 .ensures) (omega arith) (omega arith)),
     )
 
 pub behind-readonly-spec : {M : Type 1} → statement M

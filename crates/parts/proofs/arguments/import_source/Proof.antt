@@ -3,6 +3,7 @@ use mathlib.Core.Path.{_≡_, sym, ap, _∙_, subst}
 use Prim.Native.Nat.{_+_, _<_}
 use native.Mathlib.Omega.{arith}
 use lib.ListN.{length}
+use Rattle.rules.specs.Refusal.{unexpected, importSource as oddSource, importOptions}
 use Rattle.words.specs.Kind.{RParen, Str, Comma}
 use Rattle.rules.specs.State as rule
 use Rattle.rules.specs.State.{spelling}
@@ -55,9 +56,9 @@ returns-2 c =
     let kind-at2 = c .before .before .kind-at2 in
     let if2 = c .before .if2 in
     let refused2 = c .refused2 in
-    let is : refused2 .result ≡ refusedAt 4 (nextMark (args .m)) = refused2 .ensures ∙ ap (refusedAt 4) (next .ensures) in (
+    let is : refused2 .result ≡ refusedAt oddSource (nextMark (args .m)) = refused2 .ensures ∙ ap (refusedAt oddSource) (next .ensures) in (
       λ text O given spelt.
-          answer-refused (refused2 .result) 4 (nextMark (args .m)) (λ z. omega arith) is
+          answer-refused (refused2 .result) oddSource (nextMark (args .m)) (λ z. omega arith) is
           (source-other (givenOf text (args .words .now) given) (view (args .m) O) (is-here (args .words .now) (args .m) (kind-at .ensures .0) (if1 .left)) (not-at (args .words .now) Str (next .ensures) (kind-at2 .ensures .0) (if2 .taken))),
       subst (λ (a : Answer). Along (length (args .words .now)) (args .m) (a .m) × (args .m .at < a .m .at + a .why)) (sym is) (along-moved (moved-next (pre .1) (omega (arith, kind-at .ensures .1, if1 .left))), omega arith),
     )
@@ -94,9 +95,9 @@ returns-3 c =
     let refused3 = c .refused3 in
     let name : spell .result ≡ namedMark (nextMark (args .m)) = spell .ensures .0 ∙ ap namedMark (next .ensures) in
     let on : args .m .at + 1 < (length (args .words .now)) = omega (arith, kind-at2 .ensures .1, if2 .left, ap (λ (q : Mark). q .at) (next .ensures)) in
-    let is : refused3 .result ≡ refusedAt 4 (namedMark (nextMark (args .m))) = refused3 .ensures ∙ ap (refusedAt 4) name in (
+    let is : refused3 .result ≡ refusedAt importOptions (namedMark (nextMark (args .m))) = refused3 .ensures ∙ ap (refusedAt importOptions) name in (
       λ text O given spelt.
-          answer-refused (refused3 .result) 4 (namedMark (nextMark (args .m))) (λ z. omega arith) is
+          answer-refused (refused3 .result) importOptions (namedMark (nextMark (args .m))) (λ z. omega arith) is
           (source-comma (givenOf text (args .words .now) given) (view (args .m) O) (is-here (args .words .now) (args .m) (kind-at .ensures .0) (if1 .left)) (is-at (args .words .now) Str (next .ensures) (kind-at2 .ensures .0) (if2 .left)) (is-at (args .words .now) Comma name (kind-at3 .ensures .0) (if3 .taken))),
       subst (λ (a : Answer). Along (length (args .words .now)) (args .m) (a .m) × (args .m .at < a .m .at + a .why)) (sym is) (along-source (args .m) (pre .1) on, omega arith),
     )
@@ -127,9 +128,9 @@ returns-4 c =
     let refused4 = c .refused4 in
     let name : spell .result ≡ namedMark (nextMark (args .m)) = spell .ensures .0 ∙ ap namedMark (next .ensures) in
     let on : args .m .at + 1 < (length (args .words .now)) = omega (arith, kind-at2 .ensures .1, if2 .left, ap (λ (q : Mark). q .at) (next .ensures)) in
-    let is : refused4 .result ≡ refusedAt 3 (namedMark (nextMark (args .m))) = refused4 .ensures ∙ ap (refusedAt 3) name in (
+    let is : refused4 .result ≡ refusedAt unexpected (namedMark (nextMark (args .m))) = refused4 .ensures ∙ ap (refusedAt unexpected) name in (
       λ text O given spelt.
-          answer-refused (refused4 .result) 3 (namedMark (nextMark (args .m))) (λ z. omega arith) is
+          answer-refused (refused4 .result) unexpected (namedMark (nextMark (args .m))) (λ z. omega arith) is
           (source-open (givenOf text (args .words .now) given) (view (args .m) O) (is-here (args .words .now) (args .m) (kind-at .ensures .0) (if1 .left)) (is-at (args .words .now) Str (next .ensures) (kind-at2 .ensures .0) (if2 .left)) (not-at (args .words .now) Comma name (kind-at3 .ensures .0) (if3 .left)) (not-at (args .words .now) RParen name (kind-at4 .ensures .0) (if4 .taken))),
       subst (λ (a : Answer). Along (length (args .words .now)) (args .m) (a .m) × (args .m .at < a .m .at + a .why)) (sym is) (along-source (args .m) (pre .1) on, omega arith),
     )

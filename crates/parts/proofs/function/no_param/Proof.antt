@@ -2,9 +2,7 @@
 use mathlib.Core.Path.{sym, ap, ap₂, _∙_}
 use mathlib.Core.Bool.{Bool}
 use Rattle.words.specs.Kind.{This}
-use Rattle.words.specs.Test.{_or_}
-use Rattle.rules.specs.Refusal.{unsupported}
-use Rattle.parts.specs.Function.{whyIf}
+use Rattle.parts.specs.Function.{whyNone}
 use Rattle.marks.proofs.MarkLaws.{is-here, is-not-here}
 use Rattle.marks.specs.List.{here}
 use borrow.Author.Needs.{needs}
@@ -19,7 +17,7 @@ returns c =
     let args = c .before .before .before .args in
     let modifies = c .before .modifies in
     let if1 = c .if1 in
-    λ text O given. sym (ap (λ (b : Bool). whyIf (b or here (args .words .now) This (args .m)) unsupported) (sym (modifies .ensures) ∙ if1 .taken))
+    λ text O given. sym (ap (λ (b : Bool). whyNone b (here (args .words .now) This (args .m))) (sym (modifies .ensures) ∙ if1 .taken))
 
 kind-at-requires : tie.Need-kind-at-requires
 kind-at-requires c κs = search needs
@@ -31,7 +29,7 @@ returns-2 c =
     let if1 = c .before .before .if1 in
     let kind-at = c .before .kind-at in
     let if2 = c .if2 in
-    λ text O given. sym (ap₂ (λ (a b : Bool). whyIf (a or b) unsupported) (sym (modifies .ensures) ∙ if1 .left) (is-here (args .words .now) (args .m) (kind-at .ensures .0) (if2 .taken)))
+    λ text O given. sym (ap₂ (λ (a b : Bool). whyNone a b) (sym (modifies .ensures) ∙ if1 .left) (is-here (args .words .now) (args .m) (kind-at .ensures .0) (if2 .taken)))
 
 returns-3 : tie.Need-returns-3
 returns-3 c =
@@ -40,7 +38,7 @@ returns-3 c =
     let if1 = c .before .before .if1 in
     let kind-at = c .before .kind-at in
     let if2 = c .if2 in
-    λ text O given. sym (ap₂ (λ (a b : Bool). whyIf (a or b) unsupported) (sym (modifies .ensures) ∙ if1 .left) (is-not-here (args .words .now) (args .m) (kind-at .ensures .0) (if2 .left)))
+    λ text O given. sym (ap₂ (λ (a b : Bool). whyNone a b) (sym (modifies .ensures) ∙ if1 .left) (is-not-here (args .words .now) (args .m) (kind-at .ensures .0) (if2 .left)))
 
 pub no-param-spec : {M : Type 1} → statement M
 no-param-spec = tie.close (tie.spec modifies-requires returns kind-at-requires returns-2 returns-3)

@@ -2,7 +2,7 @@
 use mathlib.Core.Path.{refl, sym, ap, _∙_}
 use mathlib.Core.Bool.{Bool}
 use Rattle.words.specs.Class.{inClass}
-use Rattle.rules.specs.Refusal.{unsupported}
+use Rattle.rules.specs.Refusal.{typeParameterModifier}
 use Rattle.parts.specs.Function.{whyIf}
 use Rattle.marks.proofs.MarkLaws.{is-here, is-not-here}
 use Rattle.parts.proofs.HeadLaws.{varies-is}
@@ -18,7 +18,7 @@ returns c =
     let args = c .before .before .before .args in
     let kind-at = c .before .kind-at in
     let if1 = c .if1 in
-    λ text O given. sym (ap (λ (b : Bool). whyIf b unsupported) (varies-is text (args .words .now) O given (args .m) (is-here (args .words .now) (args .m) (kind-at .ensures .0) (if1 .taken)) refl refl refl))
+    λ text O given. sym (ap (λ (b : Bool). whyIf b typeParameterModifier) (varies-is text (args .words .now) O given (args .m) (is-here (args .words .now) (args .m) (kind-at .ensures .0) (if1 .taken)) refl refl refl))
 
 returns-2 : tie.Need-returns-2
 returns-2 c =
@@ -26,7 +26,7 @@ returns-2 c =
     let kind-at = c .before .before .kind-at in
     let if1 = c .before .if1 in
     let if2 = c .if2 in
-    λ text O given. sym (ap (λ (b : Bool). whyIf b unsupported) (varies-is text (args .words .now) O given (args .m) (is-not-here (args .words .now) (args .m) (kind-at .ensures .0) (if1 .left)) (is-here (args .words .now) (args .m) (kind-at .ensures .0) (if2 .taken)) refl refl))
+    λ text O given. sym (ap (λ (b : Bool). whyIf b typeParameterModifier) (varies-is text (args .words .now) O given (args .m) (is-not-here (args .words .now) (args .m) (kind-at .ensures .0) (if1 .left)) (is-here (args .words .now) (args .m) (kind-at .ensures .0) (if2 .taken)) refl refl))
 
 returns-3 : tie.Need-returns-3
 returns-3 c =
@@ -35,7 +35,7 @@ returns-3 c =
     let if1 = c .before .before .if1 in
     let if2 = c .before .if2 in
     let if3 = c .if3 in
-    λ text O given. sym (ap (λ (b : Bool). whyIf b unsupported) (varies-is text (args .words .now) O given (args .m) (is-not-here (args .words .now) (args .m) (kind-at .ensures .0) (if1 .left)) (is-not-here (args .words .now) (args .m) (kind-at .ensures .0) (if2 .left)) (is-not-here (args .words .now) (args .m) (kind-at .ensures .0) (if3 .taken)) refl))
+    λ text O given. sym (ap (λ (b : Bool). whyIf b typeParameterModifier) (varies-is text (args .words .now) O given (args .m) (is-not-here (args .words .now) (args .m) (kind-at .ensures .0) (if1 .left)) (is-not-here (args .words .now) (args .m) (kind-at .ensures .0) (if2 .left)) (is-not-here (args .words .now) (args .m) (kind-at .ensures .0) (if3 .taken)) refl))
 
 kind-after-requires : tie.Need-kind-after-requires
 kind-after-requires c κs = search needs
@@ -53,7 +53,7 @@ returns-4 c =
     let kind-after = c .before .before .kind-after in
     let in-class = c .before .in-class in
     let if4 = c .if4 in
-    λ text O given. sym (ap (λ (b : Bool). whyIf b unsupported) (varies-is text (args .words .now) O given (args .m) (is-not-here (args .words .now) (args .m) (kind-at .ensures .0) (if1 .left)) (is-not-here (args .words .now) (args .m) (kind-at .ensures .0) (if2 .left)) (is-here (args .words .now) (args .m) (kind-at .ensures .0) (if3 .left)) (ap (inClass 0) (sym (kind-after .ensures .0)) ∙ sym (in-class .ensures) ∙ if4 .taken)))
+    λ text O given. sym (ap (λ (b : Bool). whyIf b typeParameterModifier) (varies-is text (args .words .now) O given (args .m) (is-not-here (args .words .now) (args .m) (kind-at .ensures .0) (if1 .left)) (is-not-here (args .words .now) (args .m) (kind-at .ensures .0) (if2 .left)) (is-here (args .words .now) (args .m) (kind-at .ensures .0) (if3 .left)) (ap (inClass 0) (sym (kind-after .ensures .0)) ∙ sym (in-class .ensures) ∙ if4 .taken)))
 
 returns-5 : tie.Need-returns-5
 returns-5 c =
@@ -65,7 +65,7 @@ returns-5 c =
     let kind-after = c .before .before .kind-after in
     let in-class = c .before .in-class in
     let if4 = c .if4 in
-    λ text O given. sym (ap (λ (b : Bool). whyIf b unsupported) (varies-is text (args .words .now) O given (args .m) (is-not-here (args .words .now) (args .m) (kind-at .ensures .0) (if1 .left)) (is-not-here (args .words .now) (args .m) (kind-at .ensures .0) (if2 .left)) (is-here (args .words .now) (args .m) (kind-at .ensures .0) (if3 .left)) (ap (inClass 0) (sym (kind-after .ensures .0)) ∙ sym (in-class .ensures) ∙ if4 .left)))
+    λ text O given. sym (ap (λ (b : Bool). whyIf b typeParameterModifier) (varies-is text (args .words .now) O given (args .m) (is-not-here (args .words .now) (args .m) (kind-at .ensures .0) (if1 .left)) (is-not-here (args .words .now) (args .m) (kind-at .ensures .0) (if2 .left)) (is-here (args .words .now) (args .m) (kind-at .ensures .0) (if3 .left)) (ap (inClass 0) (sym (kind-after .ensures .0)) ∙ sym (in-class .ensures) ∙ if4 .left)))
 
 pub varies-spec : {M : Type 1} → statement M
 varies-spec =
