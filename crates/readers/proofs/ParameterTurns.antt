@@ -31,10 +31,13 @@ use Rattle.parts.specs.declared.function.Params.{Params}
 use Rattle.readers.proofs.Loops.{ParametersTurn}
 
 -- A parameter may begin: neither a modifier word nor a `this` is there.
-pub why-none : (a b : Bool) {why : ℕ} → why ≡ whyNone a b → why ≡ 0 → (a or b) ≡ false
-why-none true b e n = absurd (let z : parameterModifier ≡ 0 = sym e ∙ n in omega arith)
-why-none false true e n = absurd (let z : misplacedThis ≡ 0 = sym e ∙ n in omega arith)
-why-none false false e n = refl
+pub may-begin : (g : Given) (s : State) {why : ℕ} → why ≡ whyNone (modified g s) (stands g This s) → why ≡ 0 → (modified g s or stands g This s) ≡ false
+may-begin g s {why} e n = by (modified g s) (stands g This s) (sym e ∙ n)
+  where
+    by : (a b : Bool) → whyNone a b ≡ 0 → (a or b) ≡ false
+    by true b z = absurd (let y : parameterModifier ≡ 0 = z in omega arith)
+    by false true z = absurd (let y : misplacedThis ≡ 0 = z in omega arith)
+    by false false z = refl
 
 -- What separates is the same where the kind before it is.
 pub separates-as : {W : List ℕ} {x y : ℕ} (k : ℕ) {q : Mark} {a : Answer} → x ≡ y → Separates W (eqb x k) q a → Separates W (eqb y k) q a

@@ -18,7 +18,7 @@ use Rattle.readers.proofs.Kept.{Kept}
 use Rattle.readers.proofs.Fields.{same-params}
 use Rattle.readers.proofs.MovedLaws.{built-moved}
 use Rattle.readers.proofs.Loops.{ParametersTurn}
-use Rattle.readers.proofs.ParameterTurns.{why-none, separates-as, rest-refused, turn-none, parameters-why, turn-parameter, rest-all}
+use Rattle.readers.proofs.ParameterTurns.{may-begin, separates-as, rest-refused, turn-none, parameters-why, turn-parameter, rest-all}
 use Rattle.readers.proofs.ReadyLaws.{ready}
 use Rattle.parts.proofs.function.Params.all.Reads as all-reads
 use Rattle.parts.proofs.function.Params.refused.Reads as function-Params-refused-reads
@@ -130,7 +130,7 @@ module _ (t : ℕ) where
             rest-refused (refused2 .ensures) (if3 .taken)
             (w .is ∙ parameters-refused _ _ th (w .fuel) (w .list) _
             (is-not-here (args .words .now) (loop .p) (kind-at .ensures .0) (if1 .taken))
-            (why-none _ _ (no-param .ensures text (loop .notes) (args .given)) (if2 .left))
+            (may-begin (givenOf text (args .words .now) (args .given)) (view (loop .p) (loop .notes)) (no-param .ensures text (loop .notes) (args .given)) (if2 .left))
             (param .ensures .0 .refused (if3 .taken))),
         (omega (arith, same-params (refused2 .ensures)), λ z. omega (arith, same-params (refused2 .ensures))),
       )
@@ -197,7 +197,7 @@ module _ (t : ℕ) where
             rest-refused (refused3 .ensures) (if4 .taken)
             (w .is ∙ parameters-stop _ _ th (w .fuel) (w .list) _
             (is-not-here (args .words .now) (loop .p) (kind-at .ensures .0) (if1 .taken))
-            (why-none _ _ (no-param .ensures text (loop .notes) (args .given)) (if2 .left))
+            (may-begin (givenOf text (args .words .now) (args .given)) (view (loop .p) (loop .notes)) (no-param .ensures text (loop .notes) (args .given)) (if2 .left))
             _ (got .is) (separates-as Dot3 (kind-at2 .ensures .0) (separated .ensures .0)) (if4 .taken)),
         (omega (arith, same-params (refused3 .ensures), param .ensures .1 .0), λ z. omega (arith, same-params (refused3 .ensures))),
       )
@@ -230,7 +230,7 @@ module _ (t : ℕ) where
             let got = param .ensures .0 .done (if3 .left) in
             turn-parameter _ _ th r _ w (link .result) (param .result .m) (separated .result) _ _ _ (got .tree)
             (is-not-here (args .words .now) (loop .p) (kind-at .ensures .0) (if1 .taken))
-            (why-none _ _ (no-param .ensures text (loop .notes) (args .given)) (if2 .left))
+            (may-begin (givenOf text (args .words .now) (args .given)) (view (loop .p) (loop .notes)) (no-param .ensures text (loop .notes) (args .given)) (if2 .left))
             (got .is) (separates-as Dot3 (kind-at2 .ensures .0) (separated .ensures .0)) (if4 .left)
             (omega (arith, param .ensures .1 .1 (if3 .left))) (omega (arith, param .ensures .1 .0, param .ensures .1 .1 (if3 .left)))
             (got .stands .is-node)
