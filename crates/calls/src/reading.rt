@@ -159,9 +159,10 @@ fn read_noting(
     let a = ty(text, tokens, &classes, nodes, names, noting, given, true, m);
     let q = a.m;
     if a.why != 0 {
+        let used = q.half;
         let place = Cursor {
             at: q.at,
-            half: q.half,
+            half: used,
         };
         let r = Refused {
             number: a.why,
