@@ -225,7 +225,10 @@ fn refusals_are_sentences() {
         ("A<=B>", "refusal 3 (Unexpected): a token that no rule takes, behind the first half of token 1, byte 2"),
         ("A | ?", "refusal 20 (PrefixMark): a `?`, `!` or `*` before a type is not supported, at token 2, byte 4"),
         ("(a = 1) => A", "refusal 22 (DefaultValue): a default value is not supported, at token 2, byte 3"),
-        ("(a, this) => A", "refusal 23 (MisplacedThis): `this` has to be the first parameter, and not a rest, at token 3, byte 4"),
+        (
+            "(a, this) => A",
+            "refusal 23 (MisplacedThis): `this` has to be the first parameter, and not a rest, at token 3, byte 4",
+        ),
     ];
     for (text, sentence) in cases {
         assert_eq!(refused(text).to_string(), sentence);
