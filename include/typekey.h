@@ -23,8 +23,9 @@ extern "C" {
 
 /* Reads the type that begins at token `start`. options: TYPEKEY_PRESERVE_PARENS or 0; other bits are ignored.
    answer, read:     0, nodes, names, notes, bytes of key, end token, end half, 0
-   answer, refused:  number (1 to 9, or 11), token, half, byte, 0, 0, 0, 0
-   The type ends before the end token; what follows it is not looked at. A refusal's byte is the first one not used. */
+   answer, refused:  number (1 to 3, 5 to 9, 11, 20 to 27 or 31), token, half, byte, 0, 0, 0, 0
+   The type ends before the end token; what follows it is not looked at. A refusal's half is 1 where the first half of its token is
+   used, as the `<` of `<=`, and its byte is the first one not used: the place to point at. 1, 2 and 11 have no half and no byte. */
 void typekey_read(const uint8_t *text, uint64_t text_len, const uint64_t *tokens, uint64_t token_count, uint64_t start, uint64_t options,
                   uint64_t *nodes, uint64_t node_words, uint64_t *names, uint64_t name_words, uint64_t *notes, uint64_t note_words,
                   uint8_t *key, uint64_t key_bytes, uint64_t answer[8]);
@@ -51,7 +52,6 @@ void typekey_differ(const uint8_t *left, uint64_t left_len, const uint8_t *right
 #define TYPEKEY_BAD_LIST 1      /* text or tokens over their limit, no tokens, or start is not the index of one; place 0 */
 #define TYPEKEY_BAD_TOKEN 2     /* a token word is bad, or the last is no Eof; at the first such word */
 #define TYPEKEY_UNEXPECTED 3    /* no rule takes this token */
-#define TYPEKEY_UNSUPPORTED 4   /* a form that is not read, such as { get a(): B } */
 #define TYPEKEY_TOO_DEEP 5      /* more than 64 types open at once */
 #define TYPEKEY_TOO_TALL 6      /* a node higher than 256 */
 #define TYPEKEY_TOO_LONG 7      /* a list of more than 4,095 */
@@ -60,6 +60,16 @@ void typekey_differ(const uint8_t *left, uint64_t left_len, const uint8_t *right
 #define TYPEKEY_BAD_KEY 10      /* not a key, or too long for one; at the first bit of the wrong field */
 #define TYPEKEY_NO_SPACE 11     /* `names`, `key` or `text` is too short; place 0 */
 #define TYPEKEY_MANY_DIFFERENCES 29 /* `list` is too short; side 0, bit 0 */
+/* Forms that are known and not read, each at the token that its line names first. */
+#define TYPEKEY_PREFIX_MARK 20              /* ?, ! or * before a type: ?A */
+#define TYPEKEY_PARAMETER_MODIFIER 21       /* a modifier before a parameter: (readonly a: A) => B */
+#define TYPEKEY_DEFAULT_VALUE 22            /* an = behind a parameter: (a = 1) => A */
+#define TYPEKEY_MISPLACED_THIS 23           /* a this that is not the first parameter, or is a rest: (a, this: A) => B */
+#define TYPEKEY_REST_NOT_LAST 24            /* a comma behind a rest parameter: (...a, b) => A */
+#define TYPEKEY_TYPE_PARAMETER_MODIFIER 25  /* const, in or out before a type parameter: <const T>() => A */
+#define TYPEKEY_IMPORT_SOURCE 26            /* no string as an import's source: import(A) */
+#define TYPEKEY_IMPORT_OPTIONS 27           /* a comma behind an import's source: import("m", { .. }) */
+#define TYPEKEY_MEMBER_FORM 31              /* the [ of a computed name, get, set, or a modifier other than readonly: { get a(): A } */
 
 /* ---- The side of a refusal of typekey_differ: answer[1] ---- */
 #define TYPEKEY_NO_SIDE 0

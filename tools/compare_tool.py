@@ -1,7 +1,7 @@
 #!/usr/bin/env python3
 """Runs the tool (target/bin/typekey) on each stored text that model.py cuts as it is stored, and on texts with object types
 that rules_model.py makes and damages, and compares what it prints as JSON with model.py: key, tree, bytes, members' fields,
-diagnostics and end, or the refusal and its token; brackets dropped and kept.
+diagnostics and end, or the refusal with its token, half and byte; brackets dropped and kept.
 
     compare_tool.py [TOOL]           the last lines say how many texts there were and how many differ
     compare_tool.py --diff [COUNT [TOOL]]   only pairs, so many: the bits that --diff-types and --diff give, against differ_model.py
@@ -21,12 +21,16 @@ sys.path.insert(0, os.path.join(ROOT, "tools"))
 import model
 from differ_model import differences as differ
 from keys_model import items
-from rules_model import Cases, ObjectMaker
+from rules_model import WIDE, Cases, ObjectMaker
+from rules_model import read as placed
 
 TOOL = os.path.join(ROOT, "target", "bin", "typekey")
 PAIRS = 300
 OBJECTS = 20000                                                    # texts made with object types
-REFUSALS = " BadList BadToken Unexpected Unsupported TooDeep TooTall TooLong NoRoom ManyNotes BadKey NoSpace".split(" ")
+REFUSALS = {first + n: name for first, names in (
+    (1, "BadList BadToken Unexpected"), (5, "TooDeep TooTall TooLong NoRoom ManyNotes BadKey NoSpace"),
+    (20, "PrefixMark ParameterModifier DefaultValue MisplacedThis RestNotLast TypeParameterModifier ImportSource ImportOptions"),
+    (31, "MemberForm")) for n, name in enumerate(names.split())}
 TAGS = ("- reference keyword literal parens union intersection array indexed conditional infer operator function constructor mapped "
         "template predicate typeof import tuple optional rest named non-null nullable object").split()
 MEMBERS = "property", "method", "call signature", "construct signature", "index signature"
@@ -87,7 +91,9 @@ def has_members(t):
 def wanted(text, words, parens):
     r = model.read(text, words, 0, parens)
     if r[0] == "refused":
-        return False, r[1], REFUSALS[r[1]], r[2]
+        number, token, half, byte = placed(text, words, 0, parens, WIDE)[0]
+        assert (number, token) == r[1:3]
+        return False, number, REFUSALS[number], token, half, model.unpack(words[token])[4] if number == 2 else byte   # the tool points at a bad token
     return True, r[4].hex(), r[2], r[3], tree(r[1])
 
 
@@ -95,7 +101,7 @@ def got(line):
     o = json.loads(line.decode("latin1"))
     if not o["ok"]:
         r = o["refused"]
-        return False, r["number"], r["name"], r["token"]
+        return False, r["number"], r["name"], r["token"], r["half"], r["byte"]
     notes = [(d["number"], d["first"], d["end"]) for d in o["diagnostics"]]
     return True, o["key"], notes, (o["end"]["token"], o["end"]["half"]), o["tree"]
 
@@ -186,7 +192,8 @@ def main():
     texts = {}
     for text, words in list(stored()) + list(made(OBJECTS)):
         if cut(text) == words:
-            texts[text.replace(b"\n", b"\r")] = words
+            text = text[:-1] if text.endswith(b"\n") else text     # the tool takes no line break that ends a text
+            texts[text.replace(b"\n", b"\r")] = cut(text)
     count = different = members = 0
     for parens in False, True:
         r = subprocess.run([tool, "--batch", "--json"] + ["--parens"] * parens, input=b"".join(t + b"\n" for t in texts),

@@ -25,13 +25,16 @@ LINES = model.ROWS + [
     "A|" * 8200 + "A",                                              # 1
     r"A | b\u0063d",                                                # 2
     "A |", "A<=B>", "(A", "A B",                                    # 3, 3 in a half, 3 at the end, a rest
-    "{ [a]: B }", "{ get a(): B }", "{ static a: B }", "(a = 1) => A", "<const T>() => A",   # 4
-    "(" * 64 + "A",                                                 # 5
+    "(" * 64 + "A", "(" * 63 + "A<<T>() => T>",                     # 5, 5 in a half
     "A" + "!" * 256,                                                # 6
     "A|" * 4095 + "A",                                              # 7
     "[" + "A," * 4000 + "] | [" + "A," * 300 + "]",                 # 8, with the room that args lend
     "A" + "<>|A" * 33,                                              # 9
     '"' + "a" * 800 + '"',                                          # 11, with the space that args lend
+    "? A", "A[*]", "(readonly a: B) => C", "(a = 1) => A",          # 20, 21, 22
+    "(a, this: B) => C", "(...this) => A", "(...a, b) => C",        # 23, 24
+    "<const T>() => A", "import(A)", 'import("a", {})',             # 25, 26, 27
+    "{ [a]: B }", "{ get a(): B }", "{ static a: B }",              # 31
     "<>() => A", "A<>", "new (this) => A", "[A?, B]", "[a: ...B]", "[a: B?]", "[...a?: B]",
     "(infer U extends A<> ? X : Y)",                                # a trial that is undone reports once
     "A<string.b, -1n, `x${typeof import('m').y}z`>[0]!",

@@ -65,6 +65,11 @@ const checks = {
     same('words', texts('.message'), ['Refused: Unexpected (3): cannot stand here.T extends U ? : V\n              ^']);
     same('marked', texts('.editor .refused'), [':']);
     same('no tree', $('.found').hidden, true);
+    type('A<=B>');
+    same('half a token', [texts('.message'), texts('.editor .refused')], [['Refused: Unexpected (3)= cannot stand here.A<=B>\n  ^'], ['=']]);
+    type('(a = 1) => A');
+    same('a form', texts('.message'), ['Refused: DefaultValue (22)A default value is not supported here. A ? behind the name is.(a = 1) => A\n   ^']);
+    same('marked', texts('.editor .refused'), ['=']);
     type('(😀');
     same('marked', texts('.editor .refused'), ['😀']);
     type('`a');
@@ -86,7 +91,7 @@ const checks = {
       ['property a? readonly', 'property "b"', 'method m this <>', 'call signature', 'construct signature', 'index signature [k] readonly', 'index signature []']);
     same('titles', texts('.message b'), ['Diagnostic 1, bytes 24 to 26', 'Diagnostic 12, bytes 83 to 85']);
     type('{ a: A; get b(): B }');
-    same('words', texts('.message'), ['Refused: Unsupported (4)Accessors are not read here: get.{ a: A; get b(): B }\n        ^']);
+    same('words', texts('.message'), ['Refused: MemberForm (31)An accessor is not supported: get.{ a: A; get b(): B }\n        ^']);
     same('marked', texts('.editor .refused'), ['g']);
     type('{ a: A; b: B }');
     $('#more').click();

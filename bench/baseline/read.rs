@@ -409,7 +409,7 @@ impl Reader<'_> {
                 if self.preserve_parens { self.over(first, t, Form::Parens) } else { Ok(t) }
             }
             TEMPLATE | TEMPLATE_HEAD => self.template(),
-            QUESTION | NOT | STAR => self.refuse(4),
+            QUESTION | NOT | STAR => self.refuse(20),
             kind if is_binding(kind) => self.dotted(first, Form::Reference),
             _ => self.refuse(3),
         }
@@ -451,11 +451,11 @@ impl Reader<'_> {
         self.step();
         self.expect(LEFT_PAREN)?;
         if !self.is_at(STRING) {
-            return self.refuse(4);
+            return self.refuse(26);
         }
         let source = self.spelling();
         if self.is_at(COMMA) {
-            return self.refuse(4);
+            return self.refuse(27);
         }
         self.expect(RIGHT_PAREN)?;
         let mut names = Vec::new();
@@ -518,7 +518,7 @@ impl Reader<'_> {
 
     fn mapped(&mut self) -> Read<Tall> {
         if !self.is_mapped_start() {
-            return self.refuse(4);
+            return self.refuse(31);
         }
         let first = self.first();
         self.step();
@@ -631,8 +631,8 @@ impl Reader<'_> {
 
     fn type_parameter(&mut self, conditionals: bool) -> Read<(TypeParameter, u16)> {
         match self.kind() {
-            CONST | IN => return self.refuse(4),
-            OUT if is_binding(self.next_kind()) => return self.refuse(4),
+            CONST | IN => return self.refuse(25),
+            OUT if is_binding(self.next_kind()) => return self.refuse(25),
             _ => {}
         }
         let first = self.first();
@@ -648,12 +648,12 @@ impl Reader<'_> {
         let (mut this, mut all, mut height) = (None, Vec::new(), 0);
         while !self.is_at(RIGHT_PAREN) {
             if self.is_modified(self.at) {
-                return self.refuse(4);
+                return self.refuse(21);
             }
             let mut rest = false;
             if self.is_at(THIS) {
                 if this.is_some() || !all.is_empty() {
-                    return self.refuse(4);
+                    return self.refuse(23);
                 }
                 let first = self.first();
                 self.step();
@@ -666,9 +666,9 @@ impl Reader<'_> {
                 height = height.max(h);
             }
             match self.kind() {
-                EQUAL => return self.refuse(4),
+                EQUAL => return self.refuse(22),
                 RIGHT_PAREN => {}
-                COMMA if rest => return self.refuse(4),
+                COMMA if rest => return self.refuse(24),
                 _ => self.expect(COMMA)?,
             }
         }
@@ -680,7 +680,7 @@ impl Reader<'_> {
         let first = self.first();
         let rest = self.eat(DOTS);
         if rest && self.is_at(THIS) {
-            return self.refuse(4);
+            return self.refuse(23);
         }
         let name = self.binding()?;
         let optional = self.eat(QUESTION);

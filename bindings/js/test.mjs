@@ -63,9 +63,9 @@ test('members', () => {
   assert.deepEqual(m.choices, { key: 'name', optional: true, typeParameters: true, this: true, thisType: false, returns: true });
   assert.deepEqual([i.choices, i.children.map((c) => c.role)], [{ readonly: false, parameter: true }, ['index', 'type']]);
   const refused = (text) => { const { name, token, byte, sentence } = read(text); return [name, token, byte, sentence]; };
-  assert.deepEqual(refused('{ [a]: A }'), ['Unsupported', 1, 2, 'Computed names of members are not read here.']);
-  assert.deepEqual(refused('{ get a(): A }'), ['Unsupported', 1, 2, 'Accessors are not read here: `get`.']);
-  assert.deepEqual(refused('{ readonly static a: A }'), ['Unsupported', 2, 11, 'Modifiers are not read here: `static`.']);
+  assert.deepEqual(refused('{ [a]: A }'), ['MemberForm', 1, 2, 'A computed name is not supported. A name, a string or a number is.']);
+  assert.deepEqual(refused('{ get a(): A }'), ['MemberForm', 1, 2, 'An accessor is not supported: `get`.']);
+  assert.deepEqual(refused('{ readonly static a: A }'), ['MemberForm', 2, 11, 'A modifier other than `readonly` is not supported: `static`.']);
   assert.deepEqual(refused('{ a b: A }'), ['Unexpected', 2, 4, '`b` cannot stand here.']);
   assert.deepEqual(refused('{ [a: string] }').slice(0, 3), ['Unexpected', 6, 14]);
   assert.deepEqual(refused('{ a: A'), ['Unexpected', 4, 6, 'The text ends before the type does.']);
@@ -77,10 +77,6 @@ test('refusals say what and where', () => {
   assert.deepEqual(refused('T extends U ? : V'), ['Unexpected', 4, 0, 14, '`:` cannot stand here.']);
   assert.deepEqual(refused('A<=B>'), ['Unexpected', 1, 1, 2, '`=` cannot stand here.']);
   assert.deepEqual(refused('A |'), ['Unexpected', 2, 0, 3, 'The text ends before the type does.']);
-  assert.equal(refused('import(A)')[4], 'The source of an import has to be a string.');
-  assert.equal(refused('import("m", A)')[4], 'Options of an import are not read here.');
-  assert.equal(refused('(...a, b) => C')[4], 'A rest parameter has to be the last.');
-  assert.equal(refused('<const T>() => C')[4], 'Modifiers are not read here: `const`.');
   assert.deepEqual(refused('\\u0041'), ['BadToken', 0, 0, 0, 'Words with escapes are not read here: `\\u0041`.']);
   assert.deepEqual(refused('('.repeat(64) + 'A'), ['TooDeep', 64, 0, 64, 'Types are nested more than 64 deep here.']);
   assert.equal(refused('keyof '.repeat(300) + 'A')[0], 'TooTall');
@@ -92,6 +88,29 @@ test('refusals say what and where', () => {
   assert.equal(keys.read('A', cut('A'), { start: 2 }).sentence, 'There is no token 2 to start at.');
   assert.equal(keys.read('A', [token(9, 0, 1), token(0, 1, 0)]).sentence, 'Token 0 is not a sound token word: `A`.');
   assert.throws(() => read('"\ud800"'), /surrogate/);
+});
+
+test('forms that are not read', () => {
+  const rows = [
+    ['? A', 20, 'PrefixMark', 0, 0, 'A `?` before a type is not supported. It may stand behind one.'],
+    ['A[*]', 20, 'PrefixMark', 2, 2, 'A `*` before a type is not supported.'],
+    ['(readonly a: B) => C', 21, 'ParameterModifier', 1, 1, 'A modifier before a parameter is not supported: `readonly`.'],
+    ['(a = 1) => A', 22, 'DefaultValue', 2, 3, 'A default value is not supported here. A `?` behind the name is.'],
+    ['(this = A) => B', 22, 'DefaultValue', 2, 6, 'A default value is not supported here. A `?` behind the name is.'],
+    ['(a, this: B) => C', 23, 'MisplacedThis', 3, 4, '`this` has to be the first parameter, and not a rest.'],
+    ['(...this) => A', 23, 'MisplacedThis', 2, 4, '`this` has to be the first parameter, and not a rest.'],
+    ['(...a, b) => C', 24, 'RestNotLast', 3, 5, 'Nothing may follow a rest parameter, not even a comma.'],
+    ['<const T>() => A', 25, 'TypeParameterModifier', 1, 1, '`const` before a type parameter is not supported.'],
+    ['import(A)', 26, 'ImportSource', 2, 7, 'The source of an import has to be a string.'],
+    ['import("a", {})', 27, 'ImportOptions', 3, 10, 'Options of an import are not supported. Only its source is read.'],
+    ['{ set a(b) }', 31, 'MemberForm', 1, 2, 'An accessor is not supported: `set`.'],
+  ];
+  for (const [text, ...want] of rows) {
+    const { number, name, token, half, byte, sentence } = read(text);
+    assert.deepEqual([number, name, token, byte, sentence, half], [...want, 0], text);
+  }
+  const { name, token, half, byte } = read(`${'('.repeat(63)}A<<T>() => T>`);
+  assert.deepEqual([name, token, half, byte], ['TooDeep', 64, 1, 65]);
 });
 
 test('keys come back, and what is none is refused', () => {

@@ -36,11 +36,13 @@ export interface Taken {
 
 export interface ReadRefusal {
   ok: false;
-  number: 1 | 2 | 3 | 4 | 5 | 6 | 7 | 8 | 9 | 11;
+  number: 1 | 2 | 3 | 5 | 6 | 7 | 8 | 9 | 11 | 20 | 21 | 22 | 23 | 24 | 25 | 26 | 27 | 31;
   name: RefusalName;
+  /** The token's index; 0 for BadList and NoSpace, which have no place. */
   token: number;
-  half: number;
-  /** The first byte not yet used; 0 for BadList, BadToken and NoSpace. */
+  /** 1 if its first half was used, as the first `<` of `<<`. */
+  half: 0 | 1;
+  /** The first byte not yet used, which is the one to point at; 0 for BadList, BadToken and NoSpace. */
   byte: number;
   sentence: string;
 }
@@ -77,7 +79,11 @@ export interface DifferRefusal {
 }
 
 export type RefusalName =
-  | 'BadList' | 'BadToken' | 'Unexpected' | 'Unsupported' | 'TooDeep' | 'TooTall' | 'TooLong' | 'NoRoom' | 'ManyNotes' | 'BadKey' | 'NoSpace' | 'ManyDifferences';
+  | 'BadList' | 'BadToken' | 'Unexpected' | 'TooDeep' | 'TooTall' | 'TooLong' | 'NoRoom' | 'ManyNotes' | 'BadKey' | 'NoSpace' | 'ManyDifferences' | FormName;
+
+/** Of a form that is known and not read: 20 to 27 and 31. */
+export type FormName =
+  | 'PrefixMark' | 'ParameterModifier' | 'DefaultValue' | 'MisplacedThis' | 'RestNotLast' | 'TypeParameterModifier' | 'ImportSource' | 'ImportOptions' | 'MemberForm';
 
 export interface Diagnostic {
   number: 1 | 2 | 3 | 4 | 5 | 6 | 7 | 8 | 9 | 10 | 11 | 12;

@@ -153,21 +153,28 @@ const DIAGNOSTICS = [
   ['NotOneIndex', 'An index signature has one parameter. Of several the first is kept.'],
 ];
 
-const REFUSALS = ['', 'BadList', 'BadToken', 'Unexpected', 'Unsupported', 'TooDeep', 'TooTall', 'TooLong', 'NoRoom', 'ManyNotes', 'BadKey', 'NoSpace'];
-REFUSALS[29] = 'ManyDifferences';
+const REFUSALS = {
+  1: 'BadList', 2: 'BadToken', 3: 'Unexpected', 5: 'TooDeep', 6: 'TooTall', 7: 'TooLong', 8: 'NoRoom', 9: 'ManyNotes', 10: 'BadKey', 11: 'NoSpace',
+  20: 'PrefixMark', 21: 'ParameterModifier', 22: 'DefaultValue', 23: 'MisplacedThis', 24: 'RestNotLast', 25: 'TypeParameterModifier',
+  26: 'ImportSource', 27: 'ImportOptions', 29: 'ManyDifferences', 31: 'MemberForm',
+};
 const SIDES = ['neither', 'left', 'right'];
 
-// Why a form that begins at a token is not read. kind: the kind of the token so many places on.
-function unsupported(kind, spelled) {
-  const IMPORT = 98, OPEN = 20, STRING = 4;
-  if (kind(-2) === IMPORT && kind(-1) === OPEN) return 'The source of an import has to be a string.';
-  if (spelled === '[') return 'Computed names of members are not read here.';
-  if (['get', 'set'].includes(spelled)) return `Accessors are not read here: \`${spelled}\`.`;
-  if (['?', '!', '*'].includes(spelled)) return `A type that begins with \`${spelled}\` is not read here.`;
-  if (spelled === '=') return 'Defaults of parameters are not read here.';
-  if (spelled === ',') return kind(-1) === STRING && kind(-3) === IMPORT ? 'Options of an import are not read here.' : 'A rest parameter has to be the last.';
-  return spelled === 'this' ? '`this` can only be the first parameter.' : `Modifiers are not read here: \`${spelled}\`.`;
-}
+// Forms that are not read, by the spelling of their token.
+const FORMS = {
+  20: (spelled) => `A \`${spelled}\` before a type is not supported.${spelled === '*' ? '' : ' It may stand behind one.'}`,
+  21: (spelled) => `A modifier before a parameter is not supported: \`${spelled}\`.`,
+  22: () => 'A default value is not supported here. A `?` behind the name is.',
+  23: () => '`this` has to be the first parameter, and not a rest.',
+  24: () => 'Nothing may follow a rest parameter, not even a comma.',
+  25: (spelled) => `\`${spelled}\` before a type parameter is not supported.`,
+  26: () => 'The source of an import has to be a string.',
+  27: () => 'Options of an import are not supported. Only its source is read.',
+  31: (spelled) => {
+    if (spelled === '[') return 'A computed name is not supported. A name, a string or a number is.';
+    return ['get', 'set'].includes(spelled) ? `An accessor is not supported: \`${spelled}\`.` : `A modifier other than \`readonly\` is not supported: \`${spelled}\`.`;
+  },
+};
 
 const TOO_MUCH = {
   5: 'Types are nested more than 64 deep here.',
@@ -179,18 +186,18 @@ const TOO_MUCH = {
 };
 
 function readSentence(number, token, half, { bytes, words, start }) {
-  const kind = (further) => Number((words[token + further] ?? 0n) >> 56n), spelled = spelledAt(bytes, words[token], half);
+  const spelled = spelledAt(bytes, words[token], half);
   if (number === 1) {
     if (bytes.length > LIMITS.text) return `The text has ${bytes.length} bytes; it may have ${LIMITS.text}.`;
     if (words.length > LIMITS.tokens) return `There are ${words.length} tokens; there may be ${LIMITS.tokens}.`;
     return words.length === 0 ? 'There are no tokens, not even the end.' : `There is no token ${start} to start at.`;
   }
   if (number === 2) {
-    if (kind(0) === 1 && spelled.includes('\\')) return `Words with escapes are not read here: \`${spelled}\`.`;
+    if (words[token] >> 56n === 1n && spelled.includes('\\')) return `Words with escapes are not read here: \`${spelled}\`.`;
     return `Token ${token} is not a sound token word${spelled && `: \`${spelled}\``}.`;
   }
   if (number === 3) return spelled ? `\`${spelled}\` cannot stand here.` : 'The text ends before the type does.';
-  return number === 4 ? unsupported(kind, spelled) : TOO_MUCH[number];
+  return FORMS[number]?.(spelled) ?? TOO_MUCH[number];
 }
 
 function takeBackSentence(number, bit, length) {

@@ -1,5 +1,5 @@
 // Is to pass the TypeScript compiler, and no more: the declarations as a caller meets them.
-import { fromHex, load, toHex, type Diagnostic, type Node } from 'typekey';
+import { fromHex, load, toHex, type Diagnostic, type FormName, type Node } from 'typekey';
 import { cut } from 'typekey/cut';
 
 const keys = await load(new Uint8Array());
@@ -7,7 +7,12 @@ const text = 'A | B & C', a = keys.read(text, cut(text), { preserveParens: true 
 if (a.ok) {
   const key: string = toHex(a.key), notes: Diagnostic[] = a.diagnostics, tags: string[] = [...a.tree].map((n: Node) => n.tag);
   console.log(key, notes, tags, a.end.token);
-} else console.log(a.name, a.byte, a.sentence);
+} else {
+  const form: FormName = 'DefaultValue', half: 0 | 1 = a.half;
+  console.log(a.number === 22, a.name === form, a.token, half, a.byte, a.sentence);
+  // @ts-expect-error: 4 is no refusal
+  console.log(a.number === 4);
+}
 const b = keys.takeBack(fromHex('11 c2 70'));
 console.log(b.ok ? b.tree.root.spellings : b.bit);
 const c = keys.differ(fromHex('11 c2 70'), fromHex('11 c2 50'), { most: 3 });

@@ -122,7 +122,7 @@ class Members(unittest.TestCase):
         self.assertEqual([str(i.get(f)) for f in ("readonly", "has parameter", "name", "index", "type")], ["0", "1", "b'k'", "reference 41..42", "reference 45..46"])
 
     def test_refusals(self):
-        places = {"{ [a]: A }": (4, 1, 2), "{ get a(): A }": (4, 1, 2), "{ readonly static a: A }": (4, 2, 11), "{ a b: A }": (3, 2, 4), "{ [a: string] }": (3, 6, 14),
+        places = {"{ [a]: A }": (31, 1, 2), "{ get a(): A }": (31, 1, 2), "{ readonly static a: A }": (31, 2, 11), "{ a b: A }": (3, 2, 4), "{ [a: string] }": (3, 6, 14),
                   "{ 1n: A }": (3, 1, 2), "{ a: A": (3, 4, 6), "{ a in T }": (3, 2, 4)}
         for text, place in places.items():
             with self.assertRaises(Refused) as x: read(text)
@@ -141,7 +141,9 @@ class Refusals(unittest.TestCase):
         no_rule, no_list = "refusal 3 (Unexpected): a token that no rule takes, ", "refusal 1 (BadList): no tokens or too many, too long a text, or a start that is no token"
         self.sentence(no_rule + "at token 4, byte 14", read, "T extends U ? : V")
         self.sentence(no_rule + "behind the first half of token 1, byte 2", read, "A<=B>")
-        self.sentence("refusal 4 (Unsupported): a form that is not read, at token 1, byte 2", read, "{ get a(): B }")
+        self.sentence("refusal 31 (MemberForm): a computed name, an accessor or a modifier other than `readonly` is not supported, at token 1, byte 2", read, "{ get a(): B }")
+        self.sentence("refusal 22 (DefaultValue): a default value is not supported, at token 2, byte 3", read, "(a = 1) => A")
+        self.sentence("refusal 5 (TooDeep): a 65th type rule open, behind the first half of token 64, byte 65", read, "(" * 63 + "A<<T>() => T>")
         self.sentence("refusal 5 (TooDeep): a 65th type rule open, at token 64, byte 64", read, "(" * 64 + "A")
         self.sentence("refusal 6 (TooTall): a node higher than 256, at token 257, byte 1537", read, "keyof " * 256 + "A")
         self.sentence("refusal 7 (TooLong): a list of more than 4,095 entries, at token 8191, byte 8191", read, "|".join("A" * 4096))
@@ -153,6 +155,16 @@ class Refusals(unittest.TestCase):
         self.sentence(no_list, typekey.read, b"", [])
         self.sentence(no_list, typekey.read, b"a" * 65536, [token(0, 65536, 0)])
         self.sentence(no_list, typekey.read, b"", [0] * 16385)
+
+    def test_forms(self):
+        forms = {"? A": (20, "PrefixMark", 0, 0), "A | ! B": (20, "PrefixMark", 2, 4), "(readonly a: B) => C": (21, "ParameterModifier", 1, 1),
+                 "(this = A) => B": (22, "DefaultValue", 2, 6), "(a, this: B) => C": (23, "MisplacedThis", 3, 4), "(...this) => A": (23, "MisplacedThis", 2, 4),
+                 "(...a, b) => C": (24, "RestNotLast", 3, 5), "<const T>() => A": (25, "TypeParameterModifier", 1, 1), "import(A)": (26, "ImportSource", 2, 7),
+                 'import("a", {})': (27, "ImportOptions", 3, 10), "{ [a]: B }": (31, "MemberForm", 1, 2)}
+        for text, (number, name, at, byte) in forms.items():
+            with self.assertRaises(Refused) as x: read(text)
+            self.assertEqual((x.exception.number, x.exception.why.name, x.exception.token, x.exception.half, x.exception.byte), (number, name, at, 0, byte), text)
+        self.assertEqual(sorted(typekey._WHY), [*range(1, 4), *range(5, 12), *range(20, 28), 29, 31])
 
     def test_rooms(self):
         text, no_space = "A<B, C>", "refusal 11 (NoSpace): no space for the names, the key or the letters"

@@ -79,14 +79,20 @@ def kind_of(spelling: Union[str, bytes]) -> int:
 
 class Why(enum.IntEnum):
     """Why a call was refused, with the refusal's number."""
-    BadList, BadToken, Unexpected, Unsupported, TooDeep, TooTall, TooLong, NoRoom, ManyNotes, BadKey, NoSpace = range(1, 12)
-    ManyDifferences = 29
+    BadList, BadToken, Unexpected = range(1, 4)
+    TooDeep, TooTall, TooLong, NoRoom, ManyNotes, BadKey, NoSpace = range(5, 12)
+    PrefixMark, ParameterModifier, DefaultValue, MisplacedThis, RestNotLast, TypeParameterModifier, ImportSource, ImportOptions = range(20, 28)
+    ManyDifferences, MemberForm = 29, 31
 
 
 _WHY = dict(zip(Why, ("no tokens or too many, too long a text, or a start that is no token", "a word that is no good token", "a token that no rule takes",
-        "a form that is not read", "a 65th type rule open", "a node higher than 256", "a list of more than 4,095 entries",
+        "a 65th type rule open", "a node higher than 256", "a list of more than 4,095 entries",
         "no room for another node", "no record for another diagnostic, or a 33rd one", "a field that is no part of a key",
-        "no space for the names, the key or the letters", "more differences than the list has room for")))
+        "no space for the names, the key or the letters", "a `?`, `!` or `*` before a type is not supported",
+        "a modifier before a parameter is not supported", "a default value is not supported", "`this` has to be the first parameter, and not a rest",
+        "nothing may follow a rest parameter", "`const`, `in` or `out` before a type parameter is not supported",
+        "the source of an import has to be a string", "options of an import are not supported",
+        "more differences than the list has room for", "a computed name, an accessor or a modifier other than `readonly` is not supported")))
 
 
 class Side(enum.IntEnum):

@@ -253,7 +253,7 @@ static uint8_t pool[POOL][LONG];
 static uint64_t pool_len[POOL], pooled;
 
 /* ---- figures, and the sample ---- */
-static uint64_t reads_by[30], backs_by[30], differ_by[30], pairs_found;
+static uint64_t reads_by[32], backs_by[32], differ_by[32], pairs_found;
 static FILE *sample;
 static uint64_t every = 0, written;
 static int four_out(uint64_t v) { for (int i = 0; i < 4; i++) fputc((int)(v >> 8 * i & 255), sample); return 0; }
@@ -501,7 +501,7 @@ static void two_keys(int sampled) {
 
 static void told(const char *what, const uint64_t *by) {
     printf("%s:", what);
-    for (int i = 0; i < 30; i++) if (by[i]) printf("%s %" PRIu64 " answer %d", i ? "," : "", by[i], i);
+    for (int i = 0; i < 32; i++) if (by[i]) printf("%s %" PRIu64 " answer %d", i ? "," : "", by[i], i);
     printf("\n");
 }
 

@@ -108,10 +108,13 @@ static void read_lent(uint64_t start, uint64_t options) {
         return;
     }
     watch_answer(4);
-    must(answer[0] <= 9 || answer[0] == 11, "no refusal of a read");
+    int form = (answer[0] >= TYPEKEY_PREFIX_MARK && answer[0] <= TYPEKEY_IMPORT_OPTIONS) || answer[0] == TYPEKEY_MEMBER_FORM;
+    must((answer[0] <= 9 && answer[0] != 4) || answer[0] == 11 || form, "no refusal of a read");
     must(answer[0] == 1 || answer[0] == 11 ? answer[1] + answer[2] + answer[3] == 0 : answer[1] < tokens.count, "place of a refusal");
     must(answer[0] != 2 || answer[2] + answer[3] == 0, "half or byte of a bad token");
     must(answer[2] <= 1 && answer[3] <= text.count, "half or byte of a refusal");
+    must(answer[2] == 0 || answer[0] == 3 || answer[0] == 5, "half of a refusal");
+    must(answer[0] <= 2 || answer[0] == 11 || answer[3] == (words(&tokens)[answer[1]] & 0xffffffff) + answer[2], "byte of a refusal");
     zero_from(&nodes, 0, "nodes after a refusal"), zero_from(&names, 0, "names after a refusal");
     zero_from(&notes, 0, "notes after a refusal"), zero_from(&key, 0, "key after a refusal");
 }

@@ -1,18 +1,20 @@
 /* members: object types by example, shown by what typekey.h says of nodes and members: each sort of member, diagnostics 8 to 12 and 3, and
-   what is refused. The types in a member are shown as they stand in the text. */
+   what is refused, with a row for each form that is not read. The types in a member are shown as they stand in the text. */
 #include "lent.h"
 
-/* Words, single marks, digits and strings into token words. For these texts alone. */
+/* Words, marks, digits and strings into token words. For these texts alone. */
 static uint64_t cut(const char *s, uint64_t *out) {
     static const struct { const char *spelled; int kind; } FIXED[] = {
-        {"{", 16}, {"}", 17}, {"[", 18}, {"]", 19}, {"(", 20}, {")", 21}, {"<", 22}, {">", 23}, {"?", 29}, {":", 30}, {",", 31}, {";", 32},
-        {"boolean", 66}, {"string", 70}, {"is", 78}, {"readonly", 81}, {"static", 83}, {"extends", 96}, {"new", 100}, {"this", 102}};
+        {"{", 16}, {"}", 17}, {"[", 18}, {"]", 19}, {"(", 20}, {")", 21}, {"<", 22}, {">", 23}, {"<=", 25}, {"?", 29}, {":", 30}, {",", 31}, {";", 32},
+        {"...", 34}, {"=", 36}, {"boolean", 66}, {"string", 70}, {"is", 78}, {"readonly", 81}, {"static", 83}, {"extends", 96}, {"import", 98}, {"in", 99}, {"new", 100}, {"this", 102}};
     uint64_t n = 0, i = 0;
     int line = 0;
     while (s[i]) {
         uint64_t first = i++, kind = TYPEKEY_WORD;
         if (s[first] == ' ' || s[first] == '\n') { line |= s[first] == '\n'; continue; }
         if (s[first] == '\'' || s[first] == '"') { for (kind = TYPEKEY_STRING; s[i++] != s[first];); }
+        else if (strncmp(s + first, "...", 3) == 0) i += 2;
+        else if (strncmp(s + first, "<=", 2) == 0) i++;
         else if (s[first] >= '0' && s[first] <= '9') kind = TYPEKEY_NUMBER;
         else if (s[first] >= 'A' && s[first] <= 'z' && s[first] != '[' && s[first] != ']') while ((s[i] >= 'A' && s[i] <= 'Z') || (s[i] >= 'a' && s[i] <= 'z')) i++;
         for (unsigned k = 0; k < sizeof FIXED / sizeof *FIXED; k++)
@@ -61,7 +63,7 @@ static void show(void) {
     char number[64];
     said[used = 0] = 0;
     if (answer[0]) {
-        snprintf(number, sizeof number, "%d at %d, byte %d", (int)answer[0], (int)answer[1], (int)answer[3]);
+        snprintf(number, sizeof number, "%d at %d, half %d, byte %d", (int)answer[0], (int)answer[1], (int)answer[2], (int)answer[3]);
         say_word(number);
         return;
     }
@@ -97,12 +99,22 @@ static const char *const ROWS[][2] = {
     {"{ readonly [a?: boolean,]: C }", "index readonly a type boolean type C | 8 on 13 to 14 | 9 on 23 to 24 | 11 on 12 to 23"},
     {"{ [a: 'x']: A }", "index a type 'x' type A | 10 on 6 to 9"},
     {"{ a: { b: B } }", "property a type { b: B }"},
-    {"{ [a]: A }", "4 at 1, byte 2"},
-    {"{ get a(): A }", "4 at 1, byte 2"},
-    {"{ readonly static a: A }", "4 at 2, byte 11"},
-    {"{ a b: A }", "3 at 2, byte 4"},
-    {"{ [a: string] }", "3 at 6, byte 14"},
-    {"{ a: A", "3 at 4, byte 6"},
+    {"{ a b: A }", "3 at 2, half 0, byte 4"},
+    {"{ [a: string] }", "3 at 6, half 0, byte 14"},
+    {"{ a: A", "3 at 4, half 0, byte 6"},
+    {"{ a: A<=B> }", "3 at 4, half 1, byte 7"},
+    {"{ a: ? A }", "20 at 3, half 0, byte 5"},
+    {"{ m(readonly a: B) }", "21 at 3, half 0, byte 4"},
+    {"{ m(a = 1) }", "22 at 4, half 0, byte 6"},
+    {"{ m(a, this: B) }", "23 at 5, half 0, byte 7"},
+    {"{ m(...this) }", "23 at 4, half 0, byte 7"},
+    {"{ m(...a, b) }", "24 at 5, half 0, byte 8"},
+    {"{ m<in T>() }", "25 at 3, half 0, byte 4"},
+    {"{ a: import(A) }", "26 at 5, half 0, byte 12"},
+    {"{ a: import('a', {}) }", "27 at 6, half 0, byte 15"},
+    {"{ [a]: A }", "31 at 1, half 0, byte 2"},
+    {"{ get a(): A }", "31 at 1, half 0, byte 2"},
+    {"{ readonly static a: A }", "31 at 2, half 0, byte 11"},
 };
 
 /* The key of what was read comes back with as many nodes and names. */

@@ -12,10 +12,8 @@ pub enum Why {
     BadToken,
     /// A token that no rule takes.
     Unexpected,
-    /// A form that is not read.
-    Unsupported,
     /// A 65th type rule would be open.
-    TooDeep,
+    TooDeep = 5,
     /// A node would be higher than 256.
     TooTall,
     /// A list has more than 4,095 entries.
@@ -28,17 +26,34 @@ pub enum Why {
     BadKey,
     /// The names, the key or the letters do not fit.
     NoSpace,
+    /// A `?`, `!` or `*` before a type.
+    PrefixMark = 20,
+    /// A modifier before a parameter.
+    ParameterModifier,
+    /// A default for a parameter, at its `=`.
+    DefaultValue,
+    /// A `this` that is not the first parameter, or is a rest.
+    MisplacedThis,
+    /// A comma behind a rest parameter.
+    RestNotLast,
+    /// `const`, `in` or `out` before a type parameter.
+    TypeParameterModifier,
+    /// An import from something that is no string.
+    ImportSource,
+    /// A comma behind the source of an import.
+    ImportOptions,
     /// There are more differences than the list has room for.
     ManyDifferences = 29,
+    /// A member with a computed name, an accessor, or a modifier other than `readonly`.
+    MemberForm = 31,
 }
 
 use Why::*;
 
-const WHY: [(Why, &str); 12] = [
+const WHY: [(Why, &str); 20] = [
     (BadList, "no tokens or too many, too long a text, or a start that is no token"),
     (BadToken, "a word that is no good token"),
     (Unexpected, "a token that no rule takes"),
-    (Unsupported, "a form that is not read"),
     (TooDeep, "a 65th type rule open"),
     (TooTall, "a node higher than 256"),
     (TooLong, "a list of more than 4,095 entries"),
@@ -46,16 +61,28 @@ const WHY: [(Why, &str); 12] = [
     (ManyNotes, "no record for another diagnostic, or a 33rd one"),
     (BadKey, "a field that is no part of a key"),
     (NoSpace, "no space for the names, the key or the letters"),
+    (PrefixMark, "a `?`, `!` or `*` before a type is not supported"),
+    (ParameterModifier, "a modifier before a parameter is not supported"),
+    (DefaultValue, "a default value is not supported"),
+    (MisplacedThis, "`this` has to be the first parameter, and not a rest"),
+    (RestNotLast, "nothing may follow a rest parameter"),
+    (TypeParameterModifier, "`const`, `in` or `out` before a type parameter is not supported"),
+    (ImportSource, "the source of an import has to be a string"),
+    (ImportOptions, "options of an import are not supported"),
     (ManyDifferences, "more differences than the list has room for"),
+    (MemberForm, "a computed name, an accessor or a modifier other than `readonly` is not supported"),
 ];
 
-// Where a refusal stands among them.
+// Where a refusal stands among them. The library has no other numbers.
 const fn at(number: usize) -> usize {
-    if number == ManyDifferences as usize { WHY.len() - 1 } else { number - 1 }
+    let mut i = 0;
+    while WHY[i].0 as usize != number {
+        i += 1;
+    }
+    i
 }
 
 impl Why {
-    // The library has no other numbers.
     pub(crate) fn of(number: usize) -> Why {
         WHY[at(number)].0
     }

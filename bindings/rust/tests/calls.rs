@@ -177,9 +177,9 @@ fn what_members_hold() {
 #[test]
 fn members_that_are_refused() {
     let cases = [
-        ("{ [a]: A }", Why::Unsupported, 1, 2),
-        ("{ get a(): A }", Why::Unsupported, 1, 2),
-        ("{ readonly static a: A }", Why::Unsupported, 2, 11),
+        ("{ [a]: A }", Why::MemberForm, 1, 2),
+        ("{ get a(): A }", Why::MemberForm, 1, 2),
+        ("{ readonly static a: A }", Why::MemberForm, 2, 11),
         ("{ a b: A }", Why::Unexpected, 2, 4),
         ("{ [a: string] }", Why::Unexpected, 6, 14),
         ("{ a: A", Why::Unexpected, 4, 6),
@@ -223,7 +223,12 @@ fn refusals_are_sentences() {
     let cases = [
         ("T extends U ? : V", "refusal 3 (Unexpected): a token that no rule takes, at token 4, byte 14"),
         ("A<=B>", "refusal 3 (Unexpected): a token that no rule takes, behind the first half of token 1, byte 2"),
-        ("A | ?", "refusal 4 (Unsupported): a form that is not read, at token 2, byte 4"),
+        ("A | ?", "refusal 20 (PrefixMark): a `?`, `!` or `*` before a type is not supported, at token 2, byte 4"),
+        ("(a = 1) => A", "refusal 22 (DefaultValue): a default value is not supported, at token 2, byte 3"),
+        (
+            "(a, this) => A",
+            "refusal 23 (MisplacedThis): `this` has to be the first parameter, and not a rest, at token 3, byte 4",
+        ),
     ];
     for (text, sentence) in cases {
         assert_eq!(refused(text).to_string(), sentence);
@@ -245,6 +250,29 @@ fn refusals_are_sentences() {
     let too_long = [token(WORD, false, 0, u32::MAX), token(EOF, false, 1, 0)];
     let bad = read(b"a", &too_long, Options::default(), &mut Buffers::default()).unwrap_err();
     assert_eq!(bad.why, Why::BadToken);
+}
+
+#[test]
+fn forms_that_are_not_read() {
+    let cases = [
+        ("? A", Why::PrefixMark, 20, 0, 0),
+        ("A[*]", Why::PrefixMark, 20, 2, 2),
+        ("(readonly a: B) => C", Why::ParameterModifier, 21, 1, 1),
+        ("(this = A) => B", Why::DefaultValue, 22, 2, 6),
+        ("(...this) => A", Why::MisplacedThis, 23, 2, 4),
+        ("(...a, b) => C", Why::RestNotLast, 24, 3, 5),
+        ("<const T>() => A", Why::TypeParameterModifier, 25, 1, 1),
+        ("import(A)", Why::ImportSource, 26, 2, 7),
+        ("import(\"a\", {})", Why::ImportOptions, 27, 3, 10),
+        ("{ set a(b) }", Why::MemberForm, 31, 1, 2),
+    ];
+    for (text, why, number, token, byte) in cases {
+        assert_eq!(refused(text), Refusal { why, place: Place::Token { token, half: false, byte } }, "{text}");
+        assert_eq!(why.number(), number);
+    }
+    let deep = "(".repeat(63) + "A<<T>() => T>";
+    let place = Place::Token { token: 64, half: true, byte: 65 };
+    assert_eq!(refused(&deep), Refusal { why: Why::TooDeep, place });
 }
 
 #[test]

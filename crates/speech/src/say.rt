@@ -14,15 +14,31 @@ pub fn side(out: &mut [u8; 65536], at: usize, number: usize) -> usize
     pick(out, at, b"|left: |right: |", number)
 }
 
-// The name of a refusal.
-pub fn refusal(out: &mut [u8; 65536], at: usize, number: usize) -> usize
+// The name of a form that is not read, from 20 on.
+fn form(out: &mut [u8; 65536], at: usize, number: usize) -> usize
     requires { ⌜ at < 65536 ⌝ }
     ensures { λ r. ⌜ r < 65536 ⌝ }
 {
     pick(
         out,
         at,
-        b"|BadList|BadToken|Unexpected|Unsupported|TooDeep|TooTall|TooLong|NoRoom|ManyNotes|BadKey|NoSpace|",
+        b"PrefixMark|ParameterModifier|DefaultValue|MisplacedThis|RestNotLast|TypeParameterModifier|ImportSource|ImportOptions||||MemberForm|",
+        number,
+    )
+}
+
+// The name of a refusal; 4 and 28 to 30 have none.
+pub fn refusal(out: &mut [u8; 65536], at: usize, number: usize) -> usize
+    requires { ⌜ at < 65536 ⌝ }
+    ensures { λ r. ⌜ r < 65536 ⌝ }
+{
+    if 20 <= number {
+        return form(out, at, number - 20);
+    }
+    pick(
+        out,
+        at,
+        b"|BadList|BadToken|Unexpected||TooDeep|TooTall|TooLong|NoRoom|ManyNotes|BadKey|NoSpace|",
         number,
     )
 }
@@ -35,7 +51,7 @@ fn early(out: &mut [u8; 65536], at: usize, number: usize) -> usize
     pick(
         out,
         at,
-        b"|the text has over 65,535 bytes or over 16,384 tokens|a word with a backslash is not read|no rule takes this token|this form is not read|",
+        b"|the text has over 65,535 bytes or over 16,384 tokens|a word with a backslash is not read|no rule takes this token|",
         number,
     )
 }
@@ -53,11 +69,27 @@ fn late(out: &mut [u8; 65536], at: usize, number: usize) -> usize
     )
 }
 
+// Why a form is not read, from 20 on.
+fn unread(out: &mut [u8; 65536], at: usize, number: usize) -> usize
+    requires { ⌜ at < 65536 ⌝ }
+    ensures { λ r. ⌜ r < 65536 ⌝ }
+{
+    pick(
+        out,
+        at,
+        b"a ?, ! or * before a type is not supported; ? and ! may stand behind it|a modifier before a parameter is not supported|a default value is not supported here; a ? behind the name is|this has to be the first parameter, and not a rest|nothing may follow a rest parameter, not even a comma|const, in or out before a type parameter is not supported|the source of an import has to be a string|options of an import are not supported; only its source is read||||a computed name, an accessor or a modifier other than readonly is not supported|",
+        number,
+    )
+}
+
 // What a refusal means; `ends` where it is at the text's end.
 pub fn why(out: &mut [u8; 65536], at: usize, number: usize, ends: bool) -> usize
     requires { ⌜ at < 65536 ⌝ }
     ensures { λ r. ⌜ r < 65536 ⌝ }
 {
+    if 20 <= number {
+        return unread(out, at, number - 20);
+    }
     if 5 <= number {
         return late(out, at, number - 5);
     }
