@@ -261,6 +261,28 @@ class ObjectMaker(Maker):
             if len(t) <= most: return t
 
 
+class FormMaker(ObjectMaker):
+    """The same with reserved names that are bound, and now and then a form that is not read."""
+    def rare(g, *l): return g.r.choice(l) if g.r.random() < 0.04 else ''
+    def param(g, d):
+        return (g.rare('readonly ', 'public ', 'abstract ', '...') + g.pick('a', 'b', 'as', 'out', *(('this',) if g.r.random() < 0.08 else ())) + g.pick('', '', '?')
+                + g.one('', lambda: ': ' + g.type(d)) + g.rare(' = b', '= 1'))
+    def params(g, d):
+        l = [g.param(d) for _ in range(g.pick(0, 1, 1, 2, 3))]
+        if l and g.r.random() < 0.2: l[g.pick(-1, -1, 0)] = '...' + g.pick('a', 'b', 'this') + g.one('', lambda: ': ' + g.type(d))
+        if g.r.random() < 0.3: l = ['this' + g.one('', lambda: ': ' + g.type(d)) + g.rare(' = A')] + l
+        return '(' + ', '.join(l) + g.pick('', '', '', '', ',') + ')'
+    def type_param(g, d): return g.rare('const ', 'in ', 'out ') + g.pick('T', 'U', 'string', 'never', 'out') + ObjectMaker.type_param(g, d).lstrip('TUstringout')
+    def member(g, d): return g.rare('get ', 'set ', 'static ', 'out ', '[a]', "['k']: B; ") + ObjectMaker.member(g, d)
+    def primary(g, d):
+        x = g.r.random()
+        if x < 0.02: return g.pick('? ', '! ', '* ') + ObjectMaker.primary(g, d)
+        if x < 0.06 and d > 0: return 'import(' + g.one('A', '"m", {}', '"m",', '`m`', lambda: g.type(d - 1)) + ')'
+        return ObjectMaker.primary(g, d)
+    def operator(g, d):
+        return g.pick('', '', '', 'keyof ') + 'infer ' + g.pick('U', 'any', 'string', 'unknown', 'is') + g.one('', lambda: g.line() + ' extends ' + g.type(d - 1)) if g.r.random() < 0.15 else ObjectMaker.operator(g, d)
+
+
 TOKENS = "A B x string null this 1 2n 's' `t` `h${ }m${ }t` { } [ ] ( ) < > << <= <<= | & ? : , ; . ... => = ! - + * @ any abstract as asserts infer is keyof out readonly unique public extends false import in new true typeof void const class".split()
 
 
