@@ -20,7 +20,7 @@ use Rattle.keys.proofs.Makers as makers
 use Rattle.rules.specs.Refusal.{unexpected}
 use Rattle.rules.specs.Notes.{note, askedAfterLabel}
 use Rattle.rules.specs.State.{Given, State, Result, Reader, read, refused, begin, next, halved, kind, kindAfter, stands, onLine, first, end, spelling, turns, past, expect, optional, make, reportIf}
-use Rattle.rules.specs.Names.{name, bindingWord, dotsFrom, dotted}
+use Rattle.rules.specs.Names.{name, bindingWord, reserved, bound, dotsFrom, dotted}
 use Rattle.rules.specs.List.{noEntry, count, position, listFrom, list}
 use Rattle.rules.specs.Arguments.{opens, opened, arguments, named, importFrom, importType}
 use Rattle.rules.specs.TypeParameters.{varies, typeParameter, typeParameters}
@@ -99,6 +99,13 @@ module _ (g : Given) (c : Checked g) where
   binding-gives : ReadsNames g 10 IsSpelling node.spell (bindingWord g)
   unfolding bindingWord
   binding-gives = word-gives class.bindingWord refl
+
+  bound-gives : ReadsNames g 10 IsSpelling node.spell (bound g)
+  unfolding bound
+  bound-gives n lo s l a =
+      gives-then (binding-gives n lo s l a) λ x q b.
+      reported-if (reserved (kind g s)) _ q (read x) b λ q d.
+      gives d
 
   dots-give : (m n lo least fuel : ℕ) (l : List Spelling) (s : State) → Got g (Enough IsSpelling least) node.listedNames 1 m n lo l s
       → Gives g (Got g (Enough IsSpelling least) node.listedNames 1 m n lo) (dotsFrom g fuel l s)
@@ -224,7 +231,7 @@ module _ (g : Given) (c : Checked g) where
     unfolding typeParameter
     type-parameter on n lo s l a =
         gives-test (varies g s) (refusal a tt) λ _ _.
-        gives-then (binding-gives n (first g s) s (omega arith) a) λ x q y.
+        gives-then (bound-gives n (first g s) s (omega arith) a) λ x q y.
         gives-then (optional-gives Extends refl on _ (end g q) q (y .whole) (omega arith) (y .has .at)) λ t p z.
         gives-then (optional-gives Eq refl on _ (end g p) p (z .whole) (omega arith) (z .has .at)) λ d r w.
         made [] (w .whole) (y .has & z .has & w .has) l (omega arith) (omega arith) λ _.
@@ -906,7 +913,7 @@ module _ (g : Given) (c : Checked g) where
     unfolding infer
     infer-gives on n lo s e l a =
         let u = step c (λ k. eqb k Infer) refl s e a in
-        gives-then (binding-gives n (first g s) (next s) (omega arith) (u .at)) λ x q b.
+        gives-then (bound-gives n (first g s) (next s) (omega arith) (u .at)) λ x q b.
         gives-then (trial-gives on _ (end g q) q (b .whole) (omega arith) (b .has .at)) λ t p d.
         made [] (d .whole) (b .has & d .has) l (omega arith) (omega arith) λ _. makers.infer-is (first g s) _ (constraintOf t) (b .is) (d .is)
 

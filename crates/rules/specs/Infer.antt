@@ -7,7 +7,7 @@ use Rattle.words.specs.Kind.{Question, Extends}
 use Rattle.keys.specs.Placed as node
 use Rattle.keys.specs.Placed.{Placed, Opt, absent, present}
 use Rattle.rules.specs.State.{Given, State, Result, read, Reader, then, next, stands, first, end, make}
-use Rattle.rules.specs.Names.{bindingWord}
+use Rattle.rules.specs.Names.{bound}
 
 -- what became of a constraint: none stood there; it was kept; it was put back, since the `?` at that token followed
 pub data Trial : Type 0 where
@@ -32,6 +32,6 @@ module _ (g : Given) (T : Reader) (on : Bool) where
   -- Infer: the name that is bound, and what became of its constraint
   unfoldable pub infer : State → Result Placed
   infer s =
-      then (bindingWord g (next s)) λ x q.
+      then (bound g (next s)) λ x q.
       then (trial q) λ c q.
       make g [] (node.infer (first g s) (end g q) x (constraintOf c)) q

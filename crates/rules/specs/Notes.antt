@@ -50,6 +50,10 @@ keywordIndex = 11
 abbrev pub notOneIndex : ℕ
 notOneIndex = 12
 
+-- a reserved name that is bound
+abbrev pub reservedName : ℕ
+reservedName = 13
+
 -- a diagnostic: its number, first byte and end byte
 pub record Note : Type 0 where
   pub number : ℕ

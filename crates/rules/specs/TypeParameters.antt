@@ -9,7 +9,7 @@ use Rattle.keys.specs.Placed.{Placed, Opt, absent, present}
 use Rattle.rules.specs.Refusal.{typeParameterModifier}
 use Rattle.rules.specs.Notes.{note, emptyTypeParameters}
 use Rattle.rules.specs.State.{Given, State, Result, read, Reader, refused, then, next, kindAfter, stands, first, end, optional, make, reportIf}
-use Rattle.rules.specs.Names.{bindingWord}
+use Rattle.rules.specs.Names.{bound}
 use Rattle.rules.specs.List.{noEntry, list}
 
 -- Type parameters: a modifier stands here, which is refused; an `out` that no name follows is itself the name
@@ -21,7 +21,7 @@ module _ (g : Given) (T : Reader) (on : Bool) where
   unfoldable pub typeParameter : State → Result Placed
   typeParameter s =
       test (varies g s) (λ _. refused typeParameterModifier s) λ _.
-      then (bindingWord g s) λ x q.
+      then (bound g s) λ x q.
       then (optional g Extends (T on) q) λ t q.
       then (optional g Eq (T on) q) λ d q.
       make g [] (node.typeParameter (first g s) (end g q) x t d) q
