@@ -7,13 +7,13 @@ use Rattle.words.specs.Limits.{tallest}
 use Rattle.words.specs.Cursor.{firstByte}
 use Rattle.keys.specs.Placed.{Placed, tree, Spelling}
 use Rattle.keys.specs.Store.{done}
-use Rattle.rules.specs.State.{Result, make, first, end, next, spelling}
+use Rattle.rules.specs.State.{make, first, end, next, spelling}
 use Rattle.marks.specs.State.{view, givenOf, nextMark, namedMark, Spelt, Fine, Under}
 use Rattle.marks.specs.Laid.{runIn, nameRun, Was, was, Stands, Shape}
-use Rattle.marks.specs.Says.{Says, SaysNames}
+use Rattle.marks.specs.Says.{Says}
 use Rattle.marks.specs.Node.{Makes}
 use Rattle.marks.specs.Names.{Speaks}
-use Rattle.marks.proofs.BuiltLaws.{built-none, built-names, built-one, laid-spoken, spoken-from}
+use Rattle.marks.proofs.BuiltLaws.{built-none, built-names, built-one, laid-spoken}
 use Rattle.marks.proofs.Answers.{says-same}
 use Rattle.marks.specs.declared.state.Given.{Given}
 use Rattle.marks.specs.declared.state.Mark.{Mark}
@@ -75,12 +75,3 @@ module _ (W : List ℕ) (given : Given) (b : Begin) (choices : ℕ) (m : Mark) (
 -- A tree stands wherever the cursor goes on.
 pub stands-on : {c high : ℕ} {B : Was} {t : Placed} {m : Mark} {N M O : List ℕ} → Stands c B t high m N M O → Stands c B t high (nextMark m) N M O
 stands-on s = record { is-node = s .is-node; high-is = s .high-is; laid = s .laid }
-
--- Names that were read behind a token that is none.
-pub says-next : {A : Type 0} {R : A → List Spelling} {P : A → Type 0} {x : Result A} {why : ℕ} {m q : Mark} {M M' O : List ℕ}
-    → SaysNames R P x why (nextMark m) q M M' O → SaysNames R P x why m q M M' O
-says-next {m = m} w =
-    record {
-      done = λ z. record { what = w .done z .what; is = w .done z .is; such = w .done z .such; spoken = spoken-from m refl refl refl (w .done z .spoken) };
-      refused = w .refused;
-    }

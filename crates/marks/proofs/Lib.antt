@@ -8,5 +8,6 @@ pub mod ListLaws
 pub mod MarkLaws
 pub mod NodeLaws
 pub mod NameLaws
+pub mod BoundLaws
 pub mod LeafLaws
 pub mod StepLaws

@@ -6,7 +6,7 @@ use Prim.Native.Nat.{ℕ, _≤_, _<_}
 use native.Mathlib.Omega.{arith}
 use borrow.Author.Tests.{le-leb, lt-leb}
 use Rattle.words.specs.Limits.{mostNotes}
-use Rattle.rules.specs.Notes.{Note}
+use Rattle.rules.specs.Notes.{Note, note}
 use Rattle.rules.specs.Refusal.{manyNotes}
 use Rattle.rules.specs.State.{State, Result, refuse, reportIf}
 use Rattle.marks.specs.State.{view, givenOf, notedMark, notesOf}
@@ -44,6 +44,13 @@ noted-one {given} {m} e h =
     (record { at-is = refl; half-is = refl; used-is = refl; named-is = refl; more = omega arith; recorded = omega arith })
 
 -- ---- What was reported
+
+-- The same diagnostic by other numbers that are equal.
+pub reports-as : {holds is : Bool} {given : Given} {number f e f' e' : ℕ} {m : Mark} {O : List ℕ} {a : Answer} {O' : List ℕ} → holds ≡ is → f ≡ f' → e ≡ e'
+    → Reports holds given (note number f e) m O a O' → Reports is given (note number f' e') m O a O'
+reports-as {holds} {is} {given} {number} {f} {e} {f'} {e'} {m} {O} {a} {O'} h i j r =
+    subst (λ (x : Bool). Reports x given (note number f' e') m O a O') h
+    (subst (λ (x : ℕ). Reports holds given (note number x e') m O a O') i (subst (λ (x : ℕ). Reports holds given (note number f x) m O a O') j r))
 
 module _ {holds : Bool} {given : Given} {n : Note} {m : Mark} {O : List ℕ} {a : Answer} {O' : List ℕ} where
   -- A report where the test holds.

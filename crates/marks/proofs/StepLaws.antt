@@ -2,19 +2,19 @@
 use mathlib.Core.Path.{_≡_, refl, sym, ap, _∙_, subst}
 use mathlib.Core.Bool.{Bool, true, false}
 use mathlib.Core.List.{List}
-use Prim.Native.Nat.{ℕ, suc, _<_}
+use Prim.Native.Nat.{ℕ, suc, _≤_, _<_}
 use native.Mathlib.Omega.{arith}
 use Rattle.words.specs.Test.{test}
 use Rattle.words.specs.Cursor.{kindAt}
 use Rattle.keys.specs.Placed.{Spelling}
 use Rattle.keys.specs.Store.{Run}
 use Rattle.rules.specs.State.{Result, read, refuse, next, past}
-use Rattle.marks.specs.State.{view, givenOf, nextMark, pastMark, Inside, Fine, Moved}
-use Rattle.marks.specs.Laid.{Was, BuiltAt, Spoken}
+use Rattle.marks.specs.State.{view, givenOf, nextMark, pastMark, placeOf, Inside, Fine, Moved, Along, Stepped}
+use Rattle.marks.specs.Laid.{Was, Laid, BuiltAt, Spoken}
 use Rattle.marks.specs.Says.{GotNames, SaysNames, SaysNumber}
-use Rattle.marks.specs.Notes.{takenAt, refusedAt}
+use Rattle.marks.specs.Notes.{takenAt, refusedAt, Noted}
 use Rattle.marks.specs.List.{here}
-use Rattle.marks.proofs.MarkLaws.{is-here, is-not-here, moved-next, inside-next}
+use Rattle.marks.proofs.MarkLaws.{is-here, is-not-here, moved-next, inside-next, fine-noted}
 use Rattle.marks.proofs.BuiltLaws.{spoken-from, spoken-to}
 use Rattle.marks.specs.declared.state.Given.{Given}
 use Rattle.marks.specs.declared.state.Mark.{Mark}
@@ -43,6 +43,11 @@ view-past text W given k m O = by (here W k m)
 pub built-at : {B : Was} {t : Run} {k : Kids} {N M O : List ℕ} (m q : Mark) → q .used ≡ m .used → q .named ≡ m .named → q .noted ≡ m .noted
     → BuiltAt B t k m N M O → BuiltAt B t k q N M O
 built-at {B} {t} {k} {N} {M} {O} m q a b c d = rw (a, b, c) d
+
+-- What is laid at a mark is laid at another with the same numbers.
+pub laid-at : {B : Was} {t : Run} {N M O : List ℕ} (m q : Mark) → q .used ≡ m .used → q .named ≡ m .named → q .noted ≡ m .noted
+    → Laid B t (m .used) (m .named) (m .noted) N M O → Laid B t (q .used) (q .named) (q .noted) N M O
+laid-at {B} {t} {N} {M} {O} m q a b c d = rw (a, b, c) d
 
 -- ---- Answers
 
@@ -133,3 +138,30 @@ spoken-between {m = m} {b = b} f g s =
 
 pub fine-moved : {len : ℕ} {given : Given} {m q : Mark} → Fine len given m → Moved len m q → Fine len given q
 fine-moved f h = record { inside = h .inside; half = h .half; roomy = omega (arith, f .roomy, h .used-is); few = omega (arith, f .few, h .named-is, h .ahead); recorded = omega (arith, f .recorded, h .noted-is) }
+
+-- A mark that is fine stays so past names.
+pub fine-along : {len : ℕ} {g : Given} {m q : Mark} → Fine len g m → Along len m q → Fine len g q
+fine-along f h =
+    record {
+      inside = h .inside;
+      half = h .half;
+      roomy = omega (arith, f .roomy, h .used-is);
+      few = omega (arith, f .few, h .few);
+      recorded = omega (arith, f .recorded, h .noted-is);
+    }
+
+-- Names were read.
+pub stepped-along : {len : ℕ} {g : Given} {m : Mark} {a : Answer} → Fine len g m → Along len m (a .m) → Stepped len g m a
+stepped-along f h = record { onward = h .onward; used-is = h .used-is; fine = fine-along f h }
+
+-- Only the cursor moved.
+pub stepped-moved : {len : ℕ} {g : Given} {m : Mark} {a : Answer} → Fine len g m → Moved len m (a .m) → Stepped len g m a
+stepped-moved f h = record { onward = h .onward; used-is = h .used-is; fine = fine-moved f h }
+
+-- A diagnostic was reported behind that.
+pub stepped-noted : {len : ℕ} {g : Given} {m p : Mark} {a : Answer} → Fine len g p → placeOf m ≤ placeOf p → p .used ≡ m .used → Noted g p a → Stepped len g m a
+stepped-noted f h u n = record { onward = omega (arith, n .at-is, n .half-is); used-is = n .used-is ∙ u; fine = fine-noted f n }
+
+-- Behind a step the cursor moved on.
+pub stepped-then : {len : ℕ} {g : Given} {m : Mark} {a b : Answer} → Stepped len g m a → Moved len (a .m) (b .m) → Stepped len g m b
+stepped-then s v = record { onward = omega (arith, s .onward, v .onward); used-is = v .used-is ∙ s .used-is; fine = fine-moved (s .fine) v }

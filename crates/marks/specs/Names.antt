@@ -12,7 +12,7 @@ use Rattle.keys.specs.Placed.{Spelling}
 use Rattle.rules.specs.Refusal.{unexpected}
 use Rattle.rules.specs.Names as names
 use Rattle.rules.specs.State.{Given, State, Result, read, refused, next, kind, spelling, turns}
-use Rattle.marks.specs.State.{AnyGiven, view, givenOf, Declined, Sound, Spelt, Inside, namedMark}
+use Rattle.marks.specs.State.{AnyGiven, view, givenOf, Declined, Sound, Spelt, Inside, Fine, namedMark}
 use Rattle.marks.specs.Laid.{Spoken}
 use Rattle.marks.specs.declared.state.Mark.{Mark}
 use Rattle.marks.specs.declared.state.Answer.{Answer}
@@ -20,6 +20,10 @@ use Rattle.marks.specs.declared.state.Answer.{Answer}
 -- Names may be read from a mark on: the classes of the table, a sound list, the mark within it, and no more names than tokens before it.
 abbrev pub MayName : (classes W : List ℕ) (m : Mark) → Type 0
 MayName classes W m = (classes ≡ classWords) × Sound W × Inside (length W) m × (m .named ≤ m .at)
+
+-- A name may be bound from a mark on: the same, and the mark within what there is.
+abbrev pub MayBind : (classes W : List ℕ) (given : AnyGiven) (m : Mark) → Type 0
+MayBind classes W given m = (classes ≡ classWords) × Sound W × Fine (length W) given m
 
 -- The token at a mark is one name more.
 abbrev pub Speaks : (W : List ℕ) (m : Mark) (M M' : List ℕ) → Type 0

@@ -10,7 +10,7 @@ use Rattle.rules.specs.State as rule
 use Rattle.rules.specs.State.{State, Result, read}
 use Rattle.rules.specs.List.{count}
 use Rattle.marks.specs.State.{view, givenOf, Spelt, Declined}
-use Rattle.marks.specs.Laid.{runIn, runOpt, optBit, runsOpt, IsNode, IsOpt, AllOpt, Was, was, BuiltAt, Stands, Spoken}
+use Rattle.marks.specs.Laid.{runIn, runOpt, optBit, runsOpt, nameRun, IsNode, IsOpt, AllOpt, Was, was, Laid, BuiltAt, Stands, Spoken}
 use Rattle.marks.specs.declared.state.Given.{Given}
 use Rattle.marks.specs.declared.state.Mark.{Mark}
 use Rattle.marks.specs.declared.state.Kids.{Kids}
@@ -93,6 +93,21 @@ noNames a = []
 abbrev pub optNames : Opt Spelling → List Spelling
 optNames absent = []
 optNames (present s) = s ∷ []
+
+-- From m to q one name was read, and nothing but it and diagnostics was written.
+pub record GotBound (x : Result Spelling) (m q : Mark) (M O M' O' : List ℕ) : Type 0 where
+  pub name : Spelling
+  pub is : x ≡ read name (view q O')
+  pub spoken : (B : Was) (t : Run) (N : List ℕ) → Laid B t (m .used) (m .named) (m .noted) N M O → Laid B (t ⊕ nameRun name) (q .used) (q .named) (q .noted) N M' O'
+
+-- It was read, or refused.
+pub record SaysBound (x : Result Spelling) (m : Mark) (M O : List ℕ) (a : Answer) (M' O' : List ℕ) : Type 0 where
+  pub done : a .why ≡ 0 → GotBound x m (a .m) M O M' O'
+  pub refused : Declined x (a .why) (a .m)
+
+-- A rule that begins at a mark and reads one name: what it reads, from any text that is spelled so.
+abbrev pub StartsBound : (rule : rule.Given → State → Result Spelling) (W : List ℕ) (given : Given) (m : Mark) (M O : List ℕ) (a : Answer) (M' O' : List ℕ) → Type 0
+StartsBound rule W given m M O a M' O' = (text : List ℕ) → Spelt text W → SaysBound (rule (givenOf text W given) (view m O)) m M O a M' O'
 
 -- Only the cursor moved: a number was read, or refused.
 pub record SaysNumber (x : Result ℕ) (h : Head) (O : List ℕ) : Type 0 where

@@ -16,6 +16,7 @@ use Rattle.rules.specs.State.{State, Result, refuse}
 use Rattle.marks.specs.declared.state.Given.{Given}
 use Rattle.marks.specs.declared.state.Mark.{Mark}
 use Rattle.marks.specs.declared.state.Kids.{Kids}
+use Rattle.marks.specs.declared.state.Answer.{Answer}
 
 -- ---- The same in the rules' words
 
@@ -135,6 +136,12 @@ pub record Moved (len : ℕ) (m q : Mark) : Type 0 where
   pub used-is : q .used ≡ m .used
   pub named-is : q .named ≡ m .named
   pub noted-is : q .noted ≡ m .noted
+
+-- No node was made on the way from m, and reading stands within what there is.
+pub record Stepped (len : ℕ) (g : Given) (m : Mark) (a : Answer) : Type 0 where
+  pub onward : placeOf m ≤ placeOf (a .m)
+  pub used-is : a .m .used ≡ m .used
+  pub fine : Fine len g (a .m)
 
 -- Children of a node: their numbers and count keep below the nodes in use, and there are nodes if they have a height.
 pub record Under (used : ℕ) (k : Kids) : Type 0 where

@@ -43,6 +43,8 @@ impl Note {
     pub const KEYWORD_INDEX: usize = 11;
 
     pub const NOT_ONE_INDEX: usize = 12;
+
+    pub const RESERVED_NAME: usize = 13;
 }
 
 // How diagnostics stand in the words of a reading: first some for tallies, then a record each.

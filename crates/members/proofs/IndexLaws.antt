@@ -23,17 +23,17 @@ use Rattle.rules.specs.Object as object
 use Rattle.rules.specs.Object.{IndexParameters, reportIndex}
 use Rattle.marks.specs.State.{view, givenOf, nextMark, pastMark, Moved}
 use Rattle.marks.specs.Laid.{runIn, nameRun, allowed, showsChosen, IsNode, node, Was, BuiltAt}
-use Rattle.marks.specs.Says.{GotNames, SaysNames, Any, one}
+use Rattle.marks.specs.Says.{GotNames, SaysNames, SaysBound, Any, one}
 use Rattle.marks.specs.Names.{oneName}
 use Rattle.marks.specs.Notes.{takenAt, refusedAt, Reports, Noted}
 use Rattle.marks.specs.List.{here}
 use Rattle.marks.proofs.Answers.{then-read, then-refused}
-use Rattle.marks.proofs.StepLaws.{view-past}
-use Rattle.marks.proofs.ReportLaws.{reports-done, reports-refused, laid-reported}
+use Rattle.marks.proofs.StepLaws.{view-past, laid-at}
+use Rattle.marks.proofs.ReportLaws.{reports-as, reports-done, reports-refused, laid-reported}
 use Rattle.parts.proofs.PrimaryLaws.{ne-at}
 use Rattle.parts.proofs.ElementLaws.{both-hold, is-true, tag-below, last-word, last-place}
-use Rattle.members.specs.Object.{SaysStep, indexStart, SaysIndex, indexNext, IndexIs, none, one as oneIs, several, keptRun, NotesIndex, indexEnd, EndsIndex, literalWord, noIndexWord}
-use Rattle.members.proofs.StepLaws.{laid-at, reports-as, step-reports, step-stop, step-refused, step-taken}
+use Rattle.members.specs.Object.{SaysStep, indexStart, indexNext, IndexIs, none, one as oneIs, several, keptRun, NotesIndex, indexEnd, EndsIndex, literalWord, noIndexWord}
+use Rattle.members.proofs.StepLaws.{step-reports, step-stop, step-refused, step-taken}
 use Rattle.marks.specs.declared.state.Given.{Given}
 use Rattle.marks.specs.declared.state.Mark.{Mark}
 use Rattle.marks.specs.declared.state.Kids.{Kids}
@@ -51,7 +51,7 @@ behindName g x q =
 module _ (text W : List ℕ) (given : Given) (m : Mark) (M O : List ℕ) where
   -- It has no name.
   pub index-unnamed : {a : Answer} {M' O' : List ℕ} → SaysNames one Any (oneName 0 (givenOf text W given) (view m O)) (a .why) m (a .m) M M' O → (a .why ≡ 0 → ⊥)
-      → SaysIndex (indexStart (givenOf text W given) (view m O)) m M O a M' O'
+      → SaysBound (indexStart (givenOf text W given) (view m O)) m M O a M' O'
   index-unnamed w stop = record { done = λ z. absurd (stop z); refused = λ _. then-refused (behindName (givenOf text W given)) (w .refused stop) }
 
   -- Behind its name, which ends at p, diagnostic 8 is reported for a `?`, and reading stands at a.
@@ -62,7 +62,7 @@ module _ (text W : List ℕ) (given : Given) (m : Mark) (M O : List ℕ) where
     colon q = expect (givenOf text W given) Colon (past (givenOf text W given) Question q) (read (w .what))
 
     -- There is no record for it.
-    pub index-full : (a .why ≡ 0 → ⊥) → SaysIndex (indexStart (givenOf text W given) (view m O)) m M O a M' O'
+    pub index-full : (a .why ≡ 0 → ⊥) → SaysBound (indexStart (givenOf text W given) (view m O)) m M O a M' O'
     index-full stop =
         record {
           done = λ z. absurd (stop z);
@@ -78,9 +78,9 @@ module _ (text W : List ℕ) (given : Given) (m : Mark) (M O : List ℕ) where
           ∙ ap (λ (s : State). expect (givenOf text W given) Colon s (read (w .what))) (sym (view-past text W given Question (a .m) O') ∙ ap (λ (x : Mark). view x O') (sym q-is))
 
       -- No colon stands there.
-      pub index-no-colon : {r : Answer} → here W Colon q ≡ false → r ≡ refusedAt unexpected q → SaysIndex (indexStart (givenOf text W given) (view m O)) m M O r M' O'
+      pub index-no-colon : {r : Answer} → here W Colon q ≡ false → r ≡ refusedAt unexpected q → SaysBound (indexStart (givenOf text W given) (view m O)) m M O r M' O'
       index-no-colon c e =
-          subst (λ (x : Answer). SaysIndex (indexStart (givenOf text W given) (view m O)) m M O x M' O') (sym e)
+          subst (λ (x : Answer). SaysBound (indexStart (givenOf text W given) (view m O)) m M O x M' O') (sym e)
           (record {
             done = λ z. absurd (let i : unexpected ≡ 0 = z in omega arith);
             refused = λ _. index-asked ∙ ap (λ (b : Bool). test b (λ _. read (w .what) (next (view q O'))) (λ _. refuse unexpected (q .at) (q .half))) c;
@@ -88,9 +88,9 @@ module _ (text W : List ℕ) (given : Given) (m : Mark) (M O : List ℕ) where
 
       -- One does.
       pub index-colon : {r : Answer} {n : Mark} {len : ℕ} → here W Colon q ≡ true → r ≡ takenAt n → n ≡ nextMark q → Noted given p a → Moved len (a .m) q
-          → SaysIndex (indexStart (givenOf text W given) (view m O)) m M O r M' O'
+          → SaysBound (indexStart (givenOf text W given) (view m O)) m M O r M' O'
       index-colon c e i k v =
-          subst (λ (x : Answer). SaysIndex (indexStart (givenOf text W given) (view m O)) m M O x M' O') (sym (e ∙ ap takenAt i))
+          subst (λ (x : Answer). SaysBound (indexStart (givenOf text W given) (view m O)) m M O x M' O') (sym (e ∙ ap takenAt i))
           (record {
             done = λ _.
                 record {

@@ -33,7 +33,8 @@ use Rattle.parts.specs.Function.{IsThis, thisBits, thisRun, listScale, thisScal
 use Rattle.parts.proofs.ShapeLaws.{skeleton-maybe, packed-maybe, skeleton-list, packed-list, skeleton-maybeList, packed-maybeList}
 use Rattle.parts.proofs.FunctionLaws.{this-skeleton, this-packed, skeleton-on, joined, some-long, none-long, report-this}
 use Rattle.members.specs.Object.{signatureNames, signatureHead, keyChoices, aSignature, startSort, SaysStep, endsMember, NotesThis, afterThis, signatureChoices, MakesSignature}
-use Rattle.members.proofs.StepLaws.{step-reports, reports-as}
+use Rattle.marks.proofs.ReportLaws.{reports-as}
+use Rattle.members.proofs.StepLaws.{step-reports}
 use Rattle.marks.specs.declared.state.Given.{Given}
 use Rattle.marks.specs.declared.state.Mark.{Mark}
 use Rattle.marks.specs.declared.state.Begin.{Begin}

@@ -20,7 +20,7 @@ use Rattle.rules.specs.List.{count}
 use Rattle.rules.specs.Function.{ThisParameter, Parameters, reportThis}
 use Rattle.rules.specs.Object as object
 use Rattle.rules.specs.Object.{Signature, ofMethod, ofCall, ofConstruct, IndexParameters, noIndex, oneIndex, severalIndex, isConstruct, signatureNode, thisNoted, memberEnd, reportIndex}
-use Rattle.marks.specs.State.{view, givenOf, Sound, Spelt, Fine, placeOf}
+use Rattle.marks.specs.State.{view, givenOf, Sound, Spelt, Fine}
 use Rattle.marks.specs.Laid.{runIn, runOpt, optBit, runs, runsOpt, nameRun, namesRun, IsNode, IsOpt, AllNodes, AllOpt, Was, Laid, BuiltAt, Spoken, Shape}
 use Rattle.marks.specs.Says.{Says, isThere}
 use Rattle.marks.specs.Names.{oneName, MayName}
@@ -131,12 +131,6 @@ pub record SaysStep {A : Type 0} (step : (State → Result A) → Result A) (m :
   pub kept : a .why ≡ 0 → (B : Was) (t : Run) (N M : List ℕ) → Laid B t (m .used) (m .named) (m .noted) N M O → Laid B t (a .m .used) (a .m .named) (a .m .noted) N M O'
   pub refused : (a .why ≡ 0 → ⊥) → (on : State → Result A) → step on ≡ refuse (a .why) (a .m .at) (a .m .half)
 
--- No node was made on the way from m, and reading stands within what there is.
-pub record Stepped (len : ℕ) (g : Given) (m : Mark) (a : Answer) : Type 0 where
-  pub onward : placeOf m ≤ placeOf (a .m)
-  pub used-is : a .m .used ≡ m .used
-  pub fine : Fine len g (a .m)
-
 -- A member's end where reading stands.
 abbrev pub endsMember : rule.Given → State → (State → Result Placed) → Result Placed
 endsMember g s on = memberEnd g s on
@@ -189,21 +183,6 @@ indexStart g s =
     then (oneName 0 g s) λ x q.
     reportIf (stands g Question q) g (note askedIndex (first g q) (end g (next q))) q λ q.
     expect g Colon (past g Question q) (read x)
-
--- From m to q one name was read, and nothing but it and diagnostics was written.
-pub record GotIndex (x : Result Spelling) (m q : Mark) (M O M' O' : List ℕ) : Type 0 where
-  pub name : Spelling
-  pub is : x ≡ read name (view q O')
-  pub spoken : (B : Was) (t : Run) (N : List ℕ) → Laid B t (m .used) (m .named) (m .noted) N M O → Laid B (t ⊕ nameRun name) (q .used) (q .named) (q .noted) N M' O'
-
--- It was read, or refused.
-pub record SaysIndex (x : Result Spelling) (m : Mark) (M O : List ℕ) (a : Answer) (M' O' : List ℕ) : Type 0 where
-  pub done : a .why ≡ 0 → GotIndex x m (a .m) M O M' O'
-  pub refused : (a .why ≡ 0 → ⊥) → x ≡ refuse (a .why) (a .m .at) (a .m .half)
-
--- An index parameter that begins at m, from any text that is spelled so.
-abbrev pub StartsIndex : (W : List ℕ) (given : Given) (m : Mark) (M O : List ℕ) (a : Answer) (M' O' : List ℕ) → Type 0
-StartsIndex W given m M O a M' O' = (text : List ℕ) → Spelt text W → SaysIndex (indexStart (givenOf text W given) (view m O)) m M O a M' O'
 
 -- After an index parameter: at the `]`, or past a comma; diagnostic 9 if that stands before the `]`.
 abbrev pub indexNext : rule.Given → State → (State → Result IndexParameters) → Result IndexParameters

@@ -8,10 +8,11 @@ ghost use Rattle.words.specs.Limits.{longest};
 ghost use Rattle.keys.specs.Limits.{recordWords};
 ghost use Rattle.keys.specs.Holds.{wordAt};
 ghost use Rattle.rules.specs.Object as rule;
-ghost use Rattle.marks.specs.State.{AnyGiven, view, givenOf, Sound, Spelt, Inside, Fine, Moved, Along, Reached, placeOf};
-ghost use Rattle.marks.specs.Names.{MayName};
+ghost use Rattle.marks.specs.State.{AnyGiven, view, givenOf, Sound, Spelt, Inside, Fine, Moved, Along, Stepped, Reached, placeOf};
+ghost use Rattle.marks.specs.Says.{StartsBound};
+ghost use Rattle.marks.specs.Names.{MayName, MayBind};
 ghost use Rattle.marks.specs.Node.{MayPut};
-ghost use Rattle.members.specs.Object.{MayHead, HeadHas, StartsMember, StartsKey, SaysMember, keyChoices, SaysStep, endsMember, MakesMember, propertyChoices, NotesThis, signatureChoices, MakesSignature, withType, Stepped, StartsIndex, indexNext, MayEndIndex, EndsIndex, NotesIndex, indexChoices, literalWord, noIndexWord};
+ghost use Rattle.members.specs.Object.{MayHead, HeadHas, StartsMember, StartsKey, SaysMember, keyChoices, SaysStep, endsMember, MakesMember, propertyChoices, NotesThis, signatureChoices, MakesSignature, withType, indexStart, indexNext, MayEndIndex, EndsIndex, NotesIndex, indexChoices, literalWord, noIndexWord};
 ghost use Rattle.marks.specs.Notes.{Noted};
 use keys::store::choices_at;
 use keys::store::place_at;
@@ -438,8 +439,8 @@ pub fn index_head(
     given: Given,
     m: Mark,
 ) -> Answer
-    requires { ⌜ (now classes ≡ classWords) × Sound (now words) × Fine (length (now words)) given m ⌝ }
-    ensures { λ r. ⌜ StartsIndex (now (words .entry)) given m (now (names .entry)) (now (notes .entry)) r (now (names .exit)) (now (notes .exit)) ⌝ }
+    requires { ⌜ MayBind (now classes) (now words) given m ⌝ }
+    ensures { λ r. ⌜ StartsBound indexStart (now (words .entry)) given m (now (names .entry)) (now (notes .entry)) r (now (names .exit)) (now (notes .exit)) ⌝ }
     ensures { λ r. ⌜ Stepped (length (now (words .entry))) given m r × (m .at < r .m .at + r .why) ⌝ }
 {
     let n = name(words, classes, names, Class::BINDING_WORD, m);

@@ -14,18 +14,22 @@ use Rattle.keys.specs.Placed.{Spelling}
 use Rattle.rules.specs.Refusal.{misplacedThis, typeParameterModifier}
 use Rattle.rules.specs.State as rule
 use Rattle.rules.specs.State.{State, Result, read, refuse, then, past}
+use Rattle.rules.specs.Names.{bound}
 use Rattle.rules.specs.TypeParameters as types
 use Rattle.rules.specs.Function as function
 use Rattle.marks.specs.State.{view, givenOf, pastMark, Moved}
-use Rattle.marks.specs.Says.{SaysNames, Any, one}
+use Rattle.marks.specs.Says.{SaysNames, SaysBound, Any, one}
 use Rattle.marks.specs.Names.{oneName}
+use Rattle.marks.specs.Notes.{refusedAt}
 use Rattle.marks.specs.List.{here}
 use Rattle.parts.specs.Function.{whyIf, typeParameterHead, parameterHead}
 use Rattle.marks.proofs.Answers.{then-read, then-refused}
 use Rattle.marks.proofs.BuiltLaws.{spoken-from, spoken-to}
-use Rattle.marks.proofs.StepLaws.{view-past, names-refused, names-same}
+use Rattle.marks.proofs.BoundLaws.{bound-same}
+use Rattle.marks.proofs.StepLaws.{view-past}
 use Rattle.marks.specs.declared.state.Given.{Given}
 use Rattle.marks.specs.declared.state.Mark.{Mark}
+use Rattle.marks.specs.declared.state.Answer.{Answer}
 
 -- ---- Tests, by what each of their parts answers
 
@@ -52,16 +56,16 @@ module _ (g : rule.Given) (s : State) (why : ℕ) (e : why ≡ whyIf (types.vari
   type-head-refused : (why ≡ 0 → ⊥) → typeParameterHead g s ≡ refuse why (s .at) (s .half)
   type-head-refused n = let w = why-some (types.varies g s) why e n in rw (w .0, w .1)
 
-  type-head-named : why ≡ 0 → typeParameterHead g s ≡ oneName 0 g s
+  type-head-named : why ≡ 0 → typeParameterHead g s ≡ bound g s
   type-head-named n = rw (why-none (types.varies g s) why e n)
 
-module _ (text W O : List ℕ) (given : Given) (m : Mark) (why : ℕ) (e : why ≡ whyIf (types.varies (givenOf text W given) (view m O)) typeParameterModifier) {M M' : List ℕ} where
-  pub type-head-stops : (why ≡ 0 → ⊥) → SaysNames one Any (typeParameterHead (givenOf text W given) (view m O)) why m m M M' O
-  type-head-stops n = names-refused n (type-head-refused (givenOf text W given) (view m O) why e n)
+module _ (text W O : List ℕ) (given : Given) (m : Mark) (why : ℕ) (e : why ≡ whyIf (types.varies (givenOf text W given) (view m O)) typeParameterModifier) {M M' O' : List ℕ} where
+  pub type-head-stops : (why ≡ 0 → ⊥) → SaysBound (typeParameterHead (givenOf text W given) (view m O)) m M O (refusedAt why m) M' O'
+  type-head-stops n = record { done = λ z. absurd (n z); refused = λ _. type-head-refused (givenOf text W given) (view m O) why e n }
 
-  pub type-head-says : {w : ℕ} {q : Mark} → why ≡ 0 → SaysNames one Any (oneName 0 (givenOf text W given) (view m O)) w m q M M' O
-      → SaysNames one Any (typeParameterHead (givenOf text W given) (view m O)) w m q M M' O
-  type-head-says n w = names-same (type-head-named (givenOf text W given) (view m O) why e n) w
+  pub type-head-says : {a : Answer} → why ≡ 0 → SaysBound (bound (givenOf text W given) (view m O)) m M O a M' O'
+      → SaysBound (typeParameterHead (givenOf text W given) (view m O)) m M O a M' O'
+  type-head-says n w = bound-same (type-head-named (givenOf text W given) (view m O) why e n) w
 
 -- ---- A parameter up to its type
 

@@ -11,11 +11,10 @@ use Rattle.keys.specs.Placed as node
 use Rattle.keys.specs.Placed.{Placed, Spelling, spell, join, maybe, absent, present}
 use Rattle.keys.specs.Store.{done, _⊕_}
 use Rattle.rules.specs.State.{Given, State, Result, read, refuse, Reader, then, next, stands, first, end, make}
-use Rattle.rules.specs.Names.{bindingWord}
+use Rattle.rules.specs.Names.{bound}
 use Rattle.rules.specs.Infer.{constraintOf, kept, dropped, trial, infer}
 use Rattle.rules.specs.Postfix as rule
 use Rattle.marks.specs.Laid.{nameRun, runIn, IsNode, node, Shape}
-use Rattle.marks.specs.Names.{oneName}
 use Rattle.parts.specs.Mapped.{closeSquare}
 use Rattle.marks.proofs.Answers.{then-read, then-refused}
 use Rattle.parts.proofs.ShapeLaws.{packed-node}
@@ -59,14 +58,14 @@ module _ (g : Given) (T : Reader) (on : Bool) (s : State) where
       test (on and stands g Question p) (λ _. make g [] (node.infer (first g s) (end g q) x absent) q) λ _.
       make g [] (node.infer (first g s) (end g p) x (present t)) p
 
-  infer-name : infer g T on s ≡ then (oneName 0 g (next s)) (λ x q. then (trial g T on q) λ c p. make g [] (node.infer (first g s) (end g p) x (constraintOf c)) p)
-  unfolding infer bindingWord
+  infer-name : infer g T on s ≡ then (bound g (next s)) (λ x q. then (trial g T on q) λ c p. make g [] (node.infer (first g s) (end g p) x (constraintOf c)) p)
+  unfolding infer
   infer-name = refl
 
-  pub infer-refused : {n i h : ℕ} → oneName 0 g (next s) ≡ refuse n i h → infer g T on s ≡ refuse n i h
+  pub infer-refused : {n i h : ℕ} → bound g (next s) ≡ refuse n i h → infer g T on s ≡ refuse n i h
   infer-refused e = infer-name ∙ then-refused _ e
 
-  module _ {x : Spelling} {q : State} (named : oneName 0 g (next s) ≡ read x q) where
+  module _ {x : Spelling} {q : State} (named : bound g (next s) ≡ read x q) where
     pub infer-none : stands g Extends q ≡ false → infer g T on s ≡ make g [] (node.infer (first g s) (end g q) x absent) q
     unfolding trial
     infer-none e = infer-name ∙ then-read _ named ∙ rw e

@@ -120,7 +120,7 @@ module _ (g : Given) where
 
     pub type-parameter : (on : Bool) (s : State) → types.typeParameter g T on s
         ≡ then (typeParameterHead g s) (λ x q. then (optional g Extends (T on) q) (λ t q. then (optional g Eq (T on) q) (λ d q. make g [] (node.typeParameter (first g s) (end g q) x t d) q)))
-    unfolding types.typeParameter names.bindingWord
+    unfolding types.typeParameter
     type-parameter on s = by (types.varies g s) refl
       where
         by : (b : Bool) → types.varies g s ≡ b → types.typeParameter g T on s

@@ -15,6 +15,7 @@ use Rattle.keys.specs.Store.{Run, done, _⊕_}
 use Rattle.rules.specs.Refusal.{unexpected, parameterModifier, misplacedThis, typeParameterModifier}
 use Rattle.rules.specs.State as rule
 use Rattle.rules.specs.State.{State, Result, Reader, read, refused, then, stands, past}
+use Rattle.rules.specs.Names.{bound}
 use Rattle.rules.specs.List.{count}
 use Rattle.rules.specs.TypeParameters as types
 use Rattle.rules.specs.Function as function
@@ -108,7 +109,7 @@ pub record HeadIs (W : List ℕ) (m : Mark) (h : FunctionHead) : Type 0 where
 
 -- A type parameter up to its constraint.
 abbrev pub typeParameterHead : rule.Given → State → Result Spelling
-typeParameterHead g s = test (types.varies g s) (λ _. refused typeParameterModifier s) (λ _. oneName 0 g s)
+typeParameterHead g s = test (types.varies g s) (λ _. refused typeParameterModifier s) (λ _. bound g s)
 
 -- A parameter up to its type: its name, and whether a `?` stands behind it.
 abbrev pub parameterHead : rule.Given → State → Result (Spelling × Bool)

@@ -9,20 +9,19 @@ use Rattle.keys.specs.Limits.{recordWords}
 use Rattle.keys.specs.Placed as node
 use Rattle.keys.specs.Placed.{Placed, Spelling, absent, present}
 use Rattle.keys.specs.Store.{_⊕_}
-use Rattle.rules.specs.State.{end, make}
-use Rattle.marks.specs.State.{view, givenOf, nextMark, Sound, Spelt, Fine, placeOf}
+use Rattle.rules.specs.State.{next, end, make}
+use Rattle.rules.specs.Names.{bound}
+use Rattle.marks.specs.State.{view, givenOf, Sound, Fine, placeOf}
 use Rattle.marks.specs.Laid.{heights, runIn, nameRun, IsNode, Was, Laid}
-use Rattle.marks.specs.Says.{Says, SaysNames, Any, one}
-use Rattle.marks.specs.Names.{oneName}
+use Rattle.marks.specs.Says.{Says, StartsBound}
 use Rattle.marks.specs.declared.state.Given.{Given}
 use Rattle.marks.specs.declared.state.Mark.{Mark}
 use Rattle.marks.specs.declared.state.Begin.{Begin}
 use Rattle.marks.specs.declared.state.Answer.{Answer}
 
--- The name behind the infer at m: what the rules read, from any text that is spelled so.
-abbrev pub StartsInfer : (W : List ℕ) (m : Mark) (M : List ℕ) (a : Answer) (M' : List ℕ) → Type 0
-StartsInfer W m M a M' =
-    (text O : List ℕ) (given : Given) → Spelt text W → SaysNames one Any (oneName 0 (givenOf text W given) (view (nextMark m) O)) (a .why) m (a .m) M M' O
+-- The name behind the infer at m.
+abbrev pub StartsInfer : (W : List ℕ) (given : Given) (m : Mark) (M O : List ℕ) (a : Answer) (M' O' : List ℕ) → Type 0
+StartsInfer W given m M O a M' O' = StartsBound (λ g s. bound g (next s)) W given m M O a M' O'
 
 -- The node may be put after a trial from m to q, which read a tree of a height.
 abbrev pub MayPutInfer : (W N : List ℕ) (given : Given) (b : Begin) (high : ℕ) (m q : Mark) → Type 0

@@ -17,11 +17,12 @@ ghost use Rattle.rules.specs.Refusal.{typeParameterModifier};
 ghost use Rattle.rules.specs.TypeRule as type;
 ghost use Rattle.rules.specs.TypeParameters as types;
 ghost use Rattle.rules.specs.Function as rule;
-ghost use Rattle.marks.specs.State.{AnyGiven, view, givenOf, nextMark, Sound, Inside, Moved, Along, Under, Reached, placeOf};
-ghost use Rattle.marks.specs.Says.{Any, one, StartsNames};
+ghost use Rattle.marks.specs.State.{AnyGiven, view, givenOf, nextMark, Sound, Inside, Moved, Along, Stepped, Under, Reached, placeOf};
+ghost use Rattle.marks.specs.Says.{StartsBound};
 ghost use Rattle.marks.specs.List.{here, Separates};
 ghost use Rattle.parts.specs.Function.{whyIf, whyNone, HeadIs, typeParameterHead, Opens, freedMark, beforeThis, behindThis, freedUsed, listScale, thisScale, newChoices, callChoices, functionChoices, constructorChoices, MakesFunction, LinksParams, MayPutConstructor, MayPutFunction, StartsParameter};
-ghost use Rattle.marks.specs.Names.{MayName};
+ghost use Rattle.marks.specs.Names.{MayName, MayBind};
+use marks::names::bound;
 use marks::names::name;
 use marks::node::Count;
 use marks::node::Tag;
@@ -199,16 +200,23 @@ pub fn varies(words: &[u64], classes: &[u16; 256], m: Mark) -> usize
 }
 
 // A type parameter up to its constraint.
-pub fn type_param_head(words: &[u64], classes: &[u16; 256], names: &mut [u64], m: Mark) -> Answer
-    requires { ⌜ MayName (now classes) (now words) m ⌝ }
-    ensures { λ r. ⌜ StartsNames one Any typeParameterHead (now (words .entry)) m (now (names .entry)) (r .why) (r .m) (now (names .exit)) ⌝ }
-    ensures { λ r. ⌜ Along (length (now (words .entry))) m (r .m) × (m .at < r .m .at + r .why) ⌝ }
+pub fn type_param_head(
+    words: &[u64],
+    classes: &[u16; 256],
+    names: &mut [u64],
+    notes: &mut [u64; Noting::WORDS],
+    given: Given,
+    m: Mark,
+) -> Answer
+    requires { ⌜ MayBind (now classes) (now words) given m ⌝ }
+    ensures { λ r. ⌜ StartsBound typeParameterHead (now (words .entry)) given m (now (names .entry)) (now (notes .entry)) r (now (names .exit)) (now (notes .exit)) ⌝ }
+    ensures { λ r. ⌜ Stepped (length (now (words .entry))) given m r × (m .at < r .m .at + r .why) ⌝ }
 {
     let why = varies(words, classes, m);
     if why != 0 {
         return Answer::refused(why, m);
     }
-    name(words, classes, names, Class::BINDING_WORD, m)
+    bound(words, classes, names, notes, given, m)
 }
 
 fn bit(holds: bool) -> usize

@@ -2,16 +2,17 @@
 ghost use mathlib.Core.Path.{_≡_};
 ghost use Prim.Native.Nat.{_+_, _≤_, _<_};
 ghost use lib.ListN.{length};
-ghost use Rattle.words.specs.Class.{classWords};
 ghost use Rattle.words.specs.Kind as kind;
 ghost use Rattle.words.specs.Test.{_and_};
-ghost use Rattle.marks.specs.State.{Sound, Along, Reached, placeOf, nextMark};
+ghost use Rattle.marks.specs.State.{Stepped, Reached, placeOf, nextMark};
+ghost use Rattle.marks.specs.Names.{MayBind};
 ghost use Rattle.marks.specs.List.{here};
 ghost use Rattle.parts.specs.Infer.{Infers, MayPutInfer, StartsInfer};
-use marks::names::name;
+use marks::names::bound;
 use marks::node::Tag;
 use marks::node::put;
 use marks::node::put_about;
+use marks::notes::Noting;
 use marks::state::Answer;
 use marks::state::Begin;
 use marks::state::Given;
@@ -19,16 +20,22 @@ use marks::state::Kids;
 use marks::state::Mark;
 use marks::state::kind_at;
 use marks::state::next;
-use words::kind::Class;
 use words::kind::Kind;
 
 // Past infer and the name that is bound.
-pub fn infer_head(words: &[u64], classes: &[u16; 256], names: &mut [u64], m: Mark) -> Answer
-    requires { ⌜ (now classes ≡ classWords) × Sound (now words) × (m .at < length (now words)) × (m .named ≤ m .at) ⌝ }
-    ensures { λ r. ⌜ StartsInfer (now (words .entry)) m (now (names .entry)) r (now (names .exit)) ⌝ }
-    ensures { λ r. ⌜ Along (length (now (words .entry))) (nextMark m) (r .m) ⌝ }
+pub fn infer_head(
+    words: &[u64],
+    classes: &[u16; 256],
+    names: &mut [u64],
+    notes: &mut [u64; Noting::WORDS],
+    given: Given,
+    m: Mark,
+) -> Answer
+    requires { ⌜ MayBind (now classes) (now words) given m × (m .at < length (now words)) ⌝ }
+    ensures { λ r. ⌜ StartsInfer (now (words .entry)) given m (now (names .entry)) (now (notes .entry)) r (now (names .exit)) (now (notes .exit)) ⌝ }
+    ensures { λ r. ⌜ Stepped (length (now (words .entry))) given (nextMark m) r ⌝ }
 {
-    name(words, classes, names, Class::BINDING_WORD, next(m))
+    bound(words, classes, names, notes, given, next(m))
 }
 
 // Whether a constraint that was read up to q is put back: a `?` behind it, where a conditional may stand, undoes the trial.

@@ -8,9 +8,8 @@ use Rattle.words.specs.Kind.{RBrack}
 use Rattle.words.specs.Cursor.{kindAt}
 use Rattle.marks.specs.State.{Fine}
 use Rattle.marks.proofs.MarkLaws.{is-here, is-not-here, kind-inside, moved-same}
-use Rattle.marks.proofs.StepLaws.{moved-taken}
+use Rattle.marks.proofs.StepLaws.{moved-taken, stepped-noted, stepped-then}
 use Rattle.marks.proofs.LeafLaws.{fine-next}
-use Rattle.members.proofs.StepLaws.{stepped-noted, stepped-then}
 use Rattle.members.proofs.IndexLaws.{end-full, end-no-colon, end-colon}
 use Rattle.marks.specs.declared.state.Mark.{Mark}
 use borrow.Author.Needs.{needs}

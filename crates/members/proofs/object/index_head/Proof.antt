@@ -7,8 +7,8 @@ use lib.ListN.{length}
 use Rattle.words.specs.Kind.{Question}
 use Rattle.words.specs.Cursor.{endByte}
 use Rattle.marks.proofs.MarkLaws.{is-here, is-not-here, fine-noted}
-use Rattle.marks.proofs.StepLaws.{moved-then, moved-taken, inside-moved}
-use Rattle.members.proofs.StepLaws.{reports-as, fine-along, stepped-along, stepped-noted, stepped-then}
+use Rattle.marks.proofs.StepLaws.{moved-then, moved-taken, inside-moved, fine-along, stepped-along, stepped-noted, stepped-then}
+use Rattle.marks.proofs.ReportLaws.{reports-as}
 use Rattle.members.proofs.IndexLaws.{index-unnamed, index-full, index-no-colon, index-colon}
 use Rattle.marks.specs.declared.state.Mark.{Mark}
 use borrow.Author.Needs.{needs}

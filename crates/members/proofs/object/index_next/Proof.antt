@@ -8,7 +8,8 @@ use Rattle.words.specs.Kind.{RBrack}
 use Rattle.marks.specs.State.{Fine}
 use Rattle.marks.proofs.MarkLaws.{is-here, is-not-here, moved-same}
 use Rattle.marks.proofs.LeafLaws.{fine-next}
-use Rattle.members.proofs.StepLaws.{reports-as, stepped-moved, stepped-noted}
+use Rattle.marks.proofs.StepLaws.{stepped-moved, stepped-noted}
+use Rattle.marks.proofs.ReportLaws.{reports-as}
 use Rattle.members.proofs.IndexLaws.{next-closes, next-stops, next-goes}
 use Rattle.marks.specs.declared.state.Mark.{Mark}
 use borrow.Author.Needs.{needs}
