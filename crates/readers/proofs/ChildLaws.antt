@@ -1,7 +1,7 @@
 -- The children of a node, as any reader builds them: one tree, names, a type that may be absent.
 use mathlib.Core.Path.{_≡_, refl, sym, ap, _∙_, subst}
 use mathlib.Core.Bool.{true, false}
-use mathlib.Core.List.{List, []}
+use mathlib.Core.List.{List, [], _∷_}
 use Prim.Native.Nat.{ℕ, _+_, max}
 use native.Mathlib.Omega.{arith}
 use lib.ListN.{length}
@@ -12,14 +12,15 @@ use Rattle.keys.proofs.StoreLaws.{firstKid-join, join-done}
 use Rattle.rules.specs.State as rule
 use Rattle.rules.specs.State.{Given, State, Result, refuse, next, stands, optional, make}
 use Rattle.marks.specs.State.{view}
-use Rattle.marks.specs.Laid.{heights, runIn, namesRun, Was, was, wasAt, Laid, Built, BuiltAt, Stands, Spoken, Shape}
-use Rattle.marks.specs.Says.{Says, SaysChild, SaysOption}
+use Rattle.marks.specs.Laid.{heights, runIn, nameRun, namesRun, Was, was, wasAt, Laid, Built, BuiltAt, Stands, Spoken, Shape}
+use Rattle.marks.specs.Says.{Says, GotBound, SaysChild, SaysOption}
 use Rattle.marks.specs.Node.{Links}
 use Rattle.marks.proofs.Answers.{then-read, then-refused}
 use Rattle.parts.proofs.RingLaws.{optional-none, optional-some}
 use Rattle.marks.proofs.RunLaws.{heights-join, heights-names, first-names}
 use Rattle.marks.proofs.LaidLaws.{laid-on}
 use Rattle.marks.proofs.BuiltLaws.{built-names, built-one, laid-spoken}
+use Rattle.marks.proofs.BoundLaws.{laid-bound}
 use Rattle.marks.proofs.LeafLaws.{noKids, oneKid}
 use Rattle.marks.specs.declared.state.Mark.{Mark}
 use Rattle.marks.specs.declared.state.Kids.{Kids}
@@ -38,6 +39,11 @@ built-child e s = built-as e (built-one [] (s .is-node) (s .high-is) (s .laid))
 -- Names alone were read.
 pub built-spoken : {l : List Spelling} {k : Kids} {m q : Mark} {N M M' O : List ℕ} → k ≡ noKids → Spoken l m q M M' → BuiltAt (was m N M O) (namesRun l) k q N M' O
 built-spoken {l} {N = N} {O = O} e s = built-as e (built-names l (laid-spoken N O s))
+
+-- A name that is bound was read.
+pub built-bound : {x : Result Spelling} {k : Kids} {m q : Mark} {N M O M' O' : List ℕ} → k ≡ noKids → (w : GotBound x m q M O M' O')
+    → BuiltAt (was m N M O) (nameRun (w .name)) k q N M' O'
+built-bound {N = N} e w = built-as e (built-names (w .name ∷ []) (laid-bound N w))
 
 -- A type was read behind what is built, and linked.
 pub child-read : {B : Was} {t : Run} {x : Result Placed} {a : Answer} {k k' : Kids} (m : Mark) {N M O N' M' O' N'' : List ℕ}

@@ -24,13 +24,14 @@ use Rattle.rules.specs.Object as object
 use Rattle.rules.specs.Object.{IndexParameter, IndexParameters, noIndex, oneIndex, severalIndex, withOne, hasOne, memberEnd}
 use Rattle.marks.specs.State.{view, givenOf, Under}
 use Rattle.marks.specs.Laid.{runIn, nameRun, namesRun, IsNode, node as isNode, Was, was, Laid, Built, BuiltAt, Shape}
-use Rattle.marks.specs.Says.{Got}
+use Rattle.marks.specs.Says.{Got, GotBound}
 use Rattle.marks.specs.Names.{oneName}
 use Rattle.parts.specs.Function.{freedMark, freedUsed}
-use Rattle.members.specs.Object.{indexStart, GotIndex, indexNext, SaysStep, withType, IndexIs, none, one, several, keptRun, indexEnd, indexHead, indexChoices}
+use Rattle.members.specs.Object.{indexStart, indexNext, SaysStep, withType, IndexIs, none, one, several, keptRun, indexEnd, indexHead, indexChoices}
 use Rattle.marks.proofs.Answers.{then-read, then-refused}
-use Rattle.marks.proofs.LaidLaws.{laid-none, laid-on, laid-back}
+use Rattle.marks.proofs.LaidLaws.{laid-on, laid-back}
 use Rattle.marks.proofs.BuiltLaws.{built-names, built-one}
+use Rattle.marks.proofs.BoundLaws.{laid-bound}
 use Rattle.marks.proofs.LeafLaws.{under-one}
 use Rattle.marks.specs.declared.state.Given.{Given}
 use Rattle.marks.specs.declared.state.Mark.{Mark}
@@ -189,7 +190,7 @@ module _ (text W : List ℕ) (given : Given) (T : Reader) (s : State) {B : Was} 
     pub index-unnamed : {n i h : ℕ} → indexStart g (view p O) ≡ refuse n i h → allFrom ≡ refuse n i h
     index-unnamed e = w .is ∙ index-none g T (w .fuel) params (view p O) z (parameter-is g T (view p O) ∙ then-refused (typed g T (view p O)) e)
 
-    module _ {m : Mark} {M₁ O₁ : List ℕ} (head : GotIndex (indexStart g (view p O)) p m M O M₁ O₁) where
+    module _ {m : Mark} {M₁ O₁ : List ℕ} (head : GotBound (indexStart g (view p O)) p m M O M₁ O₁) where
       -- Its type is refused.
       pub index-untyped : {n i h : ℕ} → T true (view m O₁) ≡ refuse n i h → allFrom ≡ refuse n i h
       index-untyped e =
@@ -233,7 +234,7 @@ module _ (text W : List ℕ) (given : Given) (T : Reader) (s : State) {B : Was} 
 
         -- Since the parameter began, its name and its type were laid.
         laid-since : Laid (was p N M O) (namesRun (head .name ∷ []) ⊕ runIn 0 (got .tree)) (a .m .used) (a .m .named) (a .m .noted) N₂ M₂ O₂
-        laid-since = laid-on (head .name ∷ []) (head .spoken (was p N M O) done N (laid-none (p .used) (p .named) (p .noted) N M O)) (got .stands .laid)
+        laid-since = laid-on (head .name ∷ []) (laid-bound N head) (got .stands .laid)
 
         -- The parameters with this one: the first is kept, what a later one took is free again.
         with-this : 4 * p .used ≤ length N

@@ -456,7 +456,7 @@ fn tparam(
     ensures { λ r. ⌜ Within words given r ⌝ }
     ensures { λ r. ⌜ Onward m r ⌝ }
 {
-    let h = type_param_head(words, classes, names, m);
+    let h = type_param_head(words, classes, names, notes, given, m);
     if h.why != 0 {
         return Answer::refused(h.why, h.m);
     }
@@ -864,7 +864,7 @@ fn infer(
     ensures { λ r. ⌜ Within words given r ⌝ }
     ensures { λ r. ⌜ Onward m r ⌝ }
 {
-    let h = infer_head(words, classes, names, m);
+    let h = infer_head(words, classes, names, notes, given, m);
     if h.why != 0 {
         return Answer::refused(h.why, h.m);
     }

@@ -30,8 +30,8 @@ R t = (infer-head-reads.Asked, infer-head-reads.Learnt, state-Answer-refused-rea
 module _ (t : ℕ) where
   pub infer-head-requires : lts.Need-infer-head-requires (R t) (infer-at t) infer.Post
   infer-head-requires c κs =
-      let pre = c .before .before .before .before .before .pre in
-      (pre .1 .0 .classes-are, pre .1 .0 .sound, omega arith, omega arith)
+      let pre = c .before .before .before .before .before .before .pre in
+      ((pre .1 .0 .classes-are, pre .1 .0 .sound, omega arith), omega arith)
 
   pub refused-requires : lts.Need-refused-requires (R t) (infer-at t) infer.Post
   refused-requires c κs =
@@ -44,8 +44,8 @@ module _ (t : ℕ) where
 
   pub returns : lts.Need-returns (R t) (infer-at t) infer.Post
   returns c =
-      let args = c .before .before .before .before .before .before .before .before .before .before .before .args in
-      let pre = c .before .before .before .before .before .before .before .before .before .before .before .pre in
+      let args = c .before .before .before .before .before .before .before .before .before .before .before .before .args in
+      let pre = c .before .before .before .before .before .before .before .before .before .before .before .before .pre in
       let infer-head = c .before .before .before .before .before .infer-head in
       let if1 = c .before .if1 in
       let refused = c .refused in (
@@ -54,7 +54,7 @@ module _ (t : ℕ) where
             let T = below (args .given) g in
             says-as (refused .ensures)
             (says-stop (if1 .taken) (infer-refused g T (args .on) (view (args .m) (args .notes .now))
-            (infer-head .ensures .0 text (args .notes .now) (args .given) s .refused (if1 .taken)))),
+            (infer-head .ensures .0 text s .refused (if1 .taken)))),
         (omega (arith, same-answer (refused .ensures), pre), λ z. omega (arith, same-answer (refused .ensures))),
       )
 
@@ -72,7 +72,7 @@ module _ (t : ℕ) where
 
   pub put-requires : lts.Need-put-requires (R t) (infer-at t) infer.Post
   put-requires c κs =
-      let pre = c .before .before .before .before .before .before .before .before .before .before .before .before .before .before .before .before .pre in
+      let pre = c .before .before .before .before .before .before .before .before .before .before .before .before .before .before .before .before .before .pre in
       let none = c .none in
       (pre .1 .0 .sound, omega arith, omega arith, omega (arith, same-kids (none .ensures)), omega arith, omega arith)
 
@@ -88,8 +88,8 @@ module _ (t : ℕ) where
 
   pub returns-2 : lts.Need-returns-2 (R t) (infer-at t) infer.Post
   returns-2 c =
-      let args = c .before .before .before .before .before .before .before .before .before .before .before .before .before .before .before .before .before .before .before .args in
-      let pre = c .before .before .before .before .before .before .before .before .before .before .before .before .before .before .before .before .before .before .before .pre in
+      let args = c .before .before .before .before .before .before .before .before .before .before .before .before .before .before .before .before .before .before .before .before .args in
+      let pre = c .before .before .before .before .before .before .before .before .before .before .before .before .before .before .before .before .before .before .before .before .pre in
       let infer-head = c .before .before .before .before .before .before .before .before .before .before .before .before .before .infer-head in
       let if1 = c .before .before .before .before .before .before .before .before .before .if1 in
       let at = c .before .before .before .before .before .before .before .at in
@@ -101,20 +101,20 @@ module _ (t : ℕ) where
             let g = givenOf text (args .words .now) (args .given) in
             let T = below (args .given) g in
             bare-put text (args .words .now) (args .given) T (args .on)
-            (infer-head .ensures .0 text (args .notes .now) (args .given) s .done (if1 .left)) (args .nodes .now) (at .ensures .0 .0)
+            (infer-head .ensures .0 text s .done (if1 .left)) (args .nodes .now) (at .ensures .0 .0)
             (at .ensures .0 .1)
             (is-not-here (args .words .now) (infer-head .result .m) (kind-at .ensures .0) (if2 .taken)) (none .ensures) (put .ensures .0),
         (omega (arith, pre), λ z. omega (arith, z)),
       )
 
-  pub add-t20 : lts.Need-add-t20 (R t) (infer-at t) infer.Post
-  add-t20 c =
-      let pre = c .before .before .before .before .before .before .before .before .before .before .before .before .before .before .before .pre in
+  pub add-t21 : lts.Need-add-t21 (R t) (infer-at t) infer.Post
+  add-t21 c =
+      let pre = c .before .before .before .before .before .before .before .before .before .before .before .before .before .before .before .before .pre in
       omega (arith, pre)
 
   pub ty-requires : lts.Need-ty-requires (R t) (infer-at t) infer.Post
   ty-requires c κs =
-      let pre = c .before .before .before .before .before .before .before .before .before .before .before .before .before .before .before .before .before .before .pre in
+      let pre = c .before .before .before .before .before .before .before .before .before .before .before .before .before .before .before .before .before .before .before .pre in
       (omega arith, ready (pre .1 .0) (omega arith) (omega arith))
 
   pub same-length-4 : lts.Need-same-length-4 (R t) (infer-at t) infer.Post
@@ -130,8 +130,8 @@ module _ (t : ℕ) where
 
   pub returns-3 : lts.Need-returns-3 (R t) (infer-at t) infer.Post
   returns-3 c =
-      let pre = c .before .before .before .before .before .before .before .before .before .before .before .before .before .before .before .before .before .before .before .before .before .before .before .before .before .pre in
-      let args = c .before .before .before .before .before .before .before .before .before .before .before .before .before .before .before .before .before .before .before .before .before .before .before .before .before .args in
+      let pre = c .before .before .before .before .before .before .before .before .before .before .before .before .before .before .before .before .before .before .before .before .before .before .before .before .before .before .pre in
+      let args = c .before .before .before .before .before .before .before .before .before .before .before .before .before .before .before .before .before .before .before .before .before .before .before .before .before .before .args in
       let infer-head = c .before .before .before .before .before .before .before .before .before .before .before .before .before .before .before .before .before .before .before .infer-head in
       let if1 = c .before .before .before .before .before .before .before .before .before .before .before .before .before .before .before .if1 in
       let at = c .before .before .before .before .before .before .before .before .before .before .before .before .before .at in
@@ -143,7 +143,7 @@ module _ (t : ℕ) where
             let g = givenOf text (args .words .now) (args .given) in
             let T = below (args .given) g in
             trial-refused text (args .words .now) (args .given) T (args .on)
-            (infer-head .ensures .0 text (args .notes .now) (args .given) s .done (if1 .left)) (args .nodes .now) (at .ensures .0 .0)
+            (infer-head .ensures .0 text s .done (if1 .left)) (args .nodes .now) (at .ensures .0 .0)
             (at .ensures .0 .1)
             (is-here (args .words .now) (infer-head .result .m) (kind-at .ensures .0) (if2 .left)) (ty .ensures .0) (if3 .taken),
         (omega arith, λ z. omega arith),
@@ -155,7 +155,7 @@ module _ (t : ℕ) where
 
   pub infer-node-requires : lts.Need-infer-node-requires (R t) (infer-at t) infer.Post
   infer-node-requires c κs =
-      let pre = c .before .before .before .before .before .before .before .before .before .before .before .before .before .before .before .before .before .before .before .before .before .before .before .before .before .before .before .before .pre in
+      let pre = c .before .before .before .before .before .before .before .before .before .before .before .before .before .before .before .before .before .before .before .before .before .before .before .before .before .before .before .before .before .pre in
       let infer-head = c .before .before .before .before .before .before .before .before .before .before .before .before .before .before .before .before .before .before .before .before .before .before .infer-head in
       let at = c .before .before .before .before .before .before .before .before .before .before .before .before .before .before .before .before .at in
       let ty = c .before .before .before .before .before .before .before .before .before .ty in
@@ -185,8 +185,8 @@ module _ (t : ℕ) where
 
   pub returns-4 : lts.Need-returns-4 (R t) (infer-at t) infer.Post
   returns-4 c =
-      let args = c .before .before .before .before .before .before .before .before .before .before .before .before .before .before .before .before .before .before .before .before .before .before .before .before .before .before .before .before .before .before .before .args in
-      let pre = c .before .before .before .before .before .before .before .before .before .before .before .before .before .before .before .before .before .before .before .before .before .before .before .before .before .before .before .before .before .before .before .pre in
+      let args = c .before .before .before .before .before .before .before .before .before .before .before .before .before .before .before .before .before .before .before .before .before .before .before .before .before .before .before .before .before .before .before .before .args in
+      let pre = c .before .before .before .before .before .before .before .before .before .before .before .before .before .before .before .before .before .before .before .before .before .before .before .before .before .before .before .before .before .before .before .before .pre in
       let infer-head = c .before .before .before .before .before .before .before .before .before .before .before .before .before .before .before .before .before .before .before .before .before .before .before .before .before .infer-head in
       let if1 = c .before .before .before .before .before .before .before .before .before .before .before .before .before .before .before .before .before .before .before .before .before .if1 in
       let at = c .before .before .before .before .before .before .before .before .before .before .before .before .before .before .before .before .before .before .before .at in
@@ -200,7 +200,7 @@ module _ (t : ℕ) where
             let g = givenOf text (args .words .now) (args .given) in
             let T = below (args .given) g in
             trial-put text (args .words .now) (args .given) T (args .on)
-            (infer-head .ensures .0 text (args .notes .now) (args .given) s .done (if1 .left)) (args .nodes .now) (at .ensures .0 .0)
+            (infer-head .ensures .0 text s .done (if1 .left)) (args .nodes .now) (at .ensures .0 .0)
             (at .ensures .0 .1)
             (is-here (args .words .now) (infer-head .result .m) (kind-at .ensures .0) (if2 .left)) (ty .ensures .0) (if3 .left) (omega arith)
             (dropped .ensures) (infer-node .ensures .0),

@@ -7,7 +7,7 @@ use Rattle.marks.proofs.Answers.{says-as, says-same, says-stop, then-read, then
 use Rattle.parts.proofs.RingLaws.{type-parameter}
 use Rattle.parts.proofs.ParameterLaws.{shape-typeParameter}
 use Rattle.readers.proofs.Fields.{same-kids, same-answer}
-use Rattle.readers.proofs.ChildLaws.{built-spoken, shape-as, make-first}
+use Rattle.readers.proofs.ChildLaws.{built-bound, shape-as, make-first}
 use Rattle.readers.proofs.ReadyLaws.{ready}
 use Rattle.parts.proofs.function.type_param_head.Reads as type-param-head-reads
 use Rattle.marks.proofs.node.opt_bit.Reads as opt-bit-reads
@@ -26,12 +26,12 @@ R t = (type-param-head-reads.Asked, type-param-head-reads.Learnt, state-Answer-r
 module _ (t : ℕ) where
   pub type-param-head-requires : lts.Need-type-param-head-requires (R t) (tparam-at t) tparam.Post
   type-param-head-requires c κs =
-      let pre = c .before .before .before .before .before .pre in
-      (pre .1 .classes-are, pre .1 .sound, omega (arith, pre), omega (arith, pre))
+      let pre = c .before .before .before .before .before .before .pre in
+      (pre .1 .classes-are, pre .1 .sound, omega (arith, pre))
 
   pub refused-requires : lts.Need-refused-requires (R t) (tparam-at t) tparam.Post
   refused-requires c κs =
-      let pre = c .before .before .before .before .before .before .before .before .before .before .pre in
+      let pre = c .before .before .before .before .before .before .before .before .before .before .before .pre in
       let type-param-head = c .before .before .before .before .type-param-head in
       omega (arith, pre, type-param-head .ensures .1, type-param-head .kept)
 
@@ -42,12 +42,12 @@ module _ (t : ℕ) where
 
   pub returns : lts.Need-returns (R t) (tparam-at t) tparam.Post
   returns c =
-      let pre = c .before .before .before .before .before .before .before .before .before .before .before .pre in
-      let args = c .before .before .before .before .before .before .before .before .before .before .before .args in
+      let pre = c .before .before .before .before .before .before .before .before .before .before .before .before .pre in
+      let args = c .before .before .before .before .before .before .before .before .before .before .before .before .args in
       let type-param-head = c .before .before .before .before .before .type-param-head in
       let if1 = c .before .if1 in
       let refused = c .refused in
-      (says-as (refused .ensures) (says-stop (if1 .taken) (type-parameter _ _ _ _ ∙ then-refused _ (type-param-head .ensures .0 (args .text .now) (args .notes .now) (args .given) (pre .1 .spelt) .refused (if1 .taken)))), (omega (arith, same-answer (refused .ensures), pre, type-param-head .ensures .1), λ z. omega (arith, same-answer (refused .ensures), pre, type-param-head .ensures .1, z)))
+      (says-as (refused .ensures) (says-stop (if1 .taken) (type-parameter _ _ _ _ ∙ then-refused _ (type-param-head .ensures .0 (args .text .now) (pre .1 .spelt) .refused (if1 .taken)))), (omega (arith, same-answer (refused .ensures), pre, type-param-head .ensures .1), λ z. omega (arith, same-answer (refused .ensures), pre, type-param-head .ensures .1, z)))
 
   pub none-requires : lts.Need-none-requires (R t) (tparam-at t) tparam.Post
   none-requires c κs =
@@ -55,14 +55,14 @@ module _ (t : ℕ) where
 
   pub opt-requires : lts.Need-opt-requires (R t) (tparam-at t) tparam.Post
   opt-requires c κs =
-      let pre = c .before .before .before .before .before .before .before .before .before .before .before .before .before .before .pre in
+      let pre = c .before .before .before .before .before .before .before .before .before .before .before .before .before .before .before .pre in
       let type-param-head = c .before .before .before .before .before .before .before .before .type-param-head in
       let none = c .before .before .before .none in
       (omega (arith, pre, type-param-head .ensures .1, same-kids (none .ensures)), (ready (pre .1) (omega (arith, pre, type-param-head .ensures .1, type-param-head .kept, same-kids (none .ensures))) (omega (arith, pre, type-param-head .ensures .1, same-kids (none .ensures))), omega (arith, pre, type-param-head .ensures .1, same-kids (none .ensures)), omega (arith, pre, type-param-head .ensures .1, same-kids (none .ensures))))
 
   pub refused-requires-2 : lts.Need-refused-requires-2 (R t) (tparam-at t) tparam.Post
   refused-requires-2 c κs =
-      let pre = c .before .before .before .before .before .before .before .before .before .before .before .before .before .before .before .before .before .before .before .before .before .pre in
+      let pre = c .before .before .before .before .before .before .before .before .before .before .before .before .before .before .before .before .before .before .before .before .before .before .pre in
       let type-param-head = c .before .before .before .before .before .before .before .before .before .before .before .before .before .before .before .type-param-head in
       let none = c .before .before .before .before .before .before .before .before .before .before .none in
       let opt = c .before .before .before .before .before .before .opt in
@@ -81,19 +81,19 @@ module _ (t : ℕ) where
 
   pub returns-2 : lts.Need-returns-2 (R t) (tparam-at t) tparam.Post
   returns-2 c =
-      let pre = c .before .before .before .before .before .before .before .before .before .before .before .before .before .before .before .before .before .before .before .before .before .before .pre in
-      let args = c .before .before .before .before .before .before .before .before .before .before .before .before .before .before .before .before .before .before .before .before .before .before .args in
+      let pre = c .before .before .before .before .before .before .before .before .before .before .before .before .before .before .before .before .before .before .before .before .before .before .before .pre in
+      let args = c .before .before .before .before .before .before .before .before .before .before .before .before .before .before .before .before .before .before .before .before .before .before .before .args in
       let type-param-head = c .before .before .before .before .before .before .before .before .before .before .before .before .before .before .before .before .type-param-head in
       let if1 = c .before .before .before .before .before .before .before .before .before .before .before .before .if1 in
       let none = c .before .before .before .before .before .before .before .before .before .before .before .none in
       let opt = c .before .before .before .before .before .before .before .opt in
       let if2 = c .before .if2 in
       let refused2 = c .refused2 in
-      (let head = type-param-head .ensures .0 (args .text .now) (args .notes .now) (args .given) (pre .1 .spelt) .done (if1 .left) in says-as (refused2 .ensures) (says-stop (if2 .taken) (type-parameter _ _ _ _ ∙ then-read _ (head .is) ∙ then-refused _ (opt .ensures .0 _ _ (built-spoken (none .ensures) (head .spoken)) .refused (if2 .taken)))), (omega (arith, same-answer (refused2 .ensures), pre, type-param-head .ensures .1, same-kids (none .ensures), opt .ensures .1 .0), λ z. omega (arith, same-answer (refused2 .ensures), pre, type-param-head .ensures .1, same-kids (none .ensures), opt .ensures .1 .0, z)))
+      (let head = type-param-head .ensures .0 (args .text .now) (pre .1 .spelt) .done (if1 .left) in says-as (refused2 .ensures) (says-stop (if2 .taken) (type-parameter _ _ _ _ ∙ then-read _ (head .is) ∙ then-refused _ (opt .ensures .0 _ _ (built-bound (none .ensures) head) .refused (if2 .taken)))), (omega (arith, same-answer (refused2 .ensures), pre, type-param-head .ensures .1, same-kids (none .ensures), opt .ensures .1 .0), λ z. omega (arith, same-answer (refused2 .ensures), pre, type-param-head .ensures .1, same-kids (none .ensures), opt .ensures .1 .0, z)))
 
   pub opt-requires-2 : lts.Need-opt-requires-2 (R t) (tparam-at t) tparam.Post
   opt-requires-2 c κs =
-      let pre = c .before .before .before .before .before .before .before .before .before .before .before .before .before .before .before .before .before .before .before .before .before .before .before .before .pre in
+      let pre = c .before .before .before .before .before .before .before .before .before .before .before .before .before .before .before .before .before .before .before .before .before .before .before .before .before .pre in
       let type-param-head = c .before .before .before .before .before .before .before .before .before .before .before .before .before .before .before .before .before .before .type-param-head in
       let none = c .before .before .before .before .before .before .before .before .before .before .before .before .before .none in
       let opt = c .before .before .before .before .before .before .before .before .before .opt in
@@ -102,7 +102,7 @@ module _ (t : ℕ) where
 
   pub refused-requires-3 : lts.Need-refused-requires-3 (R t) (tparam-at t) tparam.Post
   refused-requires-3 c κs =
-      let pre = c .before .before .before .before .before .before .before .before .before .before .before .before .before .before .before .before .before .before .before .before .before .before .before .before .before .before .before .before .before .before .before .pre in
+      let pre = c .before .before .before .before .before .before .before .before .before .before .before .before .before .before .before .before .before .before .before .before .before .before .before .before .before .before .before .before .before .before .before .before .pre in
       let type-param-head = c .before .before .before .before .before .before .before .before .before .before .before .before .before .before .before .before .before .before .before .before .before .before .before .before .before .type-param-head in
       let none = c .before .before .before .before .before .before .before .before .before .before .before .before .before .before .before .before .before .before .before .before .none in
       let opt = c .before .before .before .before .before .before .before .before .before .before .before .before .before .before .before .before .opt in
@@ -125,8 +125,8 @@ module _ (t : ℕ) where
 
   pub returns-3 : lts.Need-returns-3 (R t) (tparam-at t) tparam.Post
   returns-3 c =
-      let pre = c .before .before .before .before .before .before .before .before .before .before .before .before .before .before .before .before .before .before .before .before .before .before .before .before .before .before .before .before .before .before .before .before .pre in
-      let args = c .before .before .before .before .before .before .before .before .before .before .before .before .before .before .before .before .before .before .before .before .before .before .before .before .before .before .before .before .before .before .before .before .args in
+      let pre = c .before .before .before .before .before .before .before .before .before .before .before .before .before .before .before .before .before .before .before .before .before .before .before .before .before .before .before .before .before .before .before .before .before .pre in
+      let args = c .before .before .before .before .before .before .before .before .before .before .before .before .before .before .before .before .before .before .before .before .before .before .before .before .before .before .before .before .before .before .before .before .before .args in
       let type-param-head = c .before .before .before .before .before .before .before .before .before .before .before .before .before .before .before .before .before .before .before .before .before .before .before .before .before .before .type-param-head in
       let if1 = c .before .before .before .before .before .before .before .before .before .before .before .before .before .before .before .before .before .before .before .before .before .before .if1 in
       let none = c .before .before .before .before .before .before .before .before .before .before .before .before .before .before .before .before .before .before .before .before .before .none in
@@ -135,7 +135,7 @@ module _ (t : ℕ) where
       let opt2 = c .before .before .before .before .before .before .before .opt2 in
       let if3 = c .before .if3 in
       let refused3 = c .refused3 in
-      (let head = type-param-head .ensures .0 (args .text .now) (args .notes .now) (args .given) (pre .1 .spelt) .done (if1 .left) in let x = opt .ensures .0 _ _ (built-spoken (none .ensures) (head .spoken)) .done (if2 .left) in says-as (refused3 .ensures) (says-stop (if3 .taken) (type-parameter _ _ _ _ ∙ then-read _ (head .is) ∙ then-read _ (x .is) ∙ then-refused _ (opt2 .ensures .0 _ _ (x .built) .refused (if3 .taken)))), (omega (arith, same-answer (refused3 .ensures), pre, type-param-head .ensures .1, same-kids (none .ensures), opt .ensures .1 .0, opt .ensures .1 .1 (if2 .left), opt2 .ensures .1 .0), λ z. omega (arith, same-answer (refused3 .ensures), pre, type-param-head .ensures .1, same-kids (none .ensures), opt .ensures .1 .0, opt .ensures .1 .1 (if2 .left), opt2 .ensures .1 .0, z)))
+      (let head = type-param-head .ensures .0 (args .text .now) (pre .1 .spelt) .done (if1 .left) in let x = opt .ensures .0 _ _ (built-bound (none .ensures) head) .done (if2 .left) in says-as (refused3 .ensures) (says-stop (if3 .taken) (type-parameter _ _ _ _ ∙ then-read _ (head .is) ∙ then-read _ (x .is) ∙ then-refused _ (opt2 .ensures .0 _ _ (x .built) .refused (if3 .taken)))), (omega (arith, same-answer (refused3 .ensures), pre, type-param-head .ensures .1, same-kids (none .ensures), opt .ensures .1 .0, opt .ensures .1 .1 (if2 .left), opt2 .ensures .1 .0), λ z. omega (arith, same-answer (refused3 .ensures), pre, type-param-head .ensures .1, same-kids (none .ensures), opt .ensures .1 .0, opt .ensures .1 .1 (if2 .left), opt2 .ensures .1 .0, z)))
 
   pub opt-bit-requires : lts.Need-opt-bit-requires (R t) (tparam-at t) tparam.Post
   opt-bit-requires c κs =
@@ -147,7 +147,7 @@ module _ (t : ℕ) where
 
   pub mul-choices : lts.Need-mul-choices (R t) (tparam-at t) tparam.Post
   mul-choices c =
-      let pre = c .before .before .before .before .before .before .before .before .before .before .before .before .before .before .before .before .before .before .before .before .before .before .before .before .before .before .before .before .before .before .before .before .before .pre in
+      let pre = c .before .before .before .before .before .before .before .before .before .before .before .before .before .before .before .before .before .before .before .before .before .before .before .before .before .before .before .before .before .before .before .before .before .before .pre in
       let type-param-head = c .before .before .before .before .before .before .before .before .before .before .before .before .before .before .before .before .before .before .before .before .before .before .before .before .before .before .before .type-param-head in
       let none = c .before .before .before .before .before .before .before .before .before .before .before .before .before .before .before .before .before .before .before .before .before .before .none in
       let opt = c .before .before .before .before .before .before .before .before .before .before .before .before .before .before .before .before .before .before .opt in
@@ -160,7 +160,7 @@ module _ (t : ℕ) where
 
   pub add-choices : lts.Need-add-choices (R t) (tparam-at t) tparam.Post
   add-choices c =
-      let pre = c .before .before .before .before .before .before .before .before .before .before .before .before .before .before .before .before .before .before .before .before .before .before .before .before .before .before .before .before .before .before .before .before .before .pre in
+      let pre = c .before .before .before .before .before .before .before .before .before .before .before .before .before .before .before .before .before .before .before .before .before .before .before .before .before .before .before .before .before .before .before .before .before .before .pre in
       let type-param-head = c .before .before .before .before .before .before .before .before .before .before .before .before .before .before .before .before .before .before .before .before .before .before .before .before .before .before .before .type-param-head in
       let none = c .before .before .before .before .before .before .before .before .before .before .before .before .before .before .before .before .before .before .before .before .before .before .none in
       let opt = c .before .before .before .before .before .before .before .before .before .before .before .before .before .before .before .before .before .before .opt in
@@ -173,7 +173,7 @@ module _ (t : ℕ) where
 
   pub at-requires : lts.Need-at-requires (R t) (tparam-at t) tparam.Post
   at-requires c κs =
-      let pre = c .before .before .before .before .before .before .before .before .before .before .before .before .before .before .before .before .before .before .before .before .before .before .before .before .before .before .before .before .before .before .before .before .before .before .pre in
+      let pre = c .before .before .before .before .before .before .before .before .before .before .before .before .before .before .before .before .before .before .before .before .before .before .before .before .before .before .before .before .before .before .before .before .before .before .before .pre in
       let type-param-head = c .before .before .before .before .before .before .before .before .before .before .before .before .before .before .before .before .before .before .before .before .before .before .before .before .before .before .before .before .type-param-head in
       let none = c .before .before .before .before .before .before .before .before .before .before .before .before .before .before .before .before .before .before .before .before .before .before .before .none in
       let opt = c .before .before .before .before .before .before .before .before .before .before .before .before .before .before .before .before .before .before .before .opt in
@@ -186,7 +186,7 @@ module _ (t : ℕ) where
 
   pub put-requires : lts.Need-put-requires (R t) (tparam-at t) tparam.Post
   put-requires c κs =
-      let pre = c .before .before .before .before .before .before .before .before .before .before .before .before .before .before .before .before .before .before .before .before .before .before .before .before .before .before .before .before .before .before .before .before .before .before .before .pre in
+      let pre = c .before .before .before .before .before .before .before .before .before .before .before .before .before .before .before .before .before .before .before .before .before .before .before .before .before .before .before .before .before .before .before .before .before .before .before .before .pre in
       let type-param-head = c .before .before .before .before .before .before .before .before .before .before .before .before .before .before .before .before .before .before .before .before .before .before .before .before .before .before .before .before .before .type-param-head in
       let none = c .before .before .before .before .before .before .before .before .before .before .before .before .before .before .before .before .before .before .before .before .before .before .before .before .none in
       let opt = c .before .before .before .before .before .before .before .before .before .before .before .before .before .before .before .before .before .before .before .before .opt in
@@ -214,8 +214,8 @@ module _ (t : ℕ) where
 
   pub returns-4 : lts.Need-returns-4 (R t) (tparam-at t) tparam.Post
   returns-4 c =
-      let pre = c .before .before .before .before .before .before .before .before .before .before .before .before .before .before .before .before .before .before .before .before .before .before .before .before .before .before .before .before .before .before .before .before .before .before .before .before .before .before .pre in
-      let args = c .before .before .before .before .before .before .before .before .before .before .before .before .before .before .before .before .before .before .before .before .before .before .before .before .before .before .before .before .before .before .before .before .before .before .before .before .before .before .args in
+      let pre = c .before .before .before .before .before .before .before .before .before .before .before .before .before .before .before .before .before .before .before .before .before .before .before .before .before .before .before .before .before .before .before .before .before .before .before .before .before .before .before .pre in
+      let args = c .before .before .before .before .before .before .before .before .before .before .before .before .before .before .before .before .before .before .before .before .before .before .before .before .before .before .before .before .before .before .before .before .before .before .before .before .before .before .before .args in
       let type-param-head = c .before .before .before .before .before .before .before .before .before .before .before .before .before .before .before .before .before .before .before .before .before .before .before .before .before .before .before .before .before .before .before .before .type-param-head in
       let if1 = c .before .before .before .before .before .before .before .before .before .before .before .before .before .before .before .before .before .before .before .before .before .before .before .before .before .before .before .before .if1 in
       let none = c .before .before .before .before .before .before .before .before .before .before .before .before .before .before .before .before .before .before .before .before .before .before .before .before .before .before .before .none in
@@ -227,4 +227,4 @@ module _ (t : ℕ) where
       let opt-bit2 = c .before .before .before .before .before .opt-bit2 in
       let at = c .before .before .before .at in
       let put = c .before .before .put in
-      (let head = type-param-head .ensures .0 (args .text .now) (args .notes .now) (args .given) (pre .1 .spelt) .done (if1 .left) in let x = opt .ensures .0 _ _ (built-spoken (none .ensures) (head .spoken)) .done (if2 .left) in let d = opt2 .ensures .0 _ _ (x .built) .done (if3 .left) in says-same (type-parameter _ _ _ _ ∙ then-read _ (head .is) ∙ then-read _ (x .is) ∙ then-read _ (d .is) ∙ make-first _ _ _ _ _ (at .ensures .0 .0)) (put .ensures .0 (args .text .now) 4 _ _ 0 _ _ _ (d .built) (at .ensures .0 .1) (shape-as (omega (arith, opt-bit .ensures .0, opt-bit2 .ensures .0, x .there-is, d .there-is)) (shape-typeParameter (head .what) (x .tree) (d .tree) (x .is-opt) (d .is-opt)))), (omega (arith, pre, type-param-head .ensures .1, same-kids (none .ensures), opt .ensures .1 .0, opt .ensures .1 .1 (if2 .left), opt2 .ensures .1 .0, opt2 .ensures .1 .1 (if3 .left), opt-bit .ensures .1, opt-bit2 .ensures .1, at .ensures .0, at .ensures .1, put .ensures .1), λ z. omega (arith, pre, type-param-head .ensures .1, same-kids (none .ensures), opt .ensures .1 .0, opt .ensures .1 .1 (if2 .left), opt2 .ensures .1 .0, opt2 .ensures .1 .1 (if3 .left), opt-bit .ensures .1, opt-bit2 .ensures .1, at .ensures .0, at .ensures .1, put .ensures .1, z)))
+      (let head = type-param-head .ensures .0 (args .text .now) (pre .1 .spelt) .done (if1 .left) in let x = opt .ensures .0 _ _ (built-bound (none .ensures) head) .done (if2 .left) in let d = opt2 .ensures .0 _ _ (x .built) .done (if3 .left) in says-same (type-parameter _ _ _ _ ∙ then-read _ (head .is) ∙ then-read _ (x .is) ∙ then-read _ (d .is) ∙ make-first _ _ _ _ _ (at .ensures .0 .0)) (put .ensures .0 (args .text .now) 4 _ _ 0 _ _ _ (d .built) (at .ensures .0 .1) (shape-as (omega (arith, opt-bit .ensures .0, opt-bit2 .ensures .0, x .there-is, d .there-is)) (shape-typeParameter (head .name) (x .tree) (d .tree) (x .is-opt) (d .is-opt)))), (omega (arith, pre, type-param-head .ensures .1, same-kids (none .ensures), opt .ensures .1 .0, opt .ensures .1 .1 (if2 .left), opt2 .ensures .1 .0, opt2 .ensures .1 .1 (if3 .left), opt-bit .ensures .1, opt-bit2 .ensures .1, at .ensures .0, at .ensures .1, put .ensures .1), λ z. omega (arith, pre, type-param-head .ensures .1, same-kids (none .ensures), opt .ensures .1 .0, opt .ensures .1 .1 (if2 .left), opt2 .ensures .1 .0, opt2 .ensures .1 .1 (if3 .left), opt-bit .ensures .1, opt-bit2 .ensures .1, at .ensures .0, at .ensures .1, put .ensures .1, z)))
