@@ -228,6 +228,28 @@ A<> | records 0 | 9 at 3 half 0 byte 3
 A.b | key 5 | 11 at 0 half 0 byte 0
 """
 
+# Rows for reserved names (02, W3): diagnostics and the end, or a refusal.
+RESERVED = r"""
+<string>(x: string) => string |  | 13 on 1 to 7; end 10
+<any, T, undefined>() => A |  | 13 on 1 to 4, 13 on 9 to 18; end 11
+T extends infer never ? X : Y |  | 13 on 16 to 21; end 8
+<abstract>() => A |  | end 7
+<out>() => A |  | end 7
+<any extends B<>>() => C |  | 13 on 1 to 4, 2 on 14 to 16; end 11
+<T extends infer symbol>() => A |  | 13 on 17 to 23; end 10
+(infer string extends A<> ? X : Y) |  | 13 on 7 to 13, 2 on 23 to 25; end 12
+(infer A extends infer any ? X : Y) |  | 13 on 23 to 26; end 11
+T extends infer object extends U ? X : Y |  | 13 on 16 to 22; end 10
+{ [string in K]: A } |  | end 9
+{ m<bigint>(string): A } |  | 13 on 4 to 10; end 11
+new <number = B<>>() => A |  | 13 on 5 to 11, 2 on 15 to 17; end 12
+<boolean, never, unknown>() => A |  | 13 on 1 to 8, 13 on 10 to 15, 13 on 17 to 24; end 11
+<string>() => A | records 0 | 9 at 2
+<string>() => A | room 0 | 8 at 2
+<string extends ?>() => A | records 0 | 9 at 2
+T extends infer never extends ? : Y | records 0 | 9 at 4
+"""
+
 
 def objects(rows=OBJECTS):
     """Text, lent words, preserve_parens and the numbers that it comes to, of each row."""
@@ -248,12 +270,17 @@ def numbers(x):
     return (notes + "; " if notes else "") + "end %d" % x[0][5], x[4].hex(" ").upper()
 
 
-def object_rows(v):
+def object_rows(v, rows=OBJECTS, item="W1"):
     """The rows, each as it says."""
-    for t, lent, parens, says in objects():
+    for t, lent, parens, says in objects(rows):
         said, key = numbers(read(t.encode(), m.cut(t), 0, parens, lent))
         assert says in (said, said + "; key " + key), (t, says, said, key)
-        v.add("W1", t, lent, parens)
+        v.add(item, t, lent, parens)
+
+
+def reserved_rows(v):
+    """The rows for reserved names."""
+    object_rows(v, RESERVED, "W3")
 
 
 def place_rows(v):
@@ -607,7 +634,7 @@ def taken(v):
 def stored():
     v = Vectors()
     for part in (rows, by_example, by_kind, mapped, elements, deep, high, long, short_of_room, many_notes, in_a_trial, orders, bad_lists, bad_words,
-                 generated, object_rows, object_texts, place_rows, short_of_key, taken):
+                 generated, object_rows, object_texts, place_rows, reserved_rows, short_of_key, taken):
         part(v)
     missing = set(ITEMS) - set(i for c in v for i in c[0].split())
     assert not missing, missing
