@@ -188,6 +188,7 @@ static inline uint64_t typekey_token(uint64_t kind, int line_break_before, uint6
 #define TYPEKEY_NOTE_LITERAL_INDEX 10       /* { [a: 'x']: B } */
 #define TYPEKEY_NOTE_KEYWORD_INDEX 11       /* { [a: null]: B } */
 #define TYPEKEY_NOTE_NOT_ONE_INDEX 12       /* { []: A }, { [a: A, b: B]: C } */
+#define TYPEKEY_NOTE_RESERVED_NAME 13       /* <string>() => A, infer any: the name of a built-in type, given to another */
 
 /* ---- Names: one word each: start * 2^32 + length, in the text ---- */
 static inline uint64_t typekey_name_start(uint64_t name) { return name >> 32; }

@@ -420,7 +420,7 @@ static void a_read(int sampled) {
         memcpy(kept_nodes, nodes.at, 32 * kept[1]), memcpy(kept_key, key.at, kept[4]);
         if (kept[2]) memcpy(kept_names, names.at, 8 * kept[2]);
         if (kept[3]) memcpy(kept_notes, notes.at, 24 * kept[3]);
-        for (uint64_t i = 0; i < kept[3]; i++) must(kept_notes[3 * i] - 1 < TYPEKEY_NOTE_NOT_ONE_INDEX && kept_notes[3 * i + 1] < kept_notes[3 * i + 2] && kept_notes[3 * i + 2] <= laid_len, "a note");
+        for (uint64_t i = 0; i < kept[3]; i++) must(kept_notes[3 * i] - 1 < TYPEKEY_NOTE_RESERVED_NAME && kept_notes[3 * i + 1] < kept_notes[3 * i + 2] && kept_notes[3 * i + 2] <= laid_len, "a note");
         must(key_of_tree(kept_nodes, kept[1], kept_names, kept[2], text.at, text.count, 1, made) == kept[4] && memcmp(made, kept_key, kept[4]) == 0, "a reading's key is not its tree's");
     }
     /* again, with the bits of options that say nothing as others */

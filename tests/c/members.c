@@ -1,4 +1,4 @@
-/* members: object types by example, shown by what typekey.h says of nodes and members: each sort of member, diagnostics 8 to 12 and 3, and
+/* members: object types by example, shown by what typekey.h says of nodes and members: each sort of member, diagnostics 8 to 13 and 3, and
    what is refused, with a row for each form that is not read. The types in a member are shown as they stand in the text. */
 #include "lent.h"
 
@@ -6,7 +6,7 @@
 static uint64_t cut(const char *s, uint64_t *out) {
     static const struct { const char *spelled; int kind; } FIXED[] = {
         {"{", 16}, {"}", 17}, {"[", 18}, {"]", 19}, {"(", 20}, {")", 21}, {"<", 22}, {">", 23}, {"<=", 25}, {"?", 29}, {":", 30}, {",", 31}, {";", 32},
-        {"...", 34}, {"=", 36}, {"boolean", 66}, {"string", 70}, {"is", 78}, {"readonly", 81}, {"static", 83}, {"extends", 96}, {"import", 98}, {"in", 99}, {"new", 100}, {"this", 102}};
+        {"...", 34}, {"=", 36}, {"bigint", 65}, {"boolean", 66}, {"string", 70}, {"infer", 77}, {"is", 78}, {"readonly", 81}, {"static", 83}, {"extends", 96}, {"import", 98}, {"in", 99}, {"new", 100}, {"this", 102}};
     uint64_t n = 0, i = 0;
     int line = 0;
     while (s[i]) {
@@ -99,6 +99,8 @@ static const char *const ROWS[][2] = {
     {"{ readonly [a?: boolean,]: C }", "index readonly a type boolean type C | 8 on 13 to 14 | 9 on 23 to 24 | 11 on 12 to 23"},
     {"{ [a: 'x']: A }", "index a type 'x' type A | 10 on 6 to 9"},
     {"{ a: { b: B } }", "property a type { b: B }"},
+    {"{ m<bigint>(string): A }", "method m type parameter bigint parameter string type A | 13 on 4 to 10"},
+    {"{ a: B extends infer string ? C : D }", "property a type B extends infer string ? C : D | 13 on 21 to 27"},
     {"{ a b: A }", "3 at 2, half 0, byte 4"},
     {"{ [a: string] }", "3 at 6, half 0, byte 14"},
     {"{ a: A", "3 at 4, half 0, byte 6"},
