@@ -83,6 +83,9 @@ const checks = {
     await open('type=%5Ba%3F%3A+A%2C+B%5D%0A%5BC%5D');
     same('titles', texts('.message b'), ['Diagnostic 4, bytes 8 to 9', 'Not all was read']);
     same('marked', [texts('.editor .noted'), texts('.editor .unread')], [['B'], ['[C]']]);
+    type('<string>(x: string) => string');
+    same('a hint', texts('.message'), ['Diagnostic 13, bytes 1 to 7string names a type of its own. Choose another name for the type parameter.']);
+    same('marked', texts('.editor .noted'), ['string']);
   },
   async 'members'() {
     await open('');

@@ -45,6 +45,7 @@ test('members', () => {
     ['{ []: A }', 'object(index signature(reference A))', [12, 2, 4]],
     ['{ readonly [a?: boolean,]: C }', 'object(index signature a(keyword boolean, reference C))', [8, 13, 14], [9, 23, 24], [11, 12, 23]],
     ["{ [a: 'x']: A }", "object(index signature a(literal string 'x', reference A))", [10, 6, 9]],
+    ['{ m<bigint>(string): A }', 'object(method name m(type parameter bigint, parameter string, reference A))', [13, 4, 10]],
     ['{ a: { b: () => C } }[]', 'array(object(property name a(object(property name b(function(reference C))))))'],
     ['`a${{ m(b) }}c${{ x: `d${{ e?; [k: A]: B }}f` }}g${{}}h`', 'template `a${ }c${ }g${ }h`(object(method name m(parameter b)), object(property name x(template `d${ }f`(object(property name e, index signature k(reference A, reference B))))), object)'],
   ];
@@ -70,6 +71,18 @@ test('members', () => {
   assert.deepEqual(refused('{ [a: string] }').slice(0, 3), ['Unexpected', 6, 14]);
   assert.deepEqual(refused('{ a: A'), ['Unexpected', 4, 6, 'The text ends before the type does.']);
   assert.deepEqual(keys.takeBack(fromHex('16 40 06 A0')).bit, 22);
+});
+
+test('names of built-in types', () => {
+  const noted = (text) => read(text).diagnostics.map((d) => [d.number, d.name, d.first, d.end]);
+  for (const name of 'any bigint boolean never number object string symbol undefined unknown'.split(' ')) {
+    assert.deepEqual(noted(`<${name}>() => A`), [[13, 'ReservedName', 1, 1 + name.length]]);
+    assert.deepEqual(noted(`infer ${name}`), [[13, 'ReservedName', 6, 6 + name.length]]);
+    assert.deepEqual([...noted(`(${name}: A) => B`), ...noted(`{ [${name} in A]: B }`)], []);
+  }
+  assert.deepEqual(noted('<T, abstract, infer>() => A'), []);
+  assert.deepEqual(noted('(infer string extends A<> ? X : Y)').map(([n]) => n), [13, 2]);
+  assert.equal(read('<string>(x: string) => string').diagnostics[0].sentence, '`string` names a type of its own. Choose another name for the type parameter.');
 });
 
 test('refusals say what and where', () => {

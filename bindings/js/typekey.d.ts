@@ -86,10 +86,10 @@ export type FormName =
   | 'PrefixMark' | 'ParameterModifier' | 'DefaultValue' | 'MisplacedThis' | 'RestNotLast' | 'TypeParameterModifier' | 'ImportSource' | 'ImportOptions' | 'MemberForm';
 
 export interface Diagnostic {
-  number: 1 | 2 | 3 | 4 | 5 | 6 | 7 | 8 | 9 | 10 | 11 | 12;
+  number: 1 | 2 | 3 | 4 | 5 | 6 | 7 | 8 | 9 | 10 | 11 | 12 | 13;
   name:
     | 'EmptyTypeParameters' | 'EmptyArguments' | 'ThisOnConstructor' | 'RequiredAfterOptional' | 'RestAfterLabel' | 'OptionalAfterLabel' | 'OptionalRest'
-    | 'OptionalIndex' | 'CommaAfterIndex' | 'LiteralIndex' | 'KeywordIndex' | 'NotOneIndex';
+    | 'OptionalIndex' | 'CommaAfterIndex' | 'LiteralIndex' | 'KeywordIndex' | 'NotOneIndex' | 'ReservedName';
   /** Bytes of the text. */
   first: number;
   end: number;

@@ -136,7 +136,7 @@ export class Tree {
   }
 }
 
-// ---- Diagnostics and refusals, by name and in words
+// ---- Diagnostics and refusals, by name and in words; a function where the words depend on what is spelled there
 const DIAGNOSTICS = [
   [],
   ['EmptyTypeParameters', 'The list of type parameters is empty.'],
@@ -151,6 +151,7 @@ const DIAGNOSTICS = [
   ['LiteralIndex', 'The parameter of an index signature cannot be a literal; a mapped type could.'],
   ['KeywordIndex', 'The parameter of an index signature has to be a string, a number or a symbol.'],
   ['NotOneIndex', 'An index signature has one parameter. Of several the first is kept.'],
+  ['ReservedName', (spelled) => `\`${spelled}\` names a type of its own. Choose another name for the type parameter.`],
 ];
 
 const REFUSALS = {
@@ -263,7 +264,7 @@ export class TypeKey {
       ok: true,
       key: left.key.slice(0, key),
       tree: new Tree(bytes.slice(), left.nodes.slice(0, 8 * nodes), left.names.slice(0, 2 * names)),
-      diagnostics: Array.from({ length: notes }, (_, i) => diagnostic(left.notes, 6 * i)),
+      diagnostics: Array.from({ length: notes }, (_, i) => diagnostic(left.notes, 6 * i, bytes)),
       end: { token, half },
     };
   }
@@ -352,9 +353,9 @@ export class TypeKey {
 
 const copied = (left) => Object.fromEntries(Object.entries(left).map(([part, x]) => [part, x.slice()]));
 
-function diagnostic(notes, at) {
-  const number = notes[at], [name, sentence] = DIAGNOSTICS[number];
-  return { number, name, first: notes[at + 2], end: notes[at + 4], sentence };
+function diagnostic(notes, at, text) {
+  const number = notes[at], first = notes[at + 2], end = notes[at + 4], [name, said] = DIAGNOSTICS[number];
+  return { number, name, first, end, sentence: typeof said === 'string' ? said : said(utf8.decode(text.subarray(first, end))) };
 }
 
 // What is left of a token, from its word and the half that is used up, cut short where it is long; nothing at the end.

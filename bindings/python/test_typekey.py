@@ -112,6 +112,17 @@ class Members(unittest.TestCase):
             "diagnostic 11 (KeywordIndex): a keyword as the type of an index signature's parameter that is no index, at bytes 12 to 23"])
         self.assertEqual([read(t).notes[0].what for t in ("{ [a: 'x']: A }", "{ []: A }")], [Diagnostic.LiteralIndex, Diagnostic.NotOneIndex])
 
+    def test_names_of_built_in_types(self):
+        for name in "any bigint boolean never number object string symbol undefined unknown".split():
+            self.assertEqual(read("<%s>() => A" % name).notes, [Note(Diagnostic.ReservedName, 1, 1 + len(name))])
+            self.assertEqual(read("infer %s" % name).notes, [Note(Diagnostic.ReservedName, 6, 6 + len(name))])
+            self.assertEqual(read("(%s: A) => B" % name).notes + read("{ [%s in A]: B }" % name).notes, [])
+        self.assertEqual(read("<T, abstract, infer>() => A").notes, [])
+        self.assertEqual([tuple(n[:3]) for n in read("(infer string extends A<> ? X : Y)").notes], [(13, 7, 13), (2, 23, 25)])
+        self.assertEqual([tuple(n[:3]) for n in read("{ m<bigint>(string): A }").notes], [(13, 4, 10)])
+        self.assertEqual(str(read("infer any").notes[0]),
+                         "diagnostic 13 (ReservedName): a type parameter with the name of a built-in type; choose another name, at bytes 6 to 9")
+
     def test_fields(self):
         r = read("{ readonly 1?: A; m?<T>(this, x): B; [k: C]: D }")
         self.assertEqual((r.tree.root.number, r.tree.root.sort), (25, None))

@@ -125,7 +125,7 @@ class Refused(Exception):
 class Diagnostic(enum.IntEnum):
     """What is reported of a type that is read all the same, with the diagnostic's number."""
     NoTypeParameters, NoArguments, ConstructorThis, RequiredAfter, RestAfterLabel, OptionalAfterLabel, OptionalRest = range(1, 8)
-    OptionalIndex, CommaAfterIndex, LiteralIndex, KeywordIndex, NotOneIndex = range(8, 13)
+    OptionalIndex, CommaAfterIndex, LiteralIndex, KeywordIndex, NotOneIndex, ReservedName = range(8, 14)
 
 
 _DIAGNOSTICS = ("type parameters with none between the brackets", "arguments with none between the brackets", "`this` on a constructor",
@@ -133,7 +133,8 @@ _DIAGNOSTICS = ("type parameters with none between the brackets", "arguments wit
                 "an element that is optional and a rest", "a `?` on the parameter of an index signature",
                 "a comma behind the parameter of an index signature", "a literal as the type of an index signature's parameter",
                 "a keyword as the type of an index signature's parameter that is no index",
-                "an index signature with no parameter or more than one")
+                "an index signature with no parameter or more than one",
+                "a type parameter with the name of a built-in type; choose another name")
 
 
 class Note(NamedTuple):

@@ -198,11 +198,13 @@ pub enum Diagnostic {
     KeywordIndex,
     /// An index signature with no parameter, or with more than one.
     NotOneIndex,
+    /// A type parameter, or the name behind an `infer`, that has the name of a built-in type.
+    ReservedName,
 }
 
 use Diagnostic::*;
 
-const DIAGNOSTICS: [(Diagnostic, &str); 12] = [
+const DIAGNOSTICS: [(Diagnostic, &str); 13] = [
     (NoTypeParameters, "type parameters with none between the brackets"),
     (NoArguments, "arguments with none between the brackets"),
     (ConstructorThis, "`this` on a constructor"),
@@ -215,6 +217,7 @@ const DIAGNOSTICS: [(Diagnostic, &str); 12] = [
     (LiteralIndex, "a literal as the type of an index signature's parameter"),
     (KeywordIndex, "a keyword as the type of an index signature's parameter that is no index"),
     (NotOneIndex, "an index signature with no parameter or more than one"),
+    (ReservedName, "a type parameter with the name of a built-in type; choose another name"),
 ];
 
 impl Diagnostic {

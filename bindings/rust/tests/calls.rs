@@ -98,7 +98,7 @@ fn rows() {
 #[test]
 fn members() {
     type Notes<'a> = &'a [(u8, usize, usize)];
-    let rows: [(&str, &str, Notes); 15] = [
+    let rows: [(&str, &str, Notes); 16] = [
         ("{}", "object", &[]),
         ("{ a: A }", "object(property a(reference A))", &[]),
         ("{ readonly \"a\"?: A, 1 }", "object(property \"a\"(reference A), property 1)", &[]),
@@ -129,6 +129,11 @@ fn members() {
             &[(8, 13, 14), (9, 23, 24), (11, 12, 23)],
         ),
         ("{ [a: 'x']: A }", "object(index signature a(literal 'x', reference A))", &[(10, 6, 9)]),
+        (
+            "{ m<bigint>(string): A }",
+            "object(method m(type parameter bigint, parameter string, reference A))",
+            &[(13, 4, 10)],
+        ),
         ("{ a: { b: () => C } }[]", "array(object(property a(object(property b(function(reference C))))))", &[]),
     ];
     let (mut buffers, mut others) = (Buffers::default(), Buffers::default());
@@ -206,6 +211,27 @@ fn notes_say_what_and_where() {
     let sentence =
         "diagnostic 12 (NotOneIndex): an index signature with no parameter or more than one, at bytes 2 to 4";
     assert_eq!(r.notes().map(|n| n.to_string()).collect::<Vec<_>>(), [sentence]);
+}
+
+#[test]
+fn names_of_built_in_types() {
+    let mut buffers = Buffers::default();
+    let mut noted = |text: &str| -> Vec<(Diagnostic, usize, usize)> {
+        let r = read(text.as_bytes(), &cut(text), Options::default(), &mut buffers).unwrap();
+        r.notes().map(|n| (n.what, n.span.start, n.span.end)).collect()
+    };
+    for name in "any bigint boolean never number object string symbol undefined unknown".split(' ') {
+        assert_eq!(noted(&format!("<{name}>() => A")), [(Diagnostic::ReservedName, 1, 1 + name.len())]);
+        assert_eq!(noted(&format!("infer {name}")), [(Diagnostic::ReservedName, 6, 6 + name.len())]);
+        assert_eq!(noted(&format!("({name}: A) => B")), []);
+        assert_eq!(noted(&format!("{{ [{name} in A]: B }}")), []);
+    }
+    assert_eq!(noted("<T, abstract, infer>() => A"), []);
+    let (kept, again) = ((Diagnostic::ReservedName, 7, 13), (Diagnostic::NoArguments, 23, 25));
+    assert_eq!(noted("(infer string extends A<> ? X : Y)"), [kept, again]);
+    let r = read(b"infer any", &cut("infer any"), Options::default(), &mut buffers).unwrap();
+    let sentence = "diagnostic 13 (ReservedName): a type parameter with the name of a built-in type; choose another name, at bytes 6 to 9";
+    assert_eq!(r.notes().next().unwrap().to_string(), sentence);
 }
 
 #[test]
