@@ -45,6 +45,7 @@ LINES = model.ROWS + [
     "{ 'a'?<>(this, b?: C): D\n1, readonly [k: symbol]: B }", "{ a\nb\n}", "{}",
     "{ [k?: string]: A }", "{ [k: string,]: A }", "{ [k: 'a']: A }", "{ [k: null]: A }", "{ []: A; [k: B, i: C]: D }",
     "{ new (this: A): B }",
+    "<string, T, undefined>(x: string) => string", "(infer any extends A<> ? X : Y)", "{ [string in K]: (any) => B }",
 ]
 
 

@@ -118,8 +118,9 @@ fn note(out: &mut [u8; 65536], at: usize, text: &[u8], n: Note, line: usize) -> 
     let p = bytes(out, at, b"diagnostic: ");
     let q = say::diagnostic(out, p, n.number);
     let r = place::told(out, q, place_of(text, n.first, line));
-    let s = byte(out, r, b'\n');
-    place::source(out, s, text, n.first, n.end)
+    let s = say::hint(out, r, text, n);
+    let t = byte(out, s, b'\n');
+    place::source(out, t, text, n.first, n.end)
 }
 
 // The first n diagnostics.

@@ -1,9 +1,12 @@
 // Refusals, diagnostics and tags in words.
 ghost use Prim.Native.Nat.{_<_};
 ghost use lib.ListN.{length};
+use crate::put::Shape;
+use crate::put::copy;
 use crate::put::more;
 use crate::put::pick;
 use crate::put::thrice;
+use lines::line::bytes;
 use words::cursor::word_at;
 
 // Which of two things is spoken of, if there are two.
@@ -95,7 +98,7 @@ pub fn why(out: &mut [u8; 65536], at: usize, number: usize, ends: bool) -> usize
     }
     if number == 3 {
         if ends {
-            return lines::line::bytes(out, at, b"the text ends here, and the type does not");
+            return bytes(out, at, b"the text ends here, and the type does not");
         }
     }
     early(out, at, number)
@@ -109,7 +112,7 @@ pub fn diagnostic(out: &mut [u8; 65536], at: usize, number: usize) -> usize
     pick(
         out,
         at,
-        b"|empty type parameters|empty arguments|this on a constructor|required element after an optional one|rest after a label|? after a labelled type|optional and rest|? on an index parameter|comma after an index parameter|index parameter of a literal type|index parameter of a keyword type that cannot be an index|not exactly one index parameter|",
+        b"|empty type parameters|empty arguments|this on a constructor|required element after an optional one|rest after a label|? after a labelled type|optional and rest|? on an index parameter|comma after an index parameter|index parameter of a literal type|index parameter of a keyword type that cannot be an index|not exactly one index parameter|reserved name|",
         number,
     )
 }
@@ -155,4 +158,17 @@ pub fn note_at(notes: &[u64], index: usize) -> Note {
         first: word_at(notes, more(i)) as usize,
         end: word_at(notes, more(more(i))) as usize,
     }
+}
+
+// What to do about a diagnostic of a text, where its words leave that open.
+pub fn hint(out: &mut [u8; 65536], at: usize, text: &[u8], n: Note) -> usize
+    requires { ⌜ at < 65536 ⌝ }
+    ensures { λ r. ⌜ r < 65536 ⌝ }
+{
+    if n.number != 13 {
+        return at;
+    }
+    let p = bytes(out, at, b": ");
+    let q = copy(out, p, text, n.first, n.end, Shape::SHOWN);
+    bytes(out, q, b" names a type of its own; choose another name")
 }
