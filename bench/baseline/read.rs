@@ -137,6 +137,16 @@ impl Reader<'_> {
         if is_binding(self.kind()) { Ok(self.spelling()) } else { self.refuse(3) }
     }
 
+    /// A binding word that becomes a type's name; 13 if a built-in type has it.
+    fn bound(&mut self) -> Read<Name> {
+        let (first, kind) = (self.first(), self.kind());
+        let name = self.binding()?;
+        if (ANY..=UNKNOWN).contains(&kind) {
+            self.note(13, first, self.last())?;
+        }
+        Ok(name)
+    }
+
     /// A node is checked once read: the length of its longest list, then its height.
     fn checked(&self, longest: usize, below: u16) -> Read<u16> {
         if longest > LONGEST {
@@ -321,7 +331,7 @@ impl Reader<'_> {
     fn infer(&mut self, conditionals: bool) -> Read<Tall> {
         let first = self.first();
         self.step();
-        let name = self.binding()?;
+        let name = self.bound()?;
         let (before, noted) = (self.at, self.notes.len());
         let (mut constraint, mut height) = self.optional_type(EXTENDS, false)?;
         if constraint.is_some() && conditionals && self.is_at(QUESTION) {
@@ -636,7 +646,7 @@ impl Reader<'_> {
             _ => {}
         }
         let first = self.first();
-        let name = self.binding()?;
+        let name = self.bound()?;
         let (constraint, a) = self.optional_type(EXTENDS, conditionals)?;
         let (default, b) = self.optional_type(EQUAL, conditionals)?;
         let height = self.checked(0, a.max(b))?;
