@@ -20,7 +20,7 @@ use Rattle.keys.specs.Key.{nodeTable, keyOf}
 use Rattle.keys.specs.Store.{nodesOf, namesOf, runOf, done, filled}
 use Rattle.keys.proofs.StoreLaws.{length-records, under-plant, length-filled}
 use Rattle.keys.proofs.BitsLaws.{clash}
-use Rattle.rules.specs.Notes.{Note, noteWords}
+use Rattle.rules.specs.Notes.{Note, noteWidth, noteWords}
 use Rattle.rules.specs.State.{Given, State, Result, read as got, refuse}
 use Rattle.rules.specs.Read.{refuses, Lent, given, granted, denied, fits, checked, outcome, Called, written, read}
 use Rattle.rules.specs.Refusal.{isRule}
@@ -118,7 +118,7 @@ facts {c} {t} {s} x =
 length-nodes : (t : Placed) → length (nodesOf t) ≡ 4 * nodes (bare t)
 length-nodes t = omega (arith, length-records (runOf t) 0 0 0, under-plant nodeTable type t done)
 
-length-notes : (ns : List Note) → length (noteWords ns) ≡ 3 * length ns
+length-notes : (ns : List Note) → length (noteWords ns) ≡ noteWidth * length ns
 length-notes [] = refl
 length-notes (n ∷ ns) = omega (arith, length-notes ns)
 

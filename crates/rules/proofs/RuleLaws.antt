@@ -32,7 +32,7 @@ use Rattle.rules.specs.Postfix.{suffixed, bracketed, suffix, postfixFrom
 use Rattle.rules.specs.Primary.{keywords, literals, negated, isKeyword, isNegative, isAssertion, keyword, literal, negative, this, assertion, query, curly, brackets, reference, enclosed, worded, primary}
 use Rattle.rules.specs.Mapped.{modifier, mapped}
 use Rattle.rules.specs.Object.{Signature, ofMethod, ofCall, ofConstruct, isConstruct, signatureNode, IndexParameter, IndexParameters, noIndex, oneIndex, severalIndex, withOne, hasOne, kept, keyHere, signs, constructs, isReadonly, unsupportedHere, memberEnd, thisNoted, reportIndex, signature, indexType, indexParameter, indexFrom, index, property, withKey, behindReadonly, member as objectMember, membersFrom, object}
-use Rattle.rules.specs.Tuple.{seenOptional, isOptionalElement, labelled, memberNode, member as namedMember, restOf, labelledElement, element as elementRule, checkedElement, tuple}
+use Rattle.rules.specs.Tuple.{latestOptional, reportRequired, isOptionalElement, labelled, memberNode, member as namedMember, restOf, labelledElement, element as elementRule, checkedElement, tuple}
 use Rattle.rules.specs.Template.{piecesFrom, pieces, template}
 use Rattle.rules.specs.TypeRule.{begins, conditional, unionOrConditional, type as typeRule}
 use Rattle.rules.specs.Reading.{readType, reading}
@@ -488,8 +488,12 @@ module _ (g : Given) (c : Checked g) where
     unfolding checkedElement
     checked-gives es n lo s l a =
         gives-then (element-gives n lo s l a) λ e q b.
-        reported-if (seenOptional es and not (isOptionalElement e) and not (isRest e)) _ q (read e) b λ q d.
-        gives d
+        required-gives (latestOptional es) e q b
+      where
+        required-gives : (o : Opt Placed) (e : Placed) (q : State) → Got g (Good element) itself 1 (worth g s) n lo e q
+            → Gives g (Got g (Good element) itself 1 (worth g s) n lo) (reportRequired g o e q)
+        required-gives absent e q b = gives b
+        required-gives (present o) e q b = reported-if (not (isOptionalElement e) and not (isRest e)) _ q (read e) b λ q d. gives d
 
     tuple-gives : ReadsTree g type (tuple g T)
     unfolding tuple

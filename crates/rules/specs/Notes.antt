@@ -54,21 +54,27 @@ notOneIndex = 12
 abbrev pub reservedName : ℕ
 reservedName = 13
 
--- a diagnostic: its number, first byte and end byte
+-- a diagnostic: its number, first byte and end byte, and those of a second place, which are 0 where there is none (02, W6)
 pub record Note : Type 0 where
   pub number : ℕ
   pub first : ℕ
   pub end : ℕ
+  pub otherFirst : ℕ
+  pub otherEnd : ℕ
 
--- a diagnostic by its three numbers
+-- a diagnostic of one place
 abbrev pub note : ℕ → ℕ → ℕ → Note
-note n b e = record { number = n; first = b; end = e }
+note n b e = record { number = n; first = b; end = e; otherFirst = 0; otherEnd = 0 }
+
+-- a diagnostic of two places
+abbrev pub noteBoth : ℕ → ℕ → ℕ → ℕ → ℕ → Note
+noteBoth n b e b' e' = record { number = n; first = b; end = e; otherFirst = b'; otherEnd = e' }
 
 -- the words of a record
 abbrev pub noteWidth : ℕ
-noteWidth = 3
+noteWidth = 5
 
 -- the records of a list of diagnostics
 abbrev pub noteWords : List Note → List ℕ
 noteWords [] = []
-noteWords (n ∷ l) = n .number ∷ n .first ∷ n .end ∷ noteWords l
+noteWords (n ∷ l) = n .number ∷ n .first ∷ n .end ∷ n .otherFirst ∷ n .otherEnd ∷ noteWords l

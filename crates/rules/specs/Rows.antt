@@ -7,7 +7,7 @@ use mathlib.Core.Path.{_≡_, refl}
 use lib.ListN.{length}
 use Rattle.words.specs.Spelling.{bytes}
 use Rattle.keys.specs.Placed.{Placed, Spelling, absent, present, reference, keyword, union, intersection, array, conditional, infer, function, constructor, tuple, optional, rest, named, typeParameter}
-use Rattle.rules.specs.Notes.{note}
+use Rattle.rules.specs.Notes.{note, noteBoth}
 use Rattle.rules.specs.Read.{Lent, lend, Outcome, granted, denied, outcome}
 use Rattle.rules.specs.Rules.{rules}
 
@@ -93,7 +93,7 @@ rows =
     (0x12_000001_00000000 ∷ 0x01_000001_00000001 ∷ 0x1D_000001_00000002 ∷ 0x1E_000001_00000003 ∷ 0x01_000001_00000005 ∷ 0x1F_000001_00000006 ∷ 0x01_000001_00000008 ∷ 0x13_000001_00000009 ∷ 0x00_000000_0000000A ∷ [])
     (granted
     (tuple 0 10 (named 1 6 (at 1 "a") true (ref 5 "A") ∷ ref 8 "B" ∷ []))
-    (note 4 8 9 ∷ []) 8 0 (0x14 ∷ 0xC0 ∷ 0x09 ∷ 0x60 ∷ 0x00 ∷ 0x16 ∷ 0x18 ∷ 0x20 ∷ 0x02 ∷ 0x00 ∷ 0x02 ∷ 0x82 ∷ 0x04 ∷ 0x00 ∷ 0x40 ∷ 0x00 ∷ 0x50 ∷ 0x80 ∷ []))
+    (noteBoth 4 8 9 1 6 ∷ []) 8 0 (0x14 ∷ 0xC0 ∷ 0x09 ∷ 0x60 ∷ 0x00 ∷ 0x16 ∷ 0x18 ∷ 0x20 ∷ 0x02 ∷ 0x00 ∷ 0x02 ∷ 0x82 ∷ 0x04 ∷ 0x00 ∷ 0x40 ∷ 0x00 ∷ 0x50 ∷ 0x80 ∷ []))
     ∷ row "A<<T>() => T>"
     (0x01_000001_00000000 ∷ 0x18_000002_00000001 ∷ 0x01_000001_00000003 ∷ 0x17_000001_00000004 ∷ 0x14_000001_00000005 ∷ 0x15_000001_00000006 ∷ 0x23_000002_00000008 ∷ 0x01_000001_0000000B ∷ 0x17_000001_0000000C ∷ 0x00_000000_0000000D ∷ [])
     (granted

@@ -1,4 +1,4 @@
--- Tuples and their elements (01, "Reading rules": tuple element, Diagnostics 4 to 7; types.rs, parse_tuple_element).
+-- Tuples and their elements (01, "Reading rules": tuple element, Diagnostics 4 to 7; 02, W6; types.rs, parse_tuple_element).
 use mathlib.Core.Bool.{Bool, true, false, not}
 use mathlib.Core.List.{List, [], _∷_}
 use lib.Dec.{eqb}
@@ -7,8 +7,8 @@ use Rattle.words.specs.Test.{_and_, _or_, test}
 use Rattle.words.specs.Kind.{LBrack, RBrack, Question, Colon, Dot3}
 use Rattle.words.specs.Class as class
 use Rattle.keys.specs.Placed as node
-use Rattle.keys.specs.Placed.{Placed, firstOf, endOf, isOptional, isRest, isNamedAsked, isAsked, asElement}
-use Rattle.rules.specs.Notes.{note, requiredAfterOptional, restAfterLabel, askedAfterLabel, optionalAndRest}
+use Rattle.keys.specs.Placed.{Placed, Opt, absent, present, firstOf, endOf, isOptional, isRest, isNamedAsked, isAsked, asElement}
+use Rattle.rules.specs.Notes.{note, noteBoth, requiredAfterOptional, restAfterLabel, askedAfterLabel, optionalAndRest}
 use Rattle.rules.specs.State.{Given, State, Result, read, Reader, then, next, kind, kindAfter, stands, first, end, spelling, past, expect, make, reportIf}
 use Rattle.rules.specs.List.{list}
 
@@ -16,10 +16,20 @@ use Rattle.rules.specs.List.{list}
 abbrev pub isOptionalElement : Placed → Bool
 isOptionalElement t = isOptional t or isNamedAsked t
 
--- an optional one is among the elements
-abbrev pub seenOptional : List Placed → Bool
-seenOptional [] = false
-seenOptional (t ∷ l) = isOptionalElement t or seenOptional l
+-- the latest optional one of an earlier one and the elements from here on
+abbrev pub latestFrom : Opt Placed → List Placed → Opt Placed
+latestFrom o [] = o
+latestFrom o (t ∷ l) = latestFrom (test (isOptionalElement t) (λ _. present t) (λ _. o)) l
+
+-- the latest optional one among the elements
+abbrev pub latestOptional : List Placed → Opt Placed
+latestOptional l = latestFrom absent l
+
+-- diagnostic 4 for e where it is neither optional nor a rest, at it and at the latest optional one before it
+abbrev pub reportRequired : Given → Opt Placed → Placed → State → Result Placed
+reportRequired g absent e s = read e s
+reportRequired g (present o) e s =
+    reportIf (not (isOptionalElement e) and not (isRest e)) g (noteBoth requiredAfterOptional (firstOf e) (endOf e) (firstOf o) (endOf o)) s (read e)
 
 -- tuple element: a label stands here, with its colon or question mark and colon
 abbrev pub labelled : Given → State → Bool
@@ -63,12 +73,11 @@ module _ (g : Given) (T : Reader) where
       test (stands g Dot3 s) (λ _. make g [] (node.rest (first g s) (end g q) t) q) λ _.
       read (asElement t) q
 
-  -- tuple element: diagnostic 4 for one that is neither optional nor a rest, if l has an optional one
+  -- tuple element: one behind those of l, which may have to be reported
   unfoldable pub checkedElement : List Placed → State → Result Placed
   checkedElement l s =
       then (element s) λ e q.
-      reportIf (seenOptional l and not (isOptionalElement e) and not (isRest e)) g (note requiredAfterOptional (firstOf e) (endOf e)) q λ q.
-      read e q
+      reportRequired g (latestOptional l) e q
 
   -- tuple: its elements in square brackets
   unfoldable pub tuple : State → Result Placed
