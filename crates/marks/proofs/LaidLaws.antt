@@ -5,14 +5,14 @@ use Prim.Native.Nat.{ℕ, zero, suc, _+_, _*_, _≤_, _<_}
 use native.Mathlib.Nat.{add-zero}
 use native.Mathlib.Omega.{arith}
 use native.Mathlib.Decide.{decLt}
-use lib.ListN.{length, take, set, getD, length-append}
+use lib.ListN.{length, take, set, getD, length-append, length-set}
 use lib.Seq.{length-take-le, take-take, take-at, take-all, take-append-le, take-append-seam, getD-set-same, getD-set-other}
 use Rattle.keys.specs.Placed.{Spelling}
 use Rattle.keys.specs.Store.{Run, done, name, under, called, firstKid, records, nameOf, namesIn, _⊕_}
 use Rattle.keys.proofs.StoreLaws.{under-join, called-join, records-join, namesIn-join}
 use Rattle.keys.specs.Words.{firstNodes, firstNames}
-use Rattle.rules.specs.Notes.{Note, note}
-use Rattle.marks.specs.State.{noteAt, notesOf}
+use Rattle.rules.specs.Notes.{Note, noteBoth}
+use Rattle.marks.specs.State.{noteAt, noteFrom, notesOf}
 use Rattle.marks.specs.Laid.{skeleton, namesRun, Was, wasAt, Laid}
 use Rattle.marks.proofs.RunLaws.{under-skeleton, called-skeleton, records-skeleton, namesIn-skeleton, under-names, records-names}
 
@@ -87,27 +87,57 @@ notes-set O (suc n) i v h =
       getD-set-other O i (noteAt n) v 0 (λ e. omega arith),
       getD-set-other O i (noteAt n + 1) v 0 (λ e. omega arith),
       getD-set-other O i (noteAt n + 2) v 0 (λ e. omega arith),
+      getD-set-other O i (noteAt n + 3) v 0 (λ e. omega arith),
+      getD-set-other O i (noteAt n + 4) v 0 (λ e. omega arith),
     )
 
--- Three words stored behind n diagnostics are one more.
-pub notes-three : (O : List ℕ) (n a b c : ℕ) → noteAt (n + 1) ≤ length O
-    → notesOf (set (set (set O (noteAt n) a) (noteAt n + 1) b) (noteAt n + 2) c) (n + 1) ≡ notesOf O n ++ (note a b c ∷ [])
+-- The words of a record, stored from a word on.
+abbrev recorded : List ℕ → ℕ → Note → List ℕ
+recorded O i z = set (set (set (set (set O i (z .number)) (i + 1) (z .first)) (i + 2) (z .end)) (i + 3) (z .otherFirst)) (i + 4) (z .otherEnd)
+
+-- The words that stand there then.
+note-recorded : (O : List ℕ) (i : ℕ) (z : Note) → i + 4 < length O → noteFrom (recorded O i z) i ≡ z
+note-recorded O i z h =
+    let s1 = set O i (z .number) in
+    let s2 = set s1 (i + 1) (z .first) in
+    let s3 = set s2 (i + 2) (z .end) in
+    let s4 = set s3 (i + 3) (z .otherFirst) in
+    let l1 : length s1 ≡ length O = length-set O i (z .number) in
+    let l2 : length s2 ≡ length O = length-set s1 (i + 1) (z .first) ∙ l1 in
+    let l3 : length s3 ≡ length O = length-set s2 (i + 2) (z .end) ∙ l2 in
+    let l4 : length s4 ≡ length O = length-set s3 (i + 3) (z .otherFirst) ∙ l3 in
+    rw (
+      getD-set-other s4 (i + 4) i (z .otherEnd) 0 (λ e. omega arith),
+      getD-set-other s4 (i + 4) (i + 1) (z .otherEnd) 0 (λ e. omega arith),
+      getD-set-other s4 (i + 4) (i + 2) (z .otherEnd) 0 (λ e. omega arith),
+      getD-set-other s4 (i + 4) (i + 3) (z .otherEnd) 0 (λ e. omega arith),
+      getD-set-same s4 (i + 4) (z .otherEnd) 0 (omega arith),
+      getD-set-other s3 (i + 3) i (z .otherFirst) 0 (λ e. omega arith),
+      getD-set-other s3 (i + 3) (i + 1) (z .otherFirst) 0 (λ e. omega arith),
+      getD-set-other s3 (i + 3) (i + 2) (z .otherFirst) 0 (λ e. omega arith),
+      getD-set-same s3 (i + 3) (z .otherFirst) 0 (omega arith),
+      getD-set-other s2 (i + 2) i (z .end) 0 (λ e. omega arith),
+      getD-set-other s2 (i + 2) (i + 1) (z .end) 0 (λ e. omega arith),
+      getD-set-same s2 (i + 2) (z .end) 0 (omega arith),
+      getD-set-other s1 (i + 1) i (z .first) 0 (λ e. omega arith),
+      getD-set-same s1 (i + 1) (z .first) 0 (omega arith),
+      getD-set-same O i (z .number) 0 (omega arith),
+    )
+
+-- The words of a record stored behind n diagnostics are one more.
+pub notes-recorded : (O : List ℕ) (n : ℕ) (z : Note) → noteAt (n + 1) ≤ length O → notesOf (recorded O (noteAt n) z) (n + 1) ≡ notesOf O n ++ (z ∷ [])
 unfolding notesOf
-notes-three O n a b c h =
-    let s1 = set O (noteAt n) a in
-    let s2 = set s1 (noteAt n + 1) b in
-    let s3 = set s2 (noteAt n + 2) c in
-    let l1 : length s1 ≡ length O = lib.ListN.length-set O (noteAt n) a in
-    let l2 : length s2 ≡ length O = lib.ListN.length-set s1 (noteAt n + 1) b ∙ l1 in
-    let e0 : notesOf s3 n ≡ notesOf O n = notes-set s2 n (noteAt n + 2) c (omega arith) ∙ notes-set s1 n (noteAt n + 1) b (omega arith) ∙ notes-set O n (noteAt n) a (omega arith) in
-    let e1 : getD s3 (noteAt n) 0 ≡ a = getD-set-other s2 (noteAt n + 2) (noteAt n) c 0 (λ e. omega arith) ∙ getD-set-other s1 (noteAt n + 1) (noteAt n) b 0 (λ e. omega arith) ∙ getD-set-same O (noteAt n) a 0 (omega arith) in
-    let e2 : getD s3 (noteAt n + 1) 0 ≡ b = getD-set-other s2 (noteAt n + 2) (noteAt n + 1) c 0 (λ e. omega arith) ∙ getD-set-same s1 (noteAt n + 1) b 0 (omega arith) in
-    let e3 : getD s3 (noteAt n + 2) 0 ≡ c = getD-set-same s2 (noteAt n + 2) c 0 (omega arith) in
-    ap (notesOf s3) (let e : n + 1 ≡ suc n = omega arith in e)
-    ∙ ap (λ (l : List Note). l ++ (note (getD s3 (noteAt n) 0) (getD s3 (noteAt n + 1) 0) (getD s3 (noteAt n + 2) 0) ∷ [])) e0
-    ∙ ap (λ (x : ℕ). notesOf O n ++ (note x (getD s3 (noteAt n + 1) 0) (getD s3 (noteAt n + 2) 0) ∷ [])) e1
-    ∙ ap (λ (x : ℕ). notesOf O n ++ (note a x (getD s3 (noteAt n + 2) 0) ∷ [])) e2
-    ∙ ap (λ (x : ℕ). notesOf O n ++ (note a b x ∷ [])) e3
+notes-recorded O n z h =
+    let i = noteAt n in
+    let s1 = set O i (z .number) in
+    let s2 = set s1 (i + 1) (z .first) in
+    let s3 = set s2 (i + 2) (z .end) in
+    let s4 = set s3 (i + 3) (z .otherFirst) in
+    let before : notesOf (recorded O i z) n ≡ notesOf O n =
+    notes-set s4 n (i + 4) (z .otherEnd) (omega arith) ∙ notes-set s3 n (i + 3) (z .otherFirst) (omega arith) ∙ notes-set s2 n (i + 2) (z .end) (omega arith)
+    ∙ notes-set s1 n (i + 1) (z .first) (omega arith) ∙ notes-set O n i (z .number) (omega arith) in
+    ap (notesOf (recorded O i z)) (let e : n + 1 ≡ suc n = omega arith in e)
+    ∙ ap₂ (λ (l : List Note) (y : Note). l ++ (y ∷ [])) before (note-recorded O i z (omega arith))
 
 -- ---- What is laid
 

@@ -1,31 +1,40 @@
 -- The records of diagnostics are their words behind the tallies, and are copied one word after the other.
 use mathlib.Core.Path.{_≡_, refl, sym, ap, ap₂, _∙_}
-use mathlib.Core.List.{List, [], _∷_, _++_}
+use mathlib.Core.List.{List, [], _∷_, _++_, append-nil}
 use Prim.Native.Nat.{ℕ, zero, suc, _+_, _*_, _<_}
 use native.Mathlib.Omega.{arith}
 use lib.ListN.{length, take, set, getD, length-set}
 use lib.Seq.{take-suc-set, append-snoc}
 use Rattle.keys.specs.Store.{filled}
-use Rattle.rules.specs.Notes.{Note, note, noteWidth, noteWords}
-use Rattle.marks.specs.State.{tallies, noteAt, notesOf}
+use Rattle.rules.specs.Notes.{Note, noteWidth, noteWords}
+use Rattle.marks.specs.State.{tallies, noteAt, noteFrom, notesOf}
 
-words-append : (l : List Note) (z : Note) → noteWords (l ++ (z ∷ [])) ≡ noteWords l ++ (z .number ∷ z .first ∷ z .end ∷ [])
+words-append : (l : List Note) (z : Note) → noteWords (l ++ (z ∷ [])) ≡ noteWords l ++ noteWords (z ∷ [])
 words-append [] z = refl
-words-append (y ∷ l) z = ap (λ (r : List ℕ). y .number ∷ y .first ∷ y .end ∷ r) (words-append l z)
+words-append (y ∷ l) z = ap (λ (r : List ℕ). y .number ∷ y .first ∷ y .end ∷ y .otherFirst ∷ y .otherEnd ∷ r) (words-append l z)
 
 -- The first words behind the tallies.
 unfoldable pub behind : List ℕ → ℕ → List ℕ
 behind O zero = []
 behind O (suc i) = behind O i ++ (getD O (tallies + i) 0 ∷ [])
 
-behind-three : (O : List ℕ) (i : ℕ) → behind O (suc (suc (suc i))) ≡ behind O i ++ (getD O (tallies + i) 0 ∷ getD O (tallies + suc i) 0 ∷ getD O (tallies + suc (suc i)) 0 ∷ [])
+-- One word more.
+behind-more : (O : List ℕ) (i j k : ℕ) (l : List ℕ) → j ≡ i + 1 → k ≡ tallies + i → behind O j ++ l ≡ behind O i ++ (getD O k 0 ∷ l)
 unfolding behind
-behind-three O i =
-    append-snoc (behind O i ++ (getD O (tallies + i) 0 ∷ [])) (getD O (tallies + suc i) 0) (getD O (tallies + suc (suc i)) 0 ∷ [])
-    ∙ append-snoc (behind O i) (getD O (tallies + i) 0) (getD O (tallies + suc i) 0 ∷ getD O (tallies + suc (suc i)) 0 ∷ [])
+behind-more O i j k l e f =
+    ap (λ (x : ℕ). behind O x ++ l) (let z : j ≡ suc i = omega arith in z)
+    ∙ append-snoc (behind O i) (getD O (tallies + i) 0) l
+    ∙ ap (λ (x : ℕ). behind O i ++ (getD O x 0 ∷ l)) (sym f)
 
-word-at : (O : List ℕ) (i j : ℕ) → i ≡ j → getD O i 0 ≡ getD O j 0
-word-at O i j e = ap (λ (k : ℕ). getD O k 0) e
+-- One record more.
+behind-record : (O : List ℕ) (i : ℕ) → behind O (i + noteWidth) ≡ behind O i ++ noteWords (noteFrom O (tallies + i) ∷ [])
+behind-record O i =
+    sym (append-nil (behind O (i + noteWidth)))
+    ∙ behind-more O (i + 4) (i + noteWidth) (tallies + i + 4) _ (omega arith) (omega arith)
+    ∙ behind-more O (i + 3) (i + 4) (tallies + i + 3) _ (omega arith) (omega arith)
+    ∙ behind-more O (i + 2) (i + 3) (tallies + i + 2) _ (omega arith) (omega arith)
+    ∙ behind-more O (i + 1) (i + 2) (tallies + i + 1) _ (omega arith) (omega arith)
+    ∙ behind-more O i (i + 1) (tallies + i) _ refl refl
 
 -- The words of the first n diagnostics.
 note-words : (O : List ℕ) (n : ℕ) → behind O (n * noteWidth) ≡ noteWords (notesOf O n)
@@ -33,11 +42,10 @@ unfolding behind notesOf
 note-words O zero = refl
 note-words O (suc n) =
     let at = n * noteWidth in
-    ap (behind O) (let z : suc n * noteWidth ≡ suc (suc (suc at)) = omega arith in z)
-    ∙ behind-three O at
-    ∙ ap (λ (r : List ℕ). r ++ (getD O (tallies + at) 0 ∷ getD O (tallies + suc at) 0 ∷ getD O (tallies + suc (suc at)) 0 ∷ [])) (note-words O n)
-    ∙ rw (word-at O (tallies + suc at) (noteAt n + 1) (omega arith), word-at O (tallies + suc (suc at)) (noteAt n + 2) (omega arith))
-    (sym (words-append (notesOf O n) (note (getD O (noteAt n) 0) (getD O (noteAt n + 1) 0) (getD O (noteAt n + 2) 0))))
+    ap (behind O) (let z : suc n * noteWidth ≡ at + noteWidth = omega arith in z)
+    ∙ behind-record O at
+    ∙ ap (λ (r : List ℕ). r ++ noteWords (noteFrom O (noteAt n) ∷ [])) (note-words O n)
+    ∙ sym (words-append (notesOf O n) (noteFrom O (noteAt n)))
 
 -- Of the words behind the tallies of O, i were copied to the front of N, which then is N'.
 pub record Copying (O N : List ℕ) (i : ℕ) (N' : List ℕ) : Type 0 where

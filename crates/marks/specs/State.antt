@@ -10,7 +10,7 @@ use Rattle.words.specs.Word.{size, end}
 use Rattle.words.specs.Cursor.{wordAt, kindAt}
 use Rattle.words.specs.Check.{spelled}
 use Rattle.keys.specs.Limits.{recordWords}
-use Rattle.rules.specs.Notes.{Note, note, noteWidth}
+use Rattle.rules.specs.Notes.{Note, noteBoth, noteWidth}
 use Rattle.rules.specs.State as rule
 use Rattle.rules.specs.State.{State, Result, refuse}
 use Rattle.marks.specs.declared.state.Given.{Given}
@@ -28,10 +28,14 @@ tallies = 8
 abbrev pub noteAt : ℕ → ℕ
 noteAt n = tallies + n * noteWidth
 
+-- The diagnostic whose record begins at a word.
+abbrev pub noteFrom : List ℕ → ℕ → Note
+noteFrom s i = noteBoth (getD s i 0) (getD s (i + 1) 0) (getD s (i + 2) 0) (getD s (i + 3) 0) (getD s (i + 4) 0)
+
 -- The first n diagnostics of their words.
 unfoldable pub notesOf : List ℕ → ℕ → List Note
 notesOf s zero = []
-notesOf s (suc n) = notesOf s n ++ (note (getD s (noteAt n) 0) (getD s (noteAt n + 1) 0) (getD s (noteAt n + 2) 0) ∷ [])
+notesOf s (suc n) = notesOf s n ++ (noteFrom s (noteAt n) ∷ [])
 
 -- What the code is given, for contracts to speak of any.
 abbrev pub AnyGiven : Type 0

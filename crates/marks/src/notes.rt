@@ -6,13 +6,14 @@ ghost use Prim.Native.Nat.{_+_, _*_, _≤_, _<_};
 ghost use lib.ListN.{length};
 ghost use Rattle.words.specs.Limits.{mostNotes};
 ghost use Rattle.keys.specs.Store.{filled};
-ghost use Rattle.rules.specs.Notes.{note, noteWidth, noteWords};
+ghost use Rattle.rules.specs.Notes.{note, noteBoth, noteWidth, noteWords};
 ghost use Rattle.marks.specs.State.{noteAt, notesOf};
 ghost use Rattle.marks.specs.Notes.{Reports, Noted};
 use crate::refusal::Refusal;
 use crate::state::Answer;
 use crate::state::Given;
 use crate::state::Mark;
+use keys::store::Place;
 use keys::store::clear_words;
 use words::limits::Notes;
 
@@ -53,24 +54,56 @@ pub struct Noting {}
 impl Noting {
     pub const TALLIES: usize = 8;
 
-    pub const RECORD: usize = 3;
+    pub const RECORD: usize = 5;
 
     // With as many records as there may be diagnostics.
-    pub const WORDS: usize = 104;
+    pub const WORDS: usize = 168;
 }
 
-// The three words of a record. The array comes as a slice: lending it so is what tells the proof how long it is.
-fn append_note(notes: &mut [u64], at: usize, number: usize, first: usize, end: usize)
+// The words of a record. The array comes as a slice: lending it so is what tells the proof how long it is.
+fn append_note(notes: &mut [u64], at: usize, number: usize, place: Place, other: Place)
     requires { ⌜ noteAt (at + 1) ≤ length (now notes) ⌝ }
-    ensures { λ _. ⌜ notesOf (now (notes .exit)) (at + 1) ≡ notesOf (now (notes .entry)) at ++ (note number first end ∷ []) ⌝ }
+    ensures { λ _. ⌜ notesOf (now (notes .exit)) (at + 1) ≡ notesOf (now (notes .entry)) at ++ (noteBoth number (place .first) (place .end) (other .first) (other .end) ∷ []) ⌝ }
 {
     let to = Noting::TALLIES + at * Noting::RECORD;
     notes[to] = number as u64;
-    notes[to + 1] = first as u64;
-    notes[to + 2] = end as u64;
+    notes[to + 1] = place.first as u64;
+    notes[to + 2] = place.end as u64;
+    notes[to + 3] = other.first as u64;
+    notes[to + 4] = other.end as u64;
 }
 
-// A diagnostic; 9 where it would be one too many or has no record.
+// A diagnostic of two places; 9 where it would be one too many or has no record.
+pub fn report_both(
+    notes: &mut [u64; Noting::WORDS],
+    given: Given,
+    number: usize,
+    place: Place,
+    other: Place,
+    m: Mark,
+) -> Answer
+    requires { ⌜ m .noted ≤ given .records ⌝ }
+    ensures { λ r. ⌜ Reports true given (noteBoth number (place .first) (place .end) (other .first) (other .end)) m (now (notes .entry)) r (now (notes .exit)) ⌝ }
+    ensures { λ r. ⌜ Noted given m r ⌝ }
+{
+    if Notes::MOST <= m.noted {
+        return Answer::refused(Refusal::MANY_NOTES, m);
+    }
+    if given.records <= m.noted {
+        return Answer::refused(Refusal::MANY_NOTES, m);
+    }
+    append_note(notes, m.noted, number, place, other);
+    let q = Mark {
+        at: m.at,
+        half: m.half,
+        used: m.used,
+        named: m.named,
+        noted: m.noted + 1,
+    };
+    Answer::taken(q)
+}
+
+// A diagnostic of one place: the second has no bytes.
 pub fn report(
     notes: &mut [u64; Noting::WORDS],
     given: Given,
@@ -83,21 +116,9 @@ pub fn report(
     ensures { λ r. ⌜ Reports true given (note number first end) m (now (notes .entry)) r (now (notes .exit)) ⌝ }
     ensures { λ r. ⌜ Noted given m r ⌝ }
 {
-    if Notes::MOST <= m.noted {
-        return Answer::refused(Refusal::MANY_NOTES, m);
-    }
-    if given.records <= m.noted {
-        return Answer::refused(Refusal::MANY_NOTES, m);
-    }
-    append_note(notes, m.noted, number, first, end);
-    let q = Mark {
-        at: m.at,
-        half: m.half,
-        used: m.used,
-        named: m.named,
-        noted: m.noted + 1,
-    };
-    Answer::taken(q)
+    let place = Place { first, end };
+    let none = Place { first: 0, end: 0 };
+    report_both(notes, given, number, place, none, m)
 }
 
 // A diagnostic where a test holds.

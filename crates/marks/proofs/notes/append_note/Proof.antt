@@ -1,7 +1,8 @@
--- Three words stored are one diagnostic.
+-- The words stored are one diagnostic.
 use native.Mathlib.Omega.{arith}
 use lib.ListN.{length-set}
-use Rattle.marks.proofs.LaidLaws.{notes-three}
+use Rattle.rules.specs.Notes.{noteBoth}
+use Rattle.marks.proofs.LaidLaws.{notes-recorded}
 use borrow.Author.Needs.{needs}
 use Rattle.marks.proofs.notes.append_note.Statement.{statement}
 use Rattle.marks.proofs.notes.append_note.Tie as tie
@@ -36,6 +37,24 @@ mul-notes-3 c = search needs
 slice-write-notes-3 : tie.Need-slice-write-notes-3
 slice-write-notes-3 c = simp length-set (omega arith)
 
+add-notes-3 : tie.Need-add-notes-3
+add-notes-3 c = search needs
+
+mul-notes-4 : tie.Need-mul-notes-4
+mul-notes-4 c = search needs
+
+slice-write-notes-4 : tie.Need-slice-write-notes-4
+slice-write-notes-4 c = simp length-set (omega arith)
+
+add-notes-4 : tie.Need-add-notes-4
+add-notes-4 c = search needs
+
+mul-notes-5 : tie.Need-mul-notes-5
+mul-notes-5 c = search needs
+
+slice-write-notes-5 : tie.Need-slice-write-notes-5
+slice-write-notes-5 c = simp length-set (omega arith)
+
 same-length : tie.Need-same-length
 same-length c = search needs
 
@@ -43,7 +62,7 @@ returns : tie.Need-returns
 returns c =
     let pre = c .pre in
     let args = c .args in
-    notes-three (args .notes .now) (args .at) (args .number) (args .first) (args .end) pre
+    notes-recorded (args .notes .now) (args .at) (noteBoth (args .number) (args .place .first) (args .place .end) (args .other .first) (args .other .end)) pre
 
 pub append-note-spec : {M : Type 1} → statement M
 append-note-spec =
@@ -59,5 +78,11 @@ append-note-spec =
     add-notes-2
     mul-notes-3
     slice-write-notes-3
+    add-notes-3
+    mul-notes-4
+    slice-write-notes-4
+    add-notes-4
+    mul-notes-5
+    slice-write-notes-5
     same-length
     returns)

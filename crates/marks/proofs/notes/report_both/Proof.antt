@@ -4,8 +4,8 @@ use native.Mathlib.Omega.{arith}
 use Rattle.marks.specs.Notes.{full, noted}
 use Rattle.marks.proofs.ReportLaws.{full-most, full-records, full-not, noted-same, noted-one}
 use borrow.Author.Needs.{needs}
-use Rattle.marks.proofs.notes.report.Statement.{statement}
-use Rattle.marks.proofs.notes.report.Tie as tie
+use Rattle.marks.proofs.notes.report_both.Statement.{statement}
+use Rattle.marks.proofs.notes.report_both.Tie as tie
 
 refused-requires : tie.Need-refused-requires
 refused-requires c κs = search needs
@@ -45,8 +45,8 @@ returns-3 c =
     let taken = c .taken in
     (noted refl (full-not (args .given) (args .m) (omega arith) (omega arith)) (taken .ensures) (append-note .ensures), noted-one (taken .ensures) (omega arith))
 
-pub report-spec : {M : Type 1} → statement M
-report-spec =
+pub report-both-spec : {M : Type 1} → statement M
+report-both-spec =
     tie.close
     (tie.spec
     refused-requires
