@@ -11,7 +11,7 @@ use lib.ListN.{length, take, drop, getD, set, length-append}
 use lib.Seq.{getD-take, getD-drop, getD-at, getD-append-add, take-set-lt, set-at, length-take-le}
 use Rattle.words.specs.Test.{_and_, _or_, between, among}
 use Rattle.keys.specs.Bits.{unit}
-use Rattle.keys.specs.Limits.{countWidth}
+use Rattle.keys.specs.Limits.{countWidth, recordWords, halfWord}
 use Rattle.keys.specs.Form.{Form, never, height}
 use Rattle.keys.specs.Key.{nodeTable}
 use Rattle.keys.specs.Table.{rows, type, underRest, namedRow}
@@ -19,6 +19,7 @@ use Rattle.keys.specs.Placed as node
 use Rattle.keys.specs.Placed.{Placed, tree, join, spell, bit, Spelling, second, isSet, optionalIf, asElement, isAsked}
 use Rattle.keys.specs.Store.{Run, done, chose, name, kid, plant, packed, firstKid, records, recordOf, _⊕_}
 use Rattle.keys.proofs.StoreLaws.{under-join, called-join, namesIn-join}
+use Rattle.keys.specs.Holds.{firstAt, endAt}
 use Rattle.keys.specs.Words.{firstNodes}
 use Rattle.rules.specs.Tuple as tuple
 use Rattle.marks.specs.Laid.{heights, skeleton, runIn, namesRun, showsAsked, showsChosen, allowed, IsNode, node as is-node, Was, Laid, Stands, Shape}
@@ -259,17 +260,18 @@ module _ {B : Was} {e : Placed} {high : ℕ} {m : Mark} {N M O : List ℕ} (h : 
       by (is-node {tag = tag} {first = f} {end = l} {p = p} a) d = last-tag [] 1 tag f l p d refl (tag-below 1 tag p (a .0)) h some
 
   -- Its first and end byte are those of the record.
-  pub element-place : Stands 1 B e high m N M O
-      → (getD N (m .used * 4 - 3) 0 % 4294967296 ≡ node.firstOf e) × (getD N (m .used * 4 - 3) 0 / 4294967296 ≡ node.endOf e)
+  pub element-place : Stands 1 B e high m N M O → (firstAt N (m .used - 1) ≡ node.firstOf e) × (endAt N (m .used - 1) ≡ node.endOf e)
   element-place s = by (s .is-node) (s .laid)
     where
-      by : {e : Placed} → IsNode 1 e → Laid B (runIn 1 e) (m .used) (m .named) (m .noted) N M O
-          → (getD N (m .used * 4 - 3) 0 % 4294967296 ≡ node.firstOf e) × (getD N (m .used * 4 - 3) 0 / 4294967296 ≡ node.endOf e)
+      same : getD N ((m .used - 1) * recordWords + 1) 0 ≡ getD N (m .used * 4 - 3) 0
+      same = ap (λ (i : ℕ). getD N i 0) (let z : (m .used - 1) * recordWords + 1 ≡ m .used * 4 - 3 = omega arith in z)
+
+      by : {e : Placed} → IsNode 1 e → Laid B (runIn 1 e) (m .used) (m .named) (m .noted) N M O → (firstAt N (m .used - 1) ≡ node.firstOf e) × (endAt N (m .used - 1) ≡ node.endOf e)
       by (is-node {tag = tag} {first = f} {end = l} {p = p} a) d =
-          let w = last-place [] f l (chose 6 tag (plant nodeTable (nodeTable .row 1 tag) p done)) d h some in
+          let w = same ∙ last-place [] f l (chose 6 tag (plant nodeTable (nodeTable .row 1 tag) p done)) d h some in
           let low = a .1 in (
-            ap (λ (x : ℕ). x % 4294967296) w ∙ (let z : (f + 2 ^ 32 * l) % 4294967296 ≡ f = omega arith in z),
-            ap (λ (x : ℕ). x / 4294967296) w ∙ (let z : (f + 2 ^ 32 * l) / 4294967296 ≡ l = omega arith in z),
+            ap (λ (x : ℕ). x % halfWord) w ∙ (let z : (f + 2 ^ 32 * l) % halfWord ≡ f = omega arith in z),
+            ap (λ (x : ℕ). x / halfWord) w ∙ (let z : (f + 2 ^ 32 * l) / halfWord ≡ l = omega arith in z),
           )
 
   pub element-optional : Stands 1 B e high m N M O → optionalWord (lastWord N (m .used)) ≡ tuple.isOptionalElement e

@@ -2,20 +2,21 @@
 use mathlib.Core.Path.{_≡_, refl, sym, ap, ap₂, _∙_, subst}
 use mathlib.Core.Bool.{Bool, true, false, not}
 use mathlib.Core.List.{List, [], _∷_}
-use Prim.Native.Nat.{ℕ, _+_, _-_, _*_, _/_, _%_, _≤_}
+use Prim.Native.Nat.{ℕ, _+_, _-_, _*_, _%_, _≤_}
 use native.Mathlib.Omega.{arith}
 use borrow.Author.Tests.{eq-eqb, ne-eqb}
 use lib.Dec.{leb, ltb}
-use lib.ListN.{length, getD}
+use lib.ListN.{length}
 use Rattle.words.specs.Limits.{tallest}
 use Rattle.words.specs.Test.{_and_, _or_, test}
 use Rattle.words.specs.Cursor.{endByte}
 use Rattle.keys.specs.Limits.{tooTall, noRoom}
 use Rattle.keys.specs.Form.{height}
 use Rattle.keys.specs.Placed as node
-use Rattle.keys.specs.Placed.{Placed, tree, bare, join, spell, bit, Spelling, asElement}
+use Rattle.keys.specs.Placed.{Placed, Opt, absent, present, tree, bare, join, spell, bit, Spelling, asElement}
 use Rattle.keys.specs.Store.{_⊕_}
-use Rattle.rules.specs.Notes.{Note, note, requiredAfterOptional, restAfterLabel, askedAfterLabel, optionalAndRest}
+use Rattle.keys.specs.Holds.{firstAt, endAt}
+use Rattle.rules.specs.Notes.{Note, note, noteBoth, requiredAfterOptional, restAfterLabel, askedAfterLabel, optionalAndRest}
 use Rattle.rules.specs.Refusal.{tooLong}
 use Rattle.rules.specs.State as rule
 use Rattle.rules.specs.State.{State, Result, Reader, read, refuse, refused, then, end, overlong, make, reportIf}
@@ -29,16 +30,18 @@ use Rattle.marks.proofs.LaidLaws.{laid-noted, laid-on, notes-before}
 use Rattle.marks.proofs.BuiltLaws.{built-one, laid-spoken}
 use Rattle.marks.proofs.Answers.{then-read, then-refused, says-read, says-same, says-stop, says-stops}
 use Rattle.marks.proofs.ReportLaws.{reports-done, reports-refused}
-use Rattle.parts.specs.Tuple.{LabelIs, labelNames, elementAfter, memberChoices, memberAfter, restAfter, Converts, MakesMember, MakesRest, MakesElement, optionalWord, lastWord, Checks}
+use Rattle.parts.specs.Tuple.{LabelIs, labelNames, elementAfter, memberChoices, memberAfter, restAfter, Converts, MakesMember, MakesRest, MakesElement, optionalWord, lastWord, LatestIs, Checks}
 use Rattle.parts.proofs.TupleLaws.{element-is}
 use Rattle.parts.proofs.LabelLaws.{HeadSays}
 use Rattle.parts.proofs.ElementLaws.{element-node, element-high, element-tag, element-place, element-optional, rest-shape, rest-member, member-shape}
-use Rattle.marks.proofs.MarkLaws.{fine-noted, or-false}
+use Rattle.marks.proofs.MarkLaws.{fine-noted}
 use Rattle.marks.specs.declared.state.Given.{Given}
 use Rattle.marks.specs.declared.state.Mark.{Mark}
 use Rattle.marks.specs.declared.state.Begin.{Begin}
 use Rattle.marks.specs.declared.state.Answer.{Answer}
+use Rattle.keys.specs.declared.store.Place.{Place}
 use Rattle.parts.specs.declared.tuple.Label.{Label}
+use Rattle.parts.specs.declared.tuple.Latest.{Latest}
 
 -- ---- A tree stays where a diagnostic is reported
 
@@ -198,71 +201,93 @@ module _ (W : List ℕ) (given : Given) (l : Label) (a : Answer) (N O : List ℕ
 -- ---- Diagnostic 4
 
 -- Nothing is to be reported of an optional element or a rest.
-quiet : (seen o r : Bool) → (o or r) ≡ true → (seen and not o and not r) ≡ false
-quiet true true r e = refl
-quiet true false true e = refl
-quiet true false false e = sym e
-quiet false o r e = refl
+quiet : (o r : Bool) → (o or r) ≡ true → (not o and not r) ≡ false
+quiet true r e = refl
+quiet false true e = refl
+quiet false false e = sym e
 
-or-true : (a : Bool) → (a or true) ≡ true
-or-true true = refl
-or-true false = refl
+module _ (given : Given) (latest : Latest) (m : Mark) (N O : List ℕ) (h : m .used * 4 ≤ length N) (some : 1 ≤ m .used) where
+  -- What the rules make of an element behind the latest optional one.
+  abbrev reports : (text W : List ℕ) → Opt Placed → Placed → Result Placed
+  reports text W o e = tuple.reportRequired (givenOf text W given) o e (view m O)
 
-and-true : (a : Bool) → (a and true and true) ≡ a
-and-true true = refl
-and-true false = refl
+  -- It is read, where it is optional or a rest.
+  reports-none : (text W : List ℕ) (o : Opt Placed) (e : Placed) → (tuple.isOptionalElement e or node.isRest e) ≡ true → reports text W o e ≡ read e (view m O)
+  reports-none text W absent e y = refl
+  reports-none text W (present o) e y =
+      ap (λ (b : Bool). reportIf b (givenOf text W given) (noteBoth requiredAfterOptional (node.firstOf e) (node.endOf e) (node.firstOf o) (node.endOf o)) (view m O) (read e)) (quiet (tuple.isOptionalElement e) (node.isRest e) y)
 
-module _ (given : Given) (seen : Bool) (m : Mark) (N O : List ℕ) (h : m .used * 4 ≤ length N) (some : 1 ≤ m .used) where
-  -- What the rules make of an element, by whether it is to be reported.
-  abbrev reports : (text W : List ℕ) → Bool → Placed → Result Placed
-  reports text W b e = reportIf b (givenOf text W given) (note requiredAfterOptional (node.firstOf e) (node.endOf e)) (view m O) (read e)
+  -- The latest one stays the latest behind an element that is not optional.
+  latest-stays : (o : Opt Placed) (e : Placed) → tuple.isOptionalElement e ≡ false → LatestIs latest o → LatestIs latest (tuple.latestFrom o (e ∷ []))
+  latest-stays o e n i = subst (λ (b : Bool). LatestIs latest (test b (λ _. present e) (λ _. o))) (sym n) i
 
-  -- The element is optional.
-  pub checks-optional : optionalWord (lastWord N (m .used)) ≡ true → Checks given seen m N O (record { why = 0; optional = true; m = m }) O
-  checks-optional y =
+  -- The element is optional: it is the latest one.
+  pub checks-optional : (place : Place) → optionalWord (lastWord N (m .used)) ≡ true → place .first ≡ firstAt N (m .used - 1) → place .end ≡ endAt N (m .used - 1)
+      → Checks given latest m N O (record { why = 0; latest = record { there = true; place = place }; m = m }) O
+  checks-optional place y f l =
       record {
-        done = λ _ text W B e high M s.
-            let o : tuple.isOptionalElement e ≡ true = sym (element-optional h some s) ∙ y in (
-              ap (λ (b : Bool). reports text W b e) (quiet seen (tuple.isOptionalElement e) (node.isRest e) (ap (λ (b : Bool). b or node.isRest e) o)),
-              sym (ap (λ (b : Bool). seen or b) o ∙ or-true seen),
+        done = λ _ text W B o e high M i s.
+            let opt : tuple.isOptionalElement e ≡ true = sym (element-optional h some s) ∙ y in
+            let p = element-place h some s in (
+              reports-none text W o e (ap (λ (b : Bool). b or node.isRest e) opt),
+              subst (λ (b : Bool). LatestIs (record { there = true; place = place }) (test b (λ _. present e) (λ _. o))) (sym opt) (refl, f ∙ p .0, l ∙ p .1),
               s,
             );
         refused = λ n. absurd (n refl);
       }
 
-  -- It is a rest.
-  pub checks-rest : optionalWord (lastWord N (m .used)) ≡ false → lastWord N (m .used) % 64 ≡ 21 → Checks given seen m N O (record { why = 0; optional = seen; m = m }) O
-  checks-rest n y =
+  -- There is none before it.
+  pub checks-first : optionalWord (lastWord N (m .used)) ≡ false → latest .there ≡ false → Checks given latest m N O (record { why = 0; latest = latest; m = m }) O
+  checks-first n z =
       record {
-        done = λ _ text W B e high M s.
-            let o : tuple.isOptionalElement e ≡ false = sym (element-optional h some s) ∙ n in
-            let r : node.isRest e ≡ true = eq-eqb (node.tagOf e) 21 (sym (element-tag h some s) ∙ y) in (
-              ap (λ (b : Bool). reports text W b e) (quiet seen (tuple.isOptionalElement e) (node.isRest e) (ap (λ (b : Bool). tuple.isOptionalElement e or b) r ∙ or-true (tuple.isOptionalElement e))),
-              sym (ap (λ (b : Bool). seen or b) o ∙ sym (or-false seen)),
-              s,
-            );
+        done = λ _ text W B o e high M i s. (reported text W o e i, latest-stays o e (sym (element-optional h some s) ∙ n) i, s);
         refused = λ n. absurd (n refl);
-      }
-
-  -- It is neither: the diagnostic stands at the bytes of its record.
-  pub checks-other : (first end : ℕ) (a : Answer) (O' : List ℕ) → optionalWord (lastWord N (m .used)) ≡ false → (lastWord N (m .used) % 64 ≡ 21 → ⊥)
-      → first ≡ getD N (m .used * 4 - 3) 0 % 4294967296 → end ≡ getD N (m .used * 4 - 3) 0 / 4294967296
-      → Reports seen given (note requiredAfterOptional first end) m O a O' → Checks given seen m N O (record { why = a .why; optional = seen; m = a .m }) O'
-  checks-other first end a O' n k f l w =
-      record {
-        done = λ z text W B e high M s.
-            (opened text W s ∙ reports-done text W (read e) w z, sym (ap (λ (b : Bool). seen or b) (sym (element-optional h some s) ∙ n) ∙ sym (or-false seen)), stands-reported w s);
-        refused = λ z text W B e high M s. opened text W s ∙ reports-refused text W (read e) w z;
       }
     where
-      opened : (text W : List ℕ) {B : Was} {e : Placed} {high : ℕ} {M : List ℕ} → Stands 1 B e high m N M O
-          → reports text W (seen and not (tuple.isOptionalElement e) and not (node.isRest e)) e ≡ reportIf seen (givenOf text W given) (note requiredAfterOptional first end) (view m O) (read e)
-      opened text W {B} {e} s =
-          let o : tuple.isOptionalElement e ≡ false = sym (element-optional h some s) ∙ n in
+      reported : (text W : List ℕ) (o : Opt Placed) (e : Placed) → LatestIs latest o → reports text W o e ≡ read e (view m O)
+      reported text W absent e i = refl
+      reported text W (present o) e i = absurd (let q : _≡_ {A = ℕ} 0 1 = cc in omega arith)
+
+  -- It is a rest.
+  pub checks-rest : optionalWord (lastWord N (m .used)) ≡ false → lastWord N (m .used) % 64 ≡ 21 → Checks given latest m N O (record { why = 0; latest = latest; m = m }) O
+  checks-rest n y =
+      record {
+        done = λ _ text W B o e high M i s.
+            let opt : tuple.isOptionalElement e ≡ false = sym (element-optional h some s) ∙ n in
+            let r : node.isRest e ≡ true = eq-eqb (node.tagOf e) 21 (sym (element-tag h some s) ∙ y) in (
+              reports-none text W o e (ap₂ (λ (b c : Bool). b or c) opt r),
+              latest-stays o e opt i,
+              s,
+            );
+        refused = λ n. absurd (n refl);
+      }
+
+  -- It is neither: the diagnostic stands at the bytes of its record and at those of the latest one.
+  pub checks-other : (place : Place) (a : Answer) (O' : List ℕ) → optionalWord (lastWord N (m .used)) ≡ false → latest .there ≡ true → (lastWord N (m .used) % 64 ≡ 21 → ⊥)
+      → place .first ≡ firstAt N (m .used - 1) → place .end ≡ endAt N (m .used - 1)
+      → Reports true given (noteBoth requiredAfterOptional (place .first) (place .end) (latest .place .first) (latest .place .end)) m O a O'
+      → Checks given latest m N O (record { why = a .why; latest = latest; m = a .m }) O'
+  checks-other place a O' n y k f l w =
+      record {
+        done = λ z text W B o e high M i s.
+            (opened text W o i s ∙ reports-done text W (read e) w z, latest-stays o e (sym (element-optional h some s) ∙ n) i, stands-reported w s);
+        refused = λ z text W B o e high M i s. opened text W o i s ∙ reports-refused text W (read e) w z;
+      }
+    where
+      -- The report, by what is known of the code's bytes.
+      reported : (text W : List ℕ) (e : Placed) → Bool → (first last first' last' : ℕ) → Result Placed
+      reported text W e b first last first' last' = reportIf b (givenOf text W given) (noteBoth requiredAfterOptional first last first' last') (view m O) (read e)
+
+      opened : (text W : List ℕ) (o : Opt Placed) {B : Was} {e : Placed} {high : ℕ} {M : List ℕ} → LatestIs latest o → Stands 1 B e high m N M O
+          → reports text W o e ≡ reported text W e true (place .first) (place .end) (latest .place .first) (latest .place .end)
+      opened text W absent i s = absurd (let q : _≡_ {A = ℕ} 0 1 = cc in omega arith)
+      opened text W (present o) {B} {e} i s =
+          let opt : tuple.isOptionalElement e ≡ false = sym (element-optional h some s) ∙ n in
           let r : node.isRest e ≡ false = ne-eqb (node.tagOf e) 21 (λ z. k (element-tag h some s ∙ z)) in
           let p = element-place h some s in
-          ap₂ (λ (b c : Bool). reports text W (seen and not b and not c) e) o r ∙ ap (λ (b : Bool). reports text W b e) (and-true seen)
-          ∙ ap₂ (λ (i j : ℕ). reportIf seen (givenOf text W given) (note requiredAfterOptional i j) (view m O) (read e)) (sym (f ∙ p .0)) (sym (l ∙ p .1))
+          ap₂ (λ (b c : Bool). reported text W e (not b and not c) (node.firstOf e) (node.endOf e) (node.firstOf o) (node.endOf o)) opt r
+          ∙ ap₂ (λ (x y : ℕ). reported text W e true x y (node.firstOf o) (node.endOf o)) (sym (f ∙ p .0)) (sym (l ∙ p .1))
+          ∙ ap₂ (λ (x y : ℕ). reported text W e true (place .first) (place .end) x y) (sym (i .1)) (sym (i .2))
 
 -- ---- Numbers
 

@@ -12,9 +12,8 @@ use Rattle.words.specs.Kind.{LBrack, RBrack, Question, Colon, Dot3}
 use Rattle.words.specs.Class as class
 use Rattle.words.specs.Cursor.{wholeKind}
 use Rattle.keys.specs.Placed as node
-use Rattle.keys.specs.Placed.{Placed, listed}
+use Rattle.keys.specs.Placed.{Placed, Opt, present, listed}
 use Rattle.rules.specs.Refusal.{unexpected}
-use Rattle.rules.specs.Notes.{note, requiredAfterOptional}
 use Rattle.rules.specs.State.{Given, State, Result, Reader, read, refuse, refused, then, next, kind, kindAfter, stands, first, end, past, make, reportIf, turns}
 use Rattle.rules.specs.List.{listFrom}
 use Rattle.rules.specs.List as rule
@@ -23,7 +22,6 @@ use Rattle.marks.specs.Laid.{runs, AllNodes, Shape}
 use Rattle.parts.proofs.ShapeLaws.{shape-list}
 use Rattle.marks.proofs.Answers.{then-read, then-refused, then-then}
 use Rattle.parts.specs.Tuple.{elementStart, elementAfter}
-use Rattle.marks.proofs.MarkLaws.{or-false}
 
 -- ---- Elements
 
@@ -75,37 +73,30 @@ module _ (g : Given) (T : Reader) (s : State) where
           ∙ then-then (T true (past g Dot3 (next colon))) memberOf behindMember
       by false e = refl
 
--- An element is read, and diagnostic 4 may follow.
-pub checked-is : (g : Given) (T : Reader) (l : List Placed) (s : State)
-    → tuple.checkedElement g T l s ≡ then (tuple.element g T s) λ e q.
-    reportIf (tuple.seenOptional l and not (tuple.isOptionalElement e) and not (node.isRest e)) g (note requiredAfterOptional (node.firstOf e) (node.endOf e)) q (read e)
-unfolding tuple.checkedElement
-checked-is g T l s = refl
-
 module _ (g : Given) (T : Reader) (l : List Placed) (s : State) where
-  -- What is reported of an element e.
+  -- What is reported of an element.
   abbrev behindElement : Placed → State → Result Placed
-  behindElement e q =
-      reportIf (tuple.seenOptional l and not (tuple.isOptionalElement e) and not (node.isRest e)) g (note requiredAfterOptional (node.firstOf e) (node.endOf e)) q (read e)
+  behindElement = tuple.reportRequired g (tuple.latestOptional l)
+
+  -- An element is read, and diagnostic 4 may follow.
+  checked-is : tuple.checkedElement g T l s ≡ then (tuple.element g T s) behindElement
+  unfolding tuple.checkedElement
+  checked-is = refl
 
   -- It was read, and the diagnostic reported or not; or either was refused.
   pub checked-read : {e : Placed} {q p : State} → tuple.element g T s ≡ read e q → behindElement e q ≡ read e p → tuple.checkedElement g T l s ≡ read e p
-  checked-read i k = checked-is g T l s ∙ then-read behindElement i ∙ k
+  checked-read i k = checked-is ∙ then-read behindElement i ∙ k
 
   pub checked-full : {e : Placed} {q : State} {n i h : ℕ} → tuple.element g T s ≡ read e q → behindElement e q ≡ refuse n i h → tuple.checkedElement g T l s ≡ refuse n i h
-  checked-full i k = checked-is g T l s ∙ then-read behindElement i ∙ k
+  checked-full i k = checked-is ∙ then-read behindElement i ∙ k
 
   pub checked-refused : {n i h : ℕ} → tuple.element g T s ≡ refuse n i h → tuple.checkedElement g T l s ≡ refuse n i h
-  checked-refused i = checked-is g T l s ∙ then-refused behindElement i
+  checked-refused i = checked-is ∙ then-refused behindElement i
 
-or-or : (a b c : Bool) → (a or (b or c)) ≡ ((a or b) or c)
-or-or true b c = refl
-or-or false b c = refl
-
--- One element more: an optional one was seen, or it is one.
-pub seen-more : (l : List Placed) (e : Placed) → tuple.seenOptional (l ++ (e ∷ [])) ≡ (tuple.seenOptional l or tuple.isOptionalElement e)
-seen-more [] e = sym (or-false (tuple.isOptionalElement e))
-seen-more (t ∷ l) e = ap (λ (b : Bool). tuple.isOptionalElement t or b) (seen-more l e) ∙ or-or (tuple.isOptionalElement t) (tuple.seenOptional l) (tuple.isOptionalElement e)
+-- The latest optional one of two lists, one behind the other.
+pub latest-behind : (o : Opt Placed) (l m : List Placed) → tuple.latestFrom o (l ++ m) ≡ tuple.latestFrom (tuple.latestFrom o l) m
+latest-behind o [] m = refl
+latest-behind o (t ∷ l) m = latest-behind (test (tuple.isOptionalElement t) (λ _. present t) (λ _. o)) l m
 
 -- ---- The tuple
 

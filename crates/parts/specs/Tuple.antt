@@ -1,6 +1,6 @@
 -- Tuple elements before and after their type.
 use mathlib.Core.Path.{_≡_}
-use mathlib.Core.Bool.{Bool, true, not}
+use mathlib.Core.Bool.{Bool, true, false}
 use mathlib.Core.List.{List, [], _∷_}
 use Prim.Native.Nat.{ℕ, _+_, _-_, _*_, _/_, _%_, _^_, _≤_, _<_}
 use lib.Dec.{eqb}
@@ -13,9 +13,9 @@ use Rattle.words.specs.Cursor.{wholeKind, kindAt, firstByte}
 use Rattle.keys.specs.Bits.{unit}
 use Rattle.keys.specs.Limits.{recordWords}
 use Rattle.keys.specs.Placed as node
-use Rattle.keys.specs.Placed.{Placed, tree, Spelling}
+use Rattle.keys.specs.Placed.{Placed, tree, Spelling, Opt, absent, present}
 use Rattle.keys.specs.Store.{_⊕_}
-use Rattle.rules.specs.Notes.{note, requiredAfterOptional, restAfterLabel, askedAfterLabel, optionalAndRest}
+use Rattle.rules.specs.Notes.{note, restAfterLabel, askedAfterLabel, optionalAndRest}
 use Rattle.rules.specs.State as rule
 use Rattle.rules.specs.State.{State, Result, Reader, read, then, next, stands, first, end, spelling, past, make, reportIf}
 use Rattle.rules.specs.Tuple as tuple
@@ -29,6 +29,7 @@ use Rattle.marks.specs.declared.state.Begin.{Begin}
 use Rattle.marks.specs.declared.state.Kids.{Kids}
 use Rattle.marks.specs.declared.state.Answer.{Answer}
 use Rattle.parts.specs.declared.tuple.Label.{Label}
+use Rattle.parts.specs.declared.tuple.Latest.{Latest}
 use Rattle.parts.specs.declared.tuple.Seen.{Seen}
 
 -- Behind the label of a member: past its `?` and its colon.
@@ -182,13 +183,18 @@ optionalWord w = eqb (w % 64) 20 or (eqb (w % 64) 22 and eqb (w / 64 % 2) 1)
 abbrev pub lastWord : List ℕ → ℕ → ℕ
 lastWord N used = getD N (used * 4 - 4) 0
 
--- Diagnostic 4 for an element, and whether an optional one was seen now.
-pub record Checks (given : Given) (seen : Bool) (m : Mark) (N O : List ℕ) (r : Seen) (O' : List ℕ) : Type 0 where
-  pub done : r .why ≡ 0 → (text W : List ℕ) (B : Was) (e : Placed) (high : ℕ) (M : List ℕ) → Stands 1 B e high m N M O
-      → (reportIf (seen and not (tuple.isOptionalElement e) and not (node.isRest e)) (givenOf text W given) (note requiredAfterOptional (node.firstOf e) (node.endOf e)) (view m O) (read e) ≡ read e (view (r .m) O'))
-      × (r .optional ≡ (seen or tuple.isOptionalElement e)) × Stands 1 B e high (r .m) N M O'
-  pub refused : (r .why ≡ 0 → ⊥) → (text W : List ℕ) (B : Was) (e : Placed) (high : ℕ) (M : List ℕ) → Stands 1 B e high m N M O
-      → reportIf (seen and not (tuple.isOptionalElement e) and not (node.isRest e)) (givenOf text W given) (note requiredAfterOptional (node.firstOf e) (node.endOf e)) (view m O) (read e) ≡ rule.refuse (r .why) (r .m .at) (r .m .half)
+-- The code remembers the latest optional element, or that there is none.
+abbrev pub LatestIs : Latest → Opt Placed → Type 0
+LatestIs l absent = l .there ≡ false
+LatestIs l (present o) = (l .there ≡ true) × (l .place .first ≡ node.firstOf o) × (l .place .end ≡ node.endOf o)
+
+-- Diagnostic 4 for an element, where o is the latest optional one before it, and the latest one now.
+pub record Checks (given : Given) (latest : Latest) (m : Mark) (N O : List ℕ) (r : Seen) (O' : List ℕ) : Type 0 where
+  pub done : r .why ≡ 0 → (text W : List ℕ) (B : Was) (o : Opt Placed) (e : Placed) (high : ℕ) (M : List ℕ) → LatestIs latest o → Stands 1 B e high m N M O
+      → (tuple.reportRequired (givenOf text W given) o e (view m O) ≡ read e (view (r .m) O'))
+      × LatestIs (r .latest) (tuple.latestFrom o (e ∷ [])) × Stands 1 B e high (r .m) N M O'
+  pub refused : (r .why ≡ 0 → ⊥) → (text W : List ℕ) (B : Was) (o : Opt Placed) (e : Placed) (high : ℕ) (M : List ℕ) → LatestIs latest o → Stands 1 B e high m N M O
+      → tuple.reportRequired (givenOf text W given) o e (view m O) ≡ rule.refuse (r .why) (r .m .at) (r .m .half)
 
 -- Nothing but the number of diagnostics has changed, and it keeps its limit.
 pub record SeenAt (given : Given) (m : Mark) (r : Seen) : Type 0 where

@@ -1,6 +1,6 @@
 // Tuple elements, without the types in them.
 ghost use mathlib.Core.Path.{_≡_};
-ghost use mathlib.Core.Bool.{true};
+ghost use mathlib.Core.Bool.{true, false};
 ghost use Prim.Native.Nat.{_*_, _%_, _≤_, _<_, _^_};
 ghost use lib.ListN.{length};
 ghost use Rattle.words.specs.Class.{classWords};
@@ -9,12 +9,15 @@ ghost use Rattle.marks.specs.State.{nextMark, Sound, Inside, Along, Reached, pl
 ghost use Rattle.marks.specs.Node.{Put, MakesList, MakesAbout};
 ghost use Rattle.marks.specs.Names.{Speaks, MayName};
 ghost use Rattle.parts.specs.Tuple.{LabelIs, LabelSmall, labelledAt, labelAt, memberChoices, Converts, MakesMember, MakesRest, MakesElement, optionalWord, lastWord, Checks, SeenAt, MayPutElement, MayPutMember, MayPutTuple, StartsElement};
+use keys::store::Place;
+use keys::store::place_at;
 use marks::names::spell;
 use marks::node::Tag;
 use marks::node::put_about;
 use marks::node::put_list;
 use marks::notes::Note;
 use marks::notes::Noting;
+use marks::notes::report_both;
 use marks::notes::report_if;
 use marks::state::Answer;
 use marks::state::Begin;
@@ -247,10 +250,28 @@ fn rest_of(
 
 // ---- Diagnostic 4
 
-// What a tuple knows of its elements: whether one was optional, and where reading stands; or a refusal.
+// The latest optional element of a tuple, if there is one, by its place.
+pub struct Latest {
+    pub there: bool,
+    pub place: Place,
+}
+
+impl Latest {
+    // None yet.
+    pub fn none() -> Latest
+        ensures { λ r. ⌜ r .there ≡ false ⌝ }
+    {
+        Latest {
+            there: false,
+            place: Place { first: 0, end: 0 },
+        }
+    }
+}
+
+// What a tuple knows of its elements: the latest optional one, and where reading stands; or a refusal.
 pub struct Seen {
     pub why: usize,
-    pub optional: bool,
+    pub latest: Latest,
     pub m: Mark,
 }
 
@@ -270,49 +291,39 @@ fn is_optional(nodes: &[u64], used: usize) -> bool
     nodes[i] / 64 % 2 == 1
 }
 
-// The element read last, after others: diagnostic 4 for one that is neither optional nor a rest, if an optional one was seen.
+// The element read last, after others: diagnostic 4 for one that is neither optional nor a rest, if there is an optional one before it.
 pub fn checked(
     nodes: &[u64],
     notes: &mut [u64; Noting::WORDS],
     given: Given,
-    seen: bool,
+    latest: Latest,
     m: Mark,
 ) -> Seen
     requires { ⌜ (m .noted ≤ given .records) × (1 ≤ m .used) × (m .used * recordWords ≤ length (now nodes)) ⌝ }
-    ensures { λ r. ⌜ Checks given seen m (now (nodes .entry)) (now (notes .entry)) r (now (notes .exit)) ⌝ }
+    ensures { λ r. ⌜ Checks given latest m (now (nodes .entry)) (now (notes .entry)) r (now (notes .exit)) ⌝ }
     ensures { λ r. ⌜ SeenAt given m r ⌝ }
 {
+    let place = place_at(nodes, m.used - 1);
     if is_optional(nodes, m.used) {
+        let now = Latest { there: true, place };
         return Seen {
             why: 0,
-            optional: true,
+            latest: now,
             m,
         };
+    }
+    if !latest.there {
+        return Seen { why: 0, latest, m };
     }
     if last_tag(nodes, m.used) == Tag::REST {
-        return Seen {
-            why: 0,
-            optional: seen,
-            m,
-        };
+        return Seen { why: 0, latest, m };
     }
-    let i = m.used * 4 - 3;
-    let place = nodes[i];
-    let first = (place % 4294967296) as usize;
-    let end = (place / 4294967296) as usize;
-    let a = report_if(
-        seen,
-        notes,
-        given,
-        Note::REQUIRED_AFTER_OPTIONAL,
-        first,
-        end,
-        m,
-    );
+    let other = latest.place;
+    let a = report_both(notes, given, Note::REQUIRED_AFTER_OPTIONAL, place, other, m);
     let q = a.m;
     Seen {
         why: a.why,
-        optional: seen,
+        latest,
         m: q,
     }
 }
