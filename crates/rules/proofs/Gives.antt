@@ -20,7 +20,7 @@ use Rattle.keys.specs.Placed.{Placed, void, pick, join, tree, bare, Spelling, O
 use Rattle.keys.proofs.Fitting.{Is, IsSpelling, Each, IfAny, Few, IsList, IsNames}
 use Rattle.keys.proofs.Makers.{each-more}
 use Rattle.keys.proofs.BitsLaws.{clash}
-use Rattle.rules.specs.Notes.{Note}
+use Rattle.rules.specs.Notes.{Note, NoteStands}
 use Rattle.rules.specs.State.{Given, State, Result, Reader, read, refuse, then, next, past, stands, kind, first, end, spelling, overlong, make, report, reportIf}
 use Rattle.rules.specs.Refusal.{isRule}
 use Rattle.rules.specs.Call.{IsCursor}
@@ -36,12 +36,13 @@ pub data Gives (g : Given) {A : Type 0} (P : A → State → Type 0) : Result A 
   gives : {a : A} {q : State} → P a q → Gives g P (read a q)
   stops : {n i h : ℕ} → T (isRule n) → IsCursor (g .text) (g .words) i h → Gives g P (refuse n i h)
 
--- Where a reading stands: at a token in the text, no earlier than what was taken ends; n nodes are in use, and nodes and diagnostics keep within their limits and what is lent.
+-- Where a reading stands: at a token in the text, no earlier than what was taken ends; n nodes are in use, nodes and diagnostics keep within their limits and what is lent, and each diagnostic stands as it may.
 pub record At (g : Given) (n : ℕ) (s : State) : Type 0 where
   pub used : s .nodes ≡ n
   pub roomy : s .nodes ≤ g .room
   pub few : length (s .notes) ≤ mostNotes
   pub recorded : length (s .notes) ≤ g .records
+  pub noted : Each (NoteStands (length (g .text))) (s .notes)
   pub inside : s .at < length (g .words)
   pub one : s .half ≤ 1
   pub shown : first g s ≤ length (g .text)
@@ -110,6 +111,12 @@ ReadsOn g P shape rule = (n lo : ℕ) (s : State) → s .half ≡ 0 → lo ≤ e
 abbrev pub ReadsTree : Given → Form → (State → Result Placed) → Type 0
 ReadsTree g f rule = Reads g (Good f) itself rule
 
+-- It reads such trees behind a list of such, which ended where it may begin.
+abbrev pub ReadsBehind : Given → Form → (List Placed → State → Result Placed) → Type 0
+ReadsBehind g f rule =
+    (l : List Placed) (a n lo : ℕ) (s : State) → Each (Is f) l → Spans a lo (entries l) → lo ≤ first g s → At g n s
+    → Gives g (Got g (Good f) itself 1 (worth g s) n lo) (rule l s)
+
 -- It reads such trees where a test holds.
 abbrev pub ReadsIf : Given → (State → Bool) → Form → (State → Result Placed) → Type 0
 ReadsIf g ok f rule = (n lo : ℕ) (s : State) → ok s ≡ true → lo ≤ first g s → At g n s → Gives g (Got g (Good f) itself 1 (worth g s) n lo) (rule s)
@@ -170,6 +177,7 @@ step {g} c f e s h a =
         roomy = a .roomy;
         few = a .few;
         recorded = a .recorded;
+        noted = a .noted;
         inside = omega arith;
         one = omega arith;
         shown = omega (arith, word-inside (g .text) (g .words) (c .start) (c .sound) (s .at + 1));
@@ -222,7 +230,7 @@ past-whole g k s a = by (stands g k s)
 -- The same count, said otherwise.
 pub counted : {g : Given} {n m : ℕ} {s : State} → n ≡ m → At g n s → At g m s
 counted e a =
-    record { used = a .used ∙ e; roomy = a .roomy; few = a .few; recorded = a .recorded; inside = a .inside; one = a .one; shown = a .shown; order = a .order; rest = a .rest }
+    record { used = a .used ∙ e; roomy = a .roomy; few = a .few; recorded = a .recorded; noted = a .noted; inside = a .inside; one = a .one; shown = a .shown; order = a .order; rest = a .rest }
 
 -- A measure that adds up over pairs adds up over a list that grows at its end.
 sum-more : (m : Value → ℕ) → m nothing ≡ 0 → ((a b : Value) → m (pair a b) ≡ m a + m b) → (l : List Placed) (t : Placed)
@@ -328,6 +336,7 @@ module _ {g : Given} {m n lo : ℕ} where
             roomy = omega (arith, leb-false (g .room) (s .nodes) k);
             few = a .few;
             recorded = a .recorded;
+            noted = a .noted;
             inside = a .inside;
             one = a .one;
             shown = a .shown;
@@ -349,9 +358,9 @@ or-false false b e = (refl, e)
 
 module _ {g : Given} {A B : Type 0} {P : A → Type 0} {shape : A → Placed} {k m n lo : ℕ} {a : A} {Q : B → State → Type 0} where
   -- What was got stays after a diagnostic.
-  pub reported : (note : Note) (s : State) (on : State → Result B) → Got g P shape k m n lo a s → ((q : State) → Got g P shape k m n lo a q → Gives g Q (on q))
+  pub reported : (note : Note) → NoteStands (length (g .text)) note → (s : State) (on : State → Result B) → Got g P shape k m n lo a s → ((q : State) → Got g P shape k m n lo a q → Gives g Q (on q))
       → Gives g Q (report g note s on)
-  reported note s on h f =
+  reported note stands s on h f =
       let x = h .has .at in
       gives-test (leb mostNotes (length (s .notes)) or leb (g .records) (length (s .notes))) (refusal x tt) λ e _.
       let full = or-false (leb mostNotes (length (s .notes))) (leb (g .records) (length (s .notes))) e in
@@ -367,6 +376,7 @@ module _ {g : Given} {A B : Type 0} {P : A → Type 0} {shape : A → Placed} {k
             roomy = x .roomy;
             few = omega (arith, leb-false mostNotes (length (s .notes)) (full .0));
             recorded = omega (arith, leb-false (g .records) (length (s .notes)) (full .1));
+            noted = each-more (NoteStands (length (g .text))) (s .notes) note (x .noted) stands;
             inside = x .inside;
             one = x .one;
             shown = x .shown;
@@ -378,10 +388,10 @@ module _ {g : Given} {A B : Type 0} {P : A → Type 0} {shape : A → Placed} {k
         };
       })
 
-  pub reported-if : (b : Bool) (note : Note) (s : State) (on : State → Result B) → Got g P shape k m n lo a s → ((q : State) → Got g P shape k m n lo a q → Gives g Q (on q))
+  pub reported-if : (b : Bool) (note : Note) → NoteStands (length (g .text)) note → (s : State) (on : State → Result B) → Got g P shape k m n lo a s → ((q : State) → Got g P shape k m n lo a q → Gives g Q (on q))
       → Gives g Q (reportIf b g note s on)
-  reported-if true note s on h f = reported note s on h f
-  reported-if false note s on h f = f s h
+  reported-if true note stands s on h f = reported note stands s on h f
+  reported-if false note stands s on h f = f s h
 
 -- ---- Lists
 

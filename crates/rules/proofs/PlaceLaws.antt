@@ -2,11 +2,13 @@
 use mathlib.Core.Path.{_≡_, refl, _∙_}
 use mathlib.Core.Bool.{Bool, true, false}
 use mathlib.Core.List.{List, [], _∷_, _++_}
-use Prim.Native.Nat.{ℕ, _≤_}
+use Prim.Native.Nat.{ℕ, _≤_, _<_}
 use native.Mathlib.Omega.{arith}
 use lib.Dec.{eqb}
-use Rattle.keys.specs.Form.{nodes}
-use Rattle.keys.specs.Placed.{Placed, void, said, pick, join, tree, bare, entries, optionalIf, asElement}
+use Rattle.keys.specs.Form.{child, nodes, Fits, fits-child}
+use Rattle.keys.specs.Placed.{Placed, void, said, pick, join, tree, bare, entries, optionalIf, asElement, firstOf, endOf}
+use Rattle.keys.specs.Key.{nodeTable}
+use Rattle.keys.proofs.Fitting.{Is}
 use Rattle.rules.specs.Places.{after, InOrder}
 
 -- In order from lo on, and ended by hi.
@@ -82,3 +84,10 @@ spans-element {lo} {hi} (tree t first end p) x = by (eqb t 24)
     by : (b : Bool) → Spans lo hi (optionalIf b (tree t first end p))
     by true = record { inOrder = x .inOrder; upTo = x .upTo }
     by false = x
+
+-- Where a node stands.
+pub spans-node : {class lo hi : ℕ} (p : Placed) → Is (child class) p → Spans lo hi p → (lo ≤ firstOf p) × (firstOf p < endOf p) × (endOf p ≤ hi)
+spans-node {class} {lo} {hi} p i x = by p (i .fits) x
+  where
+    by : (p : Placed) → Fits nodeTable (child class) (bare p) → Spans lo hi p → (lo ≤ firstOf p) × (firstOf p < endOf p) × (endOf p ≤ hi)
+    by (tree t first end p) (fits-child a b) x = (x .inOrder .0, x .inOrder .1, x .upTo)

@@ -4,7 +4,7 @@ use mathlib.Core.Bool.{Bool, true, false, not}
 use mathlib.Core.List.{List, [], _∷_, _++_}
 use Prim.Native.Nat.{ℕ, zero, suc, _+_, _≤_, _<_}
 use native.Mathlib.Omega.{arith}
-use borrow.Author.Tests.{eqb-true, not-false}
+use borrow.Author.Tests.{eqb-true, eqb-false, not-false}
 use lib.Dec.{eqb}
 use lib.ListN.{length}
 use Rattle.words.specs.Limits.{mostOpen}
@@ -14,11 +14,11 @@ use Rattle.words.specs.Kind.{Eof, ShiftLeft, LtEq, ShiftLeftEq, Str, NumberLite
 use Rattle.keys.specs.Form.{Form, height, nodes}
 use Rattle.keys.specs.Table.{type, element, underRest, typeParam, param, member}
 use Rattle.keys.specs.Placed as node
-use Rattle.keys.specs.Placed.{Placed, void, join, tree, entries, maybe, maybeList, Spelling, PropertyKey, Opt, absent, present, maybeThis, isRest, isAsked, isLiteral, isNoIndex, asElement}
+use Rattle.keys.specs.Placed.{Placed, void, join, tree, entries, maybe, maybeList, Spelling, PropertyKey, Opt, absent, present, maybeThis, firstOf, endOf, isRest, isAsked, isLiteral, isNoIndex, asElement}
 use Rattle.keys.proofs.Fitting.{Is, IsSpelling, Each, IfAny, IsList, IsNames, IsPiece, IsPropertyKey, IsNamed}
 use Rattle.keys.proofs.Makers as makers
 use Rattle.rules.specs.Refusal.{unexpected}
-use Rattle.rules.specs.Notes.{note, askedAfterLabel}
+use Rattle.rules.specs.Notes.{note, requiredAfterOptional, askedAfterLabel, NoteStands, of-one, of-two}
 use Rattle.rules.specs.State.{Given, State, Result, Reader, read, refused, begin, next, halved, kind, kindAfter, stands, onLine, first, end, spelling, turns, past, expect, optional, make, reportIf}
 use Rattle.rules.specs.Names.{name, bindingWord, reserved, bound, dotsFrom, dotted}
 use Rattle.rules.specs.List.{noEntry, count, position, listFrom, list}
@@ -32,7 +32,7 @@ use Rattle.rules.specs.Postfix.{suffixed, bracketed, suffix, postfixFrom
 use Rattle.rules.specs.Primary.{keywords, literals, negated, isKeyword, isNegative, isAssertion, keyword, literal, negative, this, assertion, query, curly, brackets, reference, enclosed, worded, primary}
 use Rattle.rules.specs.Mapped.{modifier, mapped}
 use Rattle.rules.specs.Object.{Signature, ofMethod, ofCall, ofConstruct, isConstruct, signatureNode, IndexParameter, IndexParameters, noIndex, oneIndex, severalIndex, withOne, hasOne, kept, keyHere, signs, constructs, isReadonly, unsupportedHere, memberEnd, thisNoted, reportIndex, signature, indexType, indexParameter, indexFrom, index, property, withKey, behindReadonly, member as objectMember, membersFrom, object}
-use Rattle.rules.specs.Tuple.{latestOptional, reportRequired, isOptionalElement, labelled, memberNode, member as namedMember, restOf, labelledElement, element as elementRule, checkedElement, tuple}
+use Rattle.rules.specs.Tuple.{latestFrom, latestOptional, reportRequired, isOptionalElement, labelled, memberNode, member as namedMember, restOf, labelledElement, element as elementRule, checkedElement, tuple}
 use Rattle.rules.specs.Template.{piecesFrom, pieces, template}
 use Rattle.rules.specs.TypeRule.{begins, conditional, unionOrConditional, type as typeRule}
 use Rattle.rules.specs.Reading.{readType, reading}
@@ -40,11 +40,12 @@ use Rattle.words.specs.Ahead.{starter, mappedStart, functionStart, propertyKey,
 use Rattle.words.specs.Word.{size}
 use Rattle.words.specs.Cursor.{wordAt}
 use Rattle.rules.proofs.TokenLaws.{both-true, or-first, among-each, Checked, token-spells, spelled-by, split-size, word-inside, start-inside, taken-before}
+use Rattle.rules.specs.Places.{after}
 use Rattle.rules.specs.Told.{Told}
 use Rattle.rules.specs.Weight.{weight}
 use Rattle.rules.proofs.ToldLaws.{told-here, told-subject, told-literal, told-names, told-element}
-use Rattle.rules.proofs.PlaceLaws.{Spans, spans-le, spans-up, spans-flat, spans-element}
-use Rattle.rules.proofs.Gives.{Gives, gives, stops, At, cursor, Has, Got, Good, Enough, Step, Past, sizeOf, weightOf, worth, itself, Reads, ReadsNames, ReadsOn, ReadsTree, ReadsIf, ReadsAbout, ReadsTypes, gives-then, gives-test, gives-must, gives-mark, gives-or, refusal, step, past-mark, past-more, past-whole, counted, weight-more, flat-has, front-has, join-has, _&_, regroup, drop-void, has-le, has-down, pick-has, has-on, has-next, has-more, gives-down, made-by, made, reported, reported-if, enough-more, list-is, names-are, if-list-is}
+use Rattle.rules.proofs.PlaceLaws.{Spans, spans-le, spans-up, spans-flat, spans-element, spans-node}
+use Rattle.rules.proofs.Gives.{Gives, gives, stops, At, cursor, Has, Got, Good, Enough, Step, Past, sizeOf, weightOf, worth, itself, Reads, ReadsNames, ReadsOn, ReadsTree, ReadsBehind, ReadsIf, ReadsAbout, ReadsTypes, gives-then, gives-test, gives-must, gives-mark, gives-or, refusal, step, past-mark, past-more, past-whole, counted, weight-more, flat-has, front-has, join-has, _&_, regroup, drop-void, has-le, has-down, pick-has, has-on, has-next, has-more, gives-down, made-by, made, reported, reported-if, enough-more, list-is, names-are, if-list-is}
 use Rattle.rules.proofs.PartLaws.{key-sort, names-size, names-weight, subject-size, subject-weight, element-size, as-under-name, pieces-more, keyword-below, literal-size, literal-weight, literal-fits, negative-fits, asserted}
 
 -- How parameters stand as values, where a constructor gave the nodes of its `this` back.
@@ -59,20 +60,40 @@ record AreParameters (ps : Parameters) : Type 0 where
   this-is : IfAny (IfAny (Is type)) (thisType (ps .this))
   others : Enough (Is param) 0 (ps .list)
 
+-- A diagnostic of one place, with another number than 4.
+note-alone : {size : ℕ} (n b e : ℕ) → eqb n requiredAfterOptional ≡ false → NoteStands size (note n b e)
+note-alone n b e i = of-one (λ f. eqb-false n requiredAfterOptional i f) refl refl
+
+-- A node's bytes end by hi.
+abbrev EndsBy : ℕ → Placed → Type 0
+EndsBy hi o = (firstOf o < endOf o) × (endOf o ≤ hi)
+
+-- So do those of the latest optional one of elements that do.
+latest-ends : (l : List Placed) (o : Opt Placed) {lo hi : ℕ} → Each (Is element) l → Spans lo hi (entries l) → IfAny (EndsBy hi) o → IfAny (EndsBy hi) (latestFrom o l)
+latest-ends [] o e x h = h
+latest-ends (t ∷ l) o {lo} {hi} e x h = latest-ends l _ (e .1) rest (by (isOptionalElement t))
+  where
+    rest : Spans (after lo t) hi (entries l)
+    rest = record { inOrder = x .inOrder .1; upTo = x .upTo }
+
+    by : (b : Bool) → IfAny (EndsBy hi) (test b (λ _. present t) (λ _. o))
+    by true = let p = spans-node t (e .0) (record { inOrder = x .inOrder .0; upTo = spans-le rest }) in (p .1, p .2)
+    by false = h
+
 no-entries : {A : Type 0} {P : A → Type 0} → Enough P 0 []
 no-entries = record { enough = omega arith; each = tt }
 
 module _ (g : Given) (c : Checked g) where
   -- ---- Lists
 
-  module _ (close : ℕ) (ok : eqb Eof close ≡ false) {f : Form} (entry : List Placed → State → Result Placed) (reads : (l : List Placed) → ReadsTree g f (entry l)) where
+  module _ (close : ℕ) (ok : eqb Eof close ≡ false) {f : Form} (entry : List Placed → State → Result Placed) (reads : ReadsBehind g f entry) where
     list-from : (m n lo fuel : ℕ) (l : List Placed) (s : State) → Enough (Is f) 0 l → Has g n lo (entries l) s → weightOf (entries l) + m ≤ worth g s + 8
         → Gives g (Got g (Enough (Is f) 0) entries 1 m n lo) (listFrom g close entry fuel l s)
     unfolding listFrom
     list-from m n lo zero l s e x o = stops tt (cursor (x .at))
     list-from m n lo (suc fuel) l s e x o =
         gives-or c close ok s (x .at) (λ u _. gives (record { is = e; has = has-next x u; whole = refl; rise = omega (arith, has-le x); light = omega arith })) λ _ _.
-        gives-then (reads l _ (end g s) s (x .at .order) (x .at)) λ t q b.
+        gives-then (reads l lo _ (end g s) s (e .each) (x .spans) (x .at .order) (x .at)) λ t q b.
         let more = enough-more e (b .is .is) in
         let y = has-more l x (b .has) in
         let sum = weight-more l t in
@@ -104,7 +125,7 @@ module _ (g : Given) (c : Checked g) where
   unfolding bound
   bound-gives n lo s l a =
       gives-then (binding-gives n lo s l a) λ x q b.
-      reported-if (reserved (kind g s)) _ q (read x) b λ q d.
+      reported-if (reserved (kind g s)) _ (note-alone _ _ _ refl) q (read x) b λ q d.
       gives d
 
   dots-give : (m n lo least fuel : ℕ) (l : List Spelling) (s : State) → Got g (Enough IsSpelling least) node.listedNames 1 m n lo l s
@@ -175,6 +196,7 @@ module _ (g : Given) (c : Checked g) where
                 roomy = a .roomy;
                 few = a .few;
                 recorded = a .recorded;
+                noted = a .noted;
                 inside = a .inside;
                 one = omega arith;
                 shown = omega (arith, long i, word-inside (g .text) (g .words) (c .start) (c .sound) (s .at));
@@ -191,8 +213,8 @@ module _ (g : Given) (c : Checked g) where
     args-give n lo s w l a =
         gives-test (not (opens g s)) (λ _ _. gives (record { is = tt; has = flat-has (maybeList absent) refl tt l a; whole = w; rise = omega arith; light = omega arith })) λ e _.
         let o = opened-past s (not-false (opens g s) e) a in
-        gives-then (list-gives RAngle refl (λ l. T true) (λ l. h true) n lo (opened g s) (omega arith) (o .at)) λ ts q b.
-        reported-if (noEntry ts) _ q (read (present ts)) b λ p d.
+        gives-then (list-gives RAngle refl (λ l. T true) (λ l a n lo s _ _. h true n lo s) n lo (opened g s) (omega arith) (o .at)) λ ts q b.
+        reported-if (noEntry ts) _ (note-alone _ _ _ refl) q (read (present ts)) b λ p d.
         gives (record { is = d .is; has = pick-has 1 (pick-has (length ts) (d .has)); whole = d .whole; rise = omega arith; light = omega arith })
 
     named-gives : (tag : ℕ)
@@ -244,8 +266,8 @@ module _ (g : Given) (c : Checked g) where
     type-parameters on n lo s l a =
         gives-test (not (stands g LAngle s)) (λ _ _. gives (tt, counted (omega arith) a, spans-flat (maybeList absent) refl l, tt, omega arith)) λ e _.
         let t = step c (λ k. eqb k LAngle) refl s (not-false (stands g LAngle s) e) a in
-        gives-then (list-gives RAngle refl (λ l. typeParameter g T on) (λ l. type-parameter on) n lo (next s) (omega arith) (t .at)) λ ps q b.
-        reported-if (noEntry ps) _ q (read (present ps)) b λ p d.
+        gives-then (list-gives RAngle refl (λ l. typeParameter g T on) (λ l a n lo s _ _. type-parameter on n lo s) n lo (next s) (omega arith) (t .at)) λ ps q b.
+        reported-if (noEntry ps) _ (note-alone _ _ _ refl) q (read (present ps)) b λ p d.
         let x = pick-has 1 (pick-has (length ps) (d .has)) in
         gives (d .is, x .at, spans-up (x .spans) (x .at .order), x .told, omega arith)
 
@@ -332,7 +354,7 @@ module _ (g : Given) (c : Checked g) where
           freed-has true p s q a x =
               let b = x .at in
               flat-has void refl tt (has-le x)
-              (record { used = a .used; roomy = a .roomy; few = b .few; recorded = b .recorded; inside = b .inside; one = b .one; shown = b .shown; order = b .order; rest = b .rest })
+              (record { used = a .used; roomy = a .roomy; few = b .few; recorded = b .recorded; noted = b .noted; inside = b .inside; one = b .one; shown = b .shown; order = b .order; rest = b .rest })
           freed-has false p s q a x = pick-has 1 x
 
           absent-has : (isNew : Bool) (q : State) → lo ≤ end g q → At g n q → Has g n lo (shapeOfThis isNew absent) q
@@ -378,7 +400,7 @@ module _ (g : Given) (c : Checked g) where
         by : (o : Opt ThisParameter)
             → Gives g (Got g (Good type) itself 1 m n lo) (reportThis g o s λ q. make g (count ts ∷ length (ps .list) ∷ []) (node.constructor b (end g q) isAbstract ts (ps .list) r) q)
         by absent = last s z
-        by (present t) = reported _ s (λ q. make g (count ts ∷ length (ps .list) ∷ []) (node.constructor b (end g q) isAbstract ts (ps .list) r) q) z last
+        by (present t) = reported _ (note-alone _ _ _ refl) s (λ q. make g (count ts ∷ length (ps .list) ∷ []) (node.constructor b (end g q) isAbstract ts (ps .list) r) q) z last
 
     function-gives : (on : Bool) → ReadsTree g type (function g T on)
     unfolding function
@@ -440,8 +462,8 @@ module _ (g : Given) (c : Checked g) where
         (made-by [] 22 (b .whole) (front-has (node.spell (spelling g label)) refl (told-here g c label) (front-has (node.bit question) refl tt (element-has t (b .has)))) l (omega arith) (omega (arith, element-size weight (λ _ _ _. refl) t))
         λ _ low. (record { is = makers.named-is (first g label) _ question spelt under; low = low }, makers.named-under-rest (first g label) _ question spelt under))
         λ x q d.
-        reported-if (stands g Dot3 stood) _ q (λ q. reportIf (isAsked t) g (note askedAfterLabel (first g stood) (end g q)) q (read x)) d λ q d.
-        reported-if (isAsked t) _ q (read x) d λ q d.
+        reported-if (stands g Dot3 stood) _ (note-alone _ _ _ refl) q (λ q. reportIf (isAsked t) g (note askedAfterLabel (first g stood) (end g q)) q (read x)) d λ q d.
+        reported-if (isAsked t) _ (note-alone _ _ _ refl) q (read x) d λ q d.
         gives d
 
     member-gives : (n lo : ℕ) (s : State) → class.name (kind g s) ≡ true → lo ≤ first g s → At g n s
@@ -464,7 +486,7 @@ module _ (g : Given) (c : Checked g) where
         gives-then (member-gives n (first g s) (past g Dot3 s) (both-true (class.name (kind g (past g Dot3 s))) _ e .0) (dots .first-later) (dots .at)) λ x q b.
         gives-test (stands g Dot3 s)
         (λ i _.
-        reported-if (stands g Question (next (next s))) _ q (λ q. make g [] (node.rest (first g s) (end g q) x) q) b λ q b.
+        reported-if (stands g Question (next (next s))) _ (note-alone _ _ _ refl) q (λ q. make g [] (node.rest (first g s) (end g q) x) q) b λ q b.
         made [] (b .whole) (b .has) l (omega arith) (omega (arith, past-more c Dot3 refl s i a)) λ _. makers.rest-is (first g s) _ (b .is .1))
         λ _ _. gives (record { is = b .is .0; has = has-down l (b .has); whole = b .whole; rise = omega arith; light = omega arith })
 
@@ -484,16 +506,20 @@ module _ (g : Given) (c : Checked g) where
           light = omega (arith, element-size weight (λ _ _ _. refl) t);
         })
 
-    checked-gives : (l : List Placed) → ReadsTree g element (checkedElement g T l)
+    -- Diagnostic 4: the latest optional element ended before the required one began.
+    required-gives : {m n lo : ℕ} (o : Opt Placed) (e : Placed) (q : State) → IfAny (EndsBy lo) o → Got g (Good element) itself 1 m n lo e q
+        → Gives g (Got g (Good element) itself 1 m n lo) (reportRequired g o e q)
+    required-gives absent e q x b = gives b
+    required-gives (present o) e q x b =
+        let p = spans-node e (b .is .is) (b .has .spans) in
+        reported-if (not (isOptionalElement e) and not (isRest e)) _ (of-two refl (x .0) (omega arith) (p .1) (omega (arith, p, b .has .at .order, b .has .at .shown))) q (read e) b λ q d.
+        gives d
+
+    checked-gives : ReadsBehind g element (checkedElement g T)
     unfolding checkedElement
-    checked-gives es n lo s l a =
-        gives-then (element-gives n lo s l a) λ e q b.
-        required-gives (latestOptional es) e q b
-      where
-        required-gives : (o : Opt Placed) (e : Placed) (q : State) → Got g (Good element) itself 1 (worth g s) n lo e q
-            → Gives g (Got g (Good element) itself 1 (worth g s) n lo) (reportRequired g o e q)
-        required-gives absent e q b = gives b
-        required-gives (present o) e q b = reported-if (not (isOptionalElement e) and not (isRest e)) _ q (read e) b λ q d. gives d
+    checked-gives es a n lo s each spans l at =
+        gives-then (element-gives n lo s l at) λ e q b.
+        required-gives (latestOptional es) e q (latest-ends es absent each spans tt) b
 
     tuple-gives : ReadsTree g type (tuple g T)
     unfolding tuple
@@ -509,16 +535,16 @@ module _ (g : Given) (c : Checked g) where
       this-noted : (o : Opt ThisParameter) (s : State) (on : State → Result B) → Got g P shape k m n lo a s → ((q : State) → Got g P shape k m n lo a q → Gives g Q (on q))
           → Gives g Q (reportThis g o s on)
       this-noted absent s on x f = f s x
-      this-noted (present t) s on x f = reported _ s on x f
+      this-noted (present t) s on x f = reported _ (note-alone _ _ _ refl) s on x f
 
       -- Alike after the diagnostics of an index signature.
       index-noted : (b : ℕ) (ps : IndexParameters) (s : State) (on : State → Result B) → Got g P shape k m n lo a s → ((q : State) → Got g P shape k m n lo a q → Gives g Q (on q))
           → Gives g Q (reportIndex g b ps s on)
-      index-noted b noIndex s on x f = reported _ s on x f
-      index-noted b (severalIndex p) s on x f = reported _ s on x f
+      index-noted b noIndex s on x f = reported _ (note-alone _ _ _ refl) s on x f
+      index-noted b (severalIndex p) s on x f = reported _ (note-alone _ _ _ refl) s on x f
       index-noted b (oneIndex p) s on x f =
-          gives-test (isLiteral (p .type)) (λ _ _. reported _ s on x f) λ _ _.
-          reported-if (isNoIndex (p .type)) _ s on x f
+          gives-test (isLiteral (p .type)) (λ _ _. reported _ (note-alone _ _ _ refl) s on x f) λ _ _.
+          reported-if (isNoIndex (p .type)) _ (note-alone _ _ _ refl) s on x f
 
     -- Past the end of a member.
     end-gives : {A : Type 0} {P : A → State → Type 0} {n : ℕ} (s : State) (on : State → Result A) → s .half ≡ 0 → At g n s
@@ -587,7 +613,7 @@ module _ (g : Given) (c : Checked g) where
     unfolding indexParameter indexType
     index-parameter n lo s l a =
         gives-then (binding-gives n lo s l a) λ x q b.
-        reported-if (stands g Question q) _ q (indexType g T (first g s) x) b λ q b.
+        reported-if (stands g Question q) _ (note-alone _ _ _ refl) q (indexType g T (first g s) x) b λ q b.
         let asked = past-mark c Question refl q (b .has .at) in
         gives-mark c Colon refl (past g Question q) (asked .at) (refusal (asked .at) tt) λ u _.
         gives-then (h true _ (end g q) (next (past g Question q)) (omega arith) (u .at)) λ t r d.
@@ -610,7 +636,7 @@ module _ (g : Given) (c : Checked g) where
     back x b =
         let y = b .has .at in
         has-on x
-        (record { used = x .at .used; roomy = x .at .roomy; few = y .few; recorded = y .recorded; inside = y .inside; one = y .one; shown = y .shown; order = y .order; rest = y .rest })
+        (record { used = x .at .used; roomy = x .at .roomy; few = y .few; recorded = y .recorded; noted = y .noted; inside = y .inside; one = y .one; shown = y .shown; order = y .order; rest = y .rest })
         (has-le (b .has))
 
     freed-whole : (later : Bool) (s q : State) → q .half ≡ 0 → freed later s q .half ≡ 0
@@ -646,7 +672,7 @@ module _ (g : Given) (c : Checked g) where
         let y = has-next (one .1) u in
         let e : Got g AreIndex shapeOfKept 0 (m + 2) n lo (withOne ps p) (next z)
         = record { is = one .0; has = y; whole = refl; rise = omega (arith, has-le y); light = omega (arith, one .2, freed-worth (hasOne ps) s q, u .more) } in
-        reported-if (stands g RBrack (next z)) _ (next z) (indexFrom g T fuel (withOne ps p)) e λ r d.
+        reported-if (stands g RBrack (next z)) _ (note-alone _ _ _ refl) (next z) (indexFrom g T fuel (withOne ps p)) e λ r d.
         index-from m n lo fuel (withOne ps p) r (d .whole) (d .is) (d .has) (omega (arith, d .light))
 
     index-gives : (b : ℕ) (readonly : Bool) (m n lo : ℕ) (s : State) → stands g LBrack s ≡ true → lo ≤ b → b ≤ first g s → m ≤ worth g s → At g n s
@@ -1011,6 +1037,7 @@ begin-at g c =
       roomy = omega arith;
       few = omega arith;
       recorded = omega arith;
+      noted = tt;
       inside = start-inside g c;
       one = omega arith;
       shown = omega (arith, word-inside (g .text) (g .words) (c .start) (c .sound) (c .start));

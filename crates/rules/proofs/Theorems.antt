@@ -17,6 +17,8 @@ use Rattle.keys.specs.Key.{taken, nodeTable, keyOf, IsTree, HasRoom}
 use Rattle.keys.specs.Store.{namesOf, allPointed, lent, takeBack}
 use Rattle.keys.proofs.Theorems.{same-key, taken-back}
 use Rattle.keys.proofs.BitsLaws.{clash}
+use Rattle.keys.proofs.Fitting.{Each}
+use Rattle.rules.specs.Notes.{NoteStands}
 use Rattle.rules.specs.State.{Given, State, end, read as got}
 use Rattle.rules.specs.Reading.{reading}
 use Rattle.rules.specs.Read.{granted, denied, Outcome, outcome, refuses, written, read}
@@ -62,6 +64,10 @@ module _ (g : Given) (start : ℕ) {t : Placed} {s : State}
   -- Each has a record.
   pub notes-recorded : length (s .notes) ≤ g .records
   notes-recorded = all .has .at .recorded
+
+  -- Each stands as it may: a 4 has the place of an optional element that ended before its own began, all others have no second place.
+  pub notes-stand : Each (NoteStands (length (g .text))) (s .notes)
+  notes-stand = all .has .at .noted
 
   -- A node's first byte is below its end byte, a child lies inside its parent, and entries of a list come in order without overlap.
   pub tree-in-order : InOrder 0 t
@@ -115,6 +121,10 @@ module _ {c : Call} {t : Placed} {s : State} (x : Granted c t s) where
   -- The name words that it leaves point at the tree's spellings in the text, in the key's order.
   pub call-spelled : allPointed (c .text) (namesOf t) ≡ names (bare t)
   call-spelled = names-spelled _ (c .start) (x .bytes) (facts x .passed) (x .rules)
+
+  -- Its diagnostics stand in the text as they may.
+  pub call-notes : Each (NoteStands (length (c .text))) (s .notes)
+  call-notes = notes-stand _ (c .start) (x .bytes) (facts x .passed) (x .rules)
 
   -- The key that it leaves is its tree's.
   pub call-key : keyLeft (left c) ≡ keyOf (bare t)

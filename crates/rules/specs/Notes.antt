@@ -1,5 +1,6 @@
 -- Diagnostics, and the records that hold them (01, "The two calls", "Reading rules": Diagnostics).
-use Prim.Native.Nat.{ℕ}
+use mathlib.Core.Path.{_≡_}
+use Prim.Native.Nat.{ℕ, _<_, _≤_}
 use mathlib.Core.List.{List, [], _∷_}
 
 -- empty type parameters
@@ -69,6 +70,11 @@ note n b e = record { number = n; first = b; end = e; otherFirst = 0; otherEnd =
 -- a diagnostic of two places
 abbrev pub noteBoth : ℕ → ℕ → ℕ → ℕ → ℕ → Note
 noteBoth n b e b' e' = record { number = n; first = b; end = e; otherFirst = b'; otherEnd = e' }
+
+-- A diagnostic as it may be in a text of so many bytes: a 4 has a second place, which ends no later than the first begins, and both lie in the text; all others have none (02, W6).
+pub data NoteStands (size : ℕ) (n : Note) : Type 0 where
+  of-one : (n .number ≡ requiredAfterOptional → ⊥) → n .otherFirst ≡ 0 → n .otherEnd ≡ 0 → NoteStands size n
+  of-two : n .number ≡ requiredAfterOptional → n .otherFirst < n .otherEnd → n .otherEnd ≤ n .first → n .first < n .end → n .end ≤ size → NoteStands size n
 
 -- the words of a record
 abbrev pub noteWidth : ℕ
