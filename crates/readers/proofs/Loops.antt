@@ -22,11 +22,13 @@ use Rattle.rules.specs.Tuple as tuple
 use Rattle.rules.specs.Template as template
 use Rattle.marks.specs.State.{view}
 use Rattle.marks.specs.Laid.{Was, BuiltAt}
+use Rattle.parts.specs.Tuple.{LatestIs}
 use Rattle.parts.proofs.RingLaws.{endTypes, endArguments, endTemplate}
 use Rattle.parts.proofs.Turns.{ListTurn, TreeTurn, PieceTurn, looped}
 use Rattle.members.specs.Object.{IndexIs, keptRun}
 use Rattle.marks.specs.declared.state.Mark.{Mark}
 use Rattle.marks.specs.declared.state.Kids.{Kids}
+use Rattle.parts.specs.declared.tuple.Latest.{Latest}
 use Rattle.members.specs.declared.object.IndexParams.{IndexParams}
 
 module _ (g : Given) (T : Reader) where
@@ -67,14 +69,14 @@ module _ (g : Given) (T : Reader) where
   abbrev pub SuffixTurn : ℕ → Placed → State → Was → ℕ → Mark → (N M O : List ℕ) → Type 0
   SuffixTurn b t q B high p N M O = TreeTurn (length (g .words)) B (postfixFrom g T b) (postfixFrom g T b (turns g) t q) high p N M O
 
-  -- The elements of a tuple that began at s; whether an optional one is among them.
+  -- The elements of a tuple that began at s; the latest optional one among them.
   abbrev pub endTuple : State → List Placed → State → Result Placed
   endTuple s l q = make g (length l ∷ []) (node.tuple (first g s) (end g q) l) q
 
   -- The loop over its elements.
-  pub record TupleTurn (s : State) (B : Was) (seen : Bool) (k : Kids) (p : Mark) (N M O : List ℕ) : Type 0 where
+  pub record TupleTurn (s : State) (B : Was) (latest : Latest) (k : Kids) (p : Mark) (N M O : List ℕ) : Type 0 where
     pub turn : ListTurn 1 (length (g .words)) B done (looped g RBrack (tuple.checkedElement g T) (endTuple s)) (tuple.tuple g T s) (k .count) k p N M O
-    pub seen-is : seen ≡ tuple.seenOptional (turn .list)
+    pub latest-is : LatestIs latest (tuple.latestOptional (turn .list))
 
   -- The members of an object type that began at s, from q on.
   abbrev pub endObject : State → List Placed → State → Result Placed

@@ -1,19 +1,17 @@
 -- The loop of a tuple's elements: where it begins, one element more, and each way out of it.
 use mathlib.Core.Path.{_≡_, refl, sym, ap, _∙_, subst}
-use mathlib.Core.Bool.{Bool, true, false, not}
+use mathlib.Core.Bool.{true, false}
 use mathlib.Core.List.{List, [], _∷_, _++_}
 use Prim.Native.Nat.{ℕ, suc, _+_, _-_, _*_, _≤_, _<_}
 use native.Mathlib.Omega.{arith}
 use lib.ListN.{length, length-append}
 use Rattle.words.specs.Kind.{LBrack, RBrack}
-use Rattle.words.specs.Test.{_and_, _or_}
 use Rattle.keys.specs.Placed as node
-use Rattle.keys.specs.Placed.{Placed, listed}
+use Rattle.keys.specs.Placed.{Placed, Opt, absent, listed}
 use Rattle.keys.specs.Store.{done}
 use Rattle.rules.specs.Refusal.{unexpected}
-use Rattle.rules.specs.Notes.{note, requiredAfterOptional}
 use Rattle.rules.specs.State as rule
-use Rattle.rules.specs.State.{State, Result, Reader, read, refuse, then, kind, stands, first, end, make, reportIf}
+use Rattle.rules.specs.State.{State, Result, Reader, read, refuse, then, kind, stands, first, end, make}
 use Rattle.rules.specs.List.{listFrom}
 use Rattle.rules.specs.Tuple as tuple
 use Rattle.marks.specs.State.{view, givenOf, nextMark, Moved}
@@ -21,26 +19,27 @@ use Rattle.marks.specs.Laid.{runs, Was, was, BuiltAt, Stands, Shape}
 use Rattle.marks.specs.Says.{Got}
 use Rattle.marks.specs.Node.{Links}
 use Rattle.marks.specs.List.{Follows, closes, goes, stops}
-use Rattle.parts.specs.Tuple.{Checks}
+use Rattle.parts.specs.Tuple.{LatestIs, Checks}
 use Rattle.marks.proofs.ListLaws.{list-closed, list-refused, list-goes, list-stops}
 use Rattle.marks.proofs.BuiltLaws.{built-none}
 use Rattle.marks.proofs.LeafLaws.{noKids}
 use Rattle.parts.proofs.ShapeLaws.{all-more}
-use Rattle.parts.proofs.TupleLaws.{tuple-is, checked-read, checked-full, checked-refused, seen-more, tuple-shape}
+use Rattle.parts.proofs.TupleLaws.{tuple-is, checked-read, checked-full, checked-refused, latest-behind, tuple-shape}
 use Rattle.parts.proofs.Turns.{looped, built-more}
 use Rattle.marks.specs.declared.state.Given.{Given}
 use Rattle.marks.specs.declared.state.Mark.{Mark}
 use Rattle.marks.specs.declared.state.Kids.{Kids}
 use Rattle.marks.specs.declared.state.Answer.{Answer}
+use Rattle.parts.specs.declared.tuple.Latest.{Latest}
 use Rattle.parts.specs.declared.tuple.Seen.{Seen}
 use Rattle.readers.proofs.MovedLaws.{built-moved}
 use Rattle.readers.proofs.Loops.{TupleTurn, endTuple}
 
 -- Behind its bracket there is no element yet.
-pub tuple-begins : (g : rule.Given) (T : Reader) (m : Mark) (N M O : List ℕ) {k : Kids} → k ≡ noKids → kind g (view m O) ≡ LBrack
-    → TupleTurn g T (view m O) (was m N M O) false k (nextMark m) N M O
-tuple-begins g T m N M O e h =
-    subst (λ (x : Kids). TupleTurn g T (view m O) (was m N M O) false x (nextMark m) N M O) (sym e)
+pub tuple-begins : (g : rule.Given) (T : Reader) (m : Mark) (N M O : List ℕ) {latest : Latest} {k : Kids} → k ≡ noKids → latest .there ≡ false → kind g (view m O) ≡ LBrack
+    → TupleTurn g T (view m O) (was m N M O) latest k (nextMark m) N M O
+tuple-begins g T m N M O {latest} e l h =
+    subst (λ (x : Kids). TupleTurn g T (view m O) (was m N M O) latest x (nextMark m) N M O) (sym e)
     (record {
       turn =
           record {
@@ -52,11 +51,11 @@ tuple-begins g T m N M O e h =
             many-is = refl;
             built = built-none (m .used) (m .named) (m .noted) N M O;
           };
-      seen-is = refl;
+      latest-is = l;
     })
 
-module _ (text W : List ℕ) (given : Given) (T : Reader) (s : State) {B : Was} {seen : Bool} {k : Kids} {p : Mark} {N M O : List ℕ}
-    (w : TupleTurn (givenOf text W given) T s B seen k p N M O) where
+module _ (text W : List ℕ) (given : Given) (T : Reader) (s : State) {B : Was} {latest : Latest} {k : Kids} {p : Mark} {N M O : List ℕ}
+    (w : TupleTurn (givenOf text W given) T s B latest k p N M O) where
   -- What the reading is given.
   abbrev g : rule.Given
   g = givenOf text W given
@@ -95,28 +94,28 @@ module _ (text W : List ℕ) (given : Given) (T : Reader) (s : State) {B : Was} 
     tuple-refused e = refused-so (list-refused g RBrack (tuple.checkedElement g T) (w .turn .fuel) list (view p O) z (checked-refused g T list (view p O) e))
 
     module _ {high : ℕ} {q : Mark} {N' M' O' : List ℕ} {r : Seen} {O'' : List ℕ}
-        (got : Got 1 (was p N M O) (tuple.element g T (view p O)) high q N' M' O') (checks : Checks given seen q N' O' r O'') where
+        (got : Got 1 (was p N M O) (tuple.element g T (view p O)) high q N' M' O') (checks : Checks given latest q N' O' r O'') where
       -- The element.
       abbrev e : Placed
       e = got .tree
 
-      -- Diagnostic 4, by whether an optional element was seen.
-      abbrev reported : Bool → Result Placed
-      reported b = reportIf (b and not (tuple.isOptionalElement e) and not (node.isRest e)) g (note requiredAfterOptional (node.firstOf e) (node.endOf e)) (view q O') (read e)
+      -- The latest optional element before it.
+      abbrev before : Opt Placed
+      before = tuple.latestOptional list
 
       -- There is no record for diagnostic 4.
       pub tuple-full : (r .why ≡ 0 → ⊥) → tuple.tuple g T s ≡ refuse (r .why) (r .m .at) (r .m .half)
       tuple-full h =
           refused-so (list-refused g RBrack (tuple.checkedElement g T) (w .turn .fuel) list (view p O) z
           (checked-full g T list (view p O) (got .is)
-          (subst (λ (b : Bool). reported b ≡ refuse (r .why) (r .m .at) (r .m .half)) (w .seen-is) (checks .refused h text W (was p N M O) e high M' (got .stands)))))
+          (checks .refused h text W (was p N M O) before e high M' (w .latest-is) (got .stands))))
 
       module _ (h : r .why ≡ 0) where
         -- The element is read, diagnostic 4 with it.
         checked-here : tuple.checkedElement g T list (view p O) ≡ read e (view (r .m) O'')
         checked-here =
             checked-read g T list (view p O) (got .is)
-            (subst (λ (b : Bool). reported b ≡ read e (view (r .m) O'')) (w .seen-is) (checks .done h text W (was p N M O) e high M' (got .stands) .0))
+            (checks .done h text W (was p N M O) before e high M' (w .latest-is) (got .stands) .0)
 
         module _ {a : Answer} (f : Follows W RBrack (r .m) a) where
           -- Neither the bracket nor a comma follows it.
@@ -126,14 +125,14 @@ module _ (text W : List ℕ) (given : Given) (T : Reader) (s : State) {B : Was} 
           -- One element more.
           pub tuple-again : {len : ℕ} {k' : Kids} {N'' : List ℕ} → a .why ≡ 0 → Moved len (r .m) (a .m) → p .at < length W → p .at ≤ r .m .at
               → Links k (p .used) (r .m .used) high N' k' N'' → k' .count ≡ k .count + 1 → length N ≡ length N'
-              → TupleTurn g T s B (r .optional) k' (a .m) N'' M' O''
+              → TupleTurn g T s B (r .latest) k' (a .m) N'' M' O''
           tuple-again {len} {k'} {N''} i v j l links count same = by f refl
             where
               l' : List Placed
               l' = list ++ (e ∷ [])
 
               stands' : Stands 1 (was p N M O) e high (r .m) N' M' O''
-              stands' = checks .done h text W (was p N M O) e high M' (got .stands) .2
+              stands' = checks .done h text W (was p N M O) before e high M' (w .latest-is) (got .stands) .2
 
               built : BuiltAt B (runs 1 l') k' (a .m) N'' M' O''
               built =
@@ -151,7 +150,7 @@ module _ (text W : List ℕ) (given : Given) (T : Reader) (s : State) {B : Was} 
               one-less = omega (arith, w .turn .enough)
 
               turn : (fuel : ℕ) → length W ≤ fuel + a .m .at → tuple.tuple g T s ≡ from (suc fuel) l' (view (a .m) O'')
-                  → TupleTurn g T s B (r .optional) k' (a .m) N'' M' O''
+                  → TupleTurn g T s B (r .latest) k' (a .m) N'' M' O''
               turn fuel y is =
                   record {
                     turn =
@@ -164,12 +163,12 @@ module _ (text W : List ℕ) (given : Given) (T : Reader) (s : State) {B : Was} 
                           many-is = omega (arith, count, w .turn .many-is, length-append list (e ∷ []));
                           built = built;
                         };
-                    seen-is =
-                        checks .done h text W (was p N M O) e high M' (got .stands) .1
-                        ∙ ap (λ (b : Bool). b or tuple.isOptionalElement e) (w .seen-is) ∙ sym (seen-more list e);
+                    latest-is =
+                        subst (λ (o : Opt Placed). LatestIs (r .latest) o) (sym (latest-behind absent list (e ∷ [])))
+                        (checks .done h text W (was p N M O) before e high M' (w .latest-is) (got .stands) .1);
                   }
 
-              by : (y : Follows W RBrack (r .m) a) → y ≡ f → TupleTurn g T s B (r .optional) k' (a .m) N'' M' O''
+              by : (y : Follows W RBrack (r .m) a) → y ≡ f → TupleTurn g T s B (r .latest) k' (a .m) N'' M' O''
               by (closes c m) _ =
                   let is : tuple.tuple g T s ≡ from (suc (w .turn .fuel - 1)) l' (view (a .m) O'') = next-is (w .turn .fuel - 1) one-less in
                   let closed : stands g RBrack (view (a .m) O'') ≡ true = subst (λ (y : Answer). stands g RBrack (view (y .m) O'') ≡ true) (sym m) c in

@@ -94,6 +94,7 @@ use parts::primary::literal;
 use parts::primary::parens_node;
 use parts::primary::primary_start;
 use parts::primary::subject;
+use parts::tuple::Latest;
 use parts::tuple::checked;
 use parts::tuple::element_head;
 use parts::tuple::element_node;
@@ -1426,18 +1427,18 @@ fn tuple(
         noted: m.noted,
     };
     let mut k = Kids::none();
-    let mut seen = false;
+    let mut latest = Latest::none();
     while kind_at(words, p) != Kind::R_BRACK {
         let a = elem(text, words, classes, nodes, names, notes, given, p);
         if a.why != 0 {
             return a;
         }
-        let e = checked(nodes, notes, given, seen, a.m);
+        let e = checked(nodes, notes, given, latest, a.m);
         if e.why != 0 {
             return Answer::refused(e.why, e.m);
         }
         let q = e.m;
-        seen = e.optional;
+        latest = e.latest;
         k = link(nodes, k, p.used, q.used, a.high);
         let s = past_comma(words, Kind::R_BRACK, q);
         if s.why != 0 {

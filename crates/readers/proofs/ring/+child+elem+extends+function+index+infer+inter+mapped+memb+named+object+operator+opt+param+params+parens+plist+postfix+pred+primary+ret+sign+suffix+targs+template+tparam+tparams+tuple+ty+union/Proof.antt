@@ -125,6 +125,6 @@ pub +child+elem+extends+function+index+infer+inter+mapped+memb+named+object+oper
     (λ t. template-lts.spec (OfTemplate.R t) (template-at t) template.Post OfTemplate.Inv-loop OfTemplate.μ-loop (OfTemplate.spell-requires t) (OfTemplate.none-requires t) (OfTemplate.loop-holds t) (OfTemplate.child-requires t) (OfTemplate.refused-requires t) (OfTemplate.same-length t) (OfTemplate.same-length-2 t) (OfTemplate.returns t) (OfTemplate.kind-at-requires t) (OfTemplate.spell-requires-2 t) (OfTemplate.at-requires t) (OfTemplate.put-list-requires t) (OfTemplate.same-length-3 t) (OfTemplate.same-length-4 t) (OfTemplate.returns-2 t) (OfTemplate.refused-requires-2 t) (OfTemplate.same-length-5 t) (OfTemplate.same-length-6 t) (OfTemplate.returns-3 t) (OfTemplate.spell-requires-3 t) (OfTemplate.loop-less t) (OfTemplate.loop-again t))
     (λ t. tparam-lts.spec (OfTparam.R t) (tparam-at t) tparam.Post (OfTparam.type-param-head-requires t) (OfTparam.refused-requires t) (OfTparam.same-length t) (OfTparam.returns t) (OfTparam.none-requires t) (OfTparam.opt-requires t) (OfTparam.refused-requires-2 t) (OfTparam.same-length-2 t) (OfTparam.same-length-3 t) (OfTparam.returns-2 t) (OfTparam.opt-requires-2 t) (OfTparam.refused-requires-3 t) (OfTparam.same-length-4 t) (OfTparam.same-length-5 t) (OfTparam.returns-3 t) (OfTparam.opt-bit-requires t) (OfTparam.opt-bit-requires-2 t) (OfTparam.mul-choices t) (OfTparam.add-choices t) (OfTparam.at-requires t) (OfTparam.put-requires t) (OfTparam.same-length-6 t) (OfTparam.same-length-7 t) (OfTparam.returns-4 t))
     (λ t. tparams-lts.spec (OfTparams.R t) (tparams-at t) tparams.Post OfTparams.Inv-loop OfTparams.μ-loop (OfTparams.kind-at-requires t) (OfTparams.absent-requires t) (OfTparams.returns t) (OfTparams.add-t17 t) (OfTparams.none-requires t) (OfTparams.loop-holds t) (OfTparams.kind-at-requires-2 t) (OfTparams.tparam-requires t) (OfTparams.refused-requires t) (OfTparams.same-length t) (OfTparams.same-length-2 t) (OfTparams.returns-2 t) (OfTparams.link-requires t) (OfTparams.past-comma-requires t) (OfTparams.refused-requires-2 t) (OfTparams.same-length-3 t) (OfTparams.same-length-4 t) (OfTparams.returns-3 t) (OfTparams.loop-less t) (OfTparams.loop-again t) (OfTparams.first-byte-requires t) (OfTparams.list-end-requires t) (OfTparams.same-length-5 t) (OfTparams.same-length-6 t) (OfTparams.returns-4 t))
-    (λ t. tuple-lts.spec (OfTuple.R t) (tuple-at t) tuple.Post OfTuple.Inv-loop OfTuple.μ-loop (OfTuple.add-t16 t) (OfTuple.none-requires t) (OfTuple.loop-holds t) (OfTuple.kind-at-requires t) (OfTuple.elem-requires t) (OfTuple.same-length t) (OfTuple.same-length-2 t) (OfTuple.returns t) (OfTuple.checked-requires t) (OfTuple.refused-requires t) (OfTuple.same-length-3 t) (OfTuple.same-length-4 t) (OfTuple.returns-2 t) (OfTuple.link-requires t) (OfTuple.past-comma-requires t) (OfTuple.refused-requires-2 t) (OfTuple.same-length-5 t) (OfTuple.same-length-6 t) (OfTuple.returns-3 t) (OfTuple.loop-less t) (OfTuple.loop-again t) (OfTuple.at-requires t) (OfTuple.tuple-node-requires t) (OfTuple.same-length-7 t) (OfTuple.same-length-8 t) (OfTuple.returns-4 t))
+    (λ t. tuple-lts.spec (OfTuple.R t) (tuple-at t) tuple.Post OfTuple.Inv-loop OfTuple.μ-loop (OfTuple.add-t16 t) (OfTuple.none-requires t) (OfTuple.none-requires-2 t) (OfTuple.loop-holds t) (OfTuple.kind-at-requires t) (OfTuple.elem-requires t) (OfTuple.same-length t) (OfTuple.same-length-2 t) (OfTuple.returns t) (OfTuple.checked-requires t) (OfTuple.refused-requires t) (OfTuple.same-length-3 t) (OfTuple.same-length-4 t) (OfTuple.returns-2 t) (OfTuple.link-requires t) (OfTuple.past-comma-requires t) (OfTuple.refused-requires-2 t) (OfTuple.same-length-5 t) (OfTuple.same-length-6 t) (OfTuple.returns-3 t) (OfTuple.loop-less t) (OfTuple.loop-again t) (OfTuple.at-requires t) (OfTuple.tuple-node-requires t) (OfTuple.same-length-7 t) (OfTuple.same-length-8 t) (OfTuple.returns-4 t))
     (λ t. ty-lts.spec (OfTy.R t) (ty-at t) ty.Post (OfTy.refused-requires t) (OfTy.returns t) (OfTy.sub-if6 t) (OfTy.begins-requires t) (OfTy.function-requires t) (OfTy.same-length t) (OfTy.same-length-2 t) (OfTy.returns-2 t) (OfTy.union-requires t) (OfTy.same-length-3 t) (OfTy.same-length-4 t) (OfTy.returns-3 t) (OfTy.same-length-5 t) (OfTy.same-length-6 t) (OfTy.returns-4 t) (OfTy.on-line-requires t) (OfTy.same-length-7 t) (OfTy.same-length-8 t) (OfTy.returns-5 t) (OfTy.kind-at-requires t) (OfTy.same-length-9 t) (OfTy.same-length-10 t) (OfTy.returns-6 t) (OfTy.at-requires t) (OfTy.extends-requires t) (OfTy.same-length-11 t) (OfTy.same-length-12 t) (OfTy.returns-7 t))
     (λ t. union-lts.spec (OfUnion.R t) (union-at t) union.Post OfUnion.Inv-loop OfUnion.μ-loop (OfUnion.past-requires t) (OfUnion.none-requires t) (OfUnion.loop-holds t) (OfUnion.inter-requires t) (OfUnion.same-length t) (OfUnion.same-length-2 t) (OfUnion.returns t) (OfUnion.kind-at-requires t) (OfUnion.joined-requires t) (OfUnion.same-length-3 t) (OfUnion.same-length-4 t) (OfUnion.returns-2 t) (OfUnion.link-requires t) (OfUnion.add-t20 t) (OfUnion.loop-less t) (OfUnion.loop-again t))

@@ -23,6 +23,7 @@ use Rattle.marks.proofs.state.Answer.refused.Reads as state-Answer-refused-read
 use Rattle.marks.proofs.state.Begin.at.Reads as at-reads
 use Rattle.marks.proofs.state.Kids.none.Reads as state-Kids-none-reads
 use Rattle.marks.proofs.state.kind_at.Reads as kind-at-reads
+use Rattle.parts.proofs.tuple.Latest.none.Reads as tuple-Latest-none-reads
 use Rattle.parts.proofs.tuple.checked.Reads as checked-reads
 use Rattle.parts.proofs.tuple.tuple_node.Reads as tuple-node-reads
 use Rattle.readers.proofs.ring.elem.Reads as elem
@@ -31,16 +32,16 @@ use Rattle.readers.proofs.ring.+child+elem+extends+function+index+infer
 use Rattle.readers.proofs.ring.+child+elem+extends+function+index+infer+inter+mapped+memb+named+object+operator+opt+param+params+parens+plist+postfix+pred+primary+ret+sign+suffix+targs+template+tparam+tparams+tuple+ty+union.Proof.Base.{elem-below, tuple-at}
 
 abbrev pub R : ℕ → lts.Claims
-R t = (state-Kids-none-reads.Asked, state-Kids-none-reads.Learnt, kind-at-reads.Asked, kind-at-reads.Learnt, elem-below t, elem.Post, checked-reads.Asked, checked-reads.Learnt, state-Answer-refused-reads.Asked, state-Answer-refused-reads.Learnt, link-reads.Asked, link-reads.Learnt, past-comma-reads.Asked, past-comma-reads.Learnt, at-reads.Asked, at-reads.Learnt, tuple-node-reads.Asked, tuple-node-reads.Learnt)
+R t = (state-Kids-none-reads.Asked, state-Kids-none-reads.Learnt, tuple-Latest-none-reads.Asked, tuple-Latest-none-reads.Learnt, kind-at-reads.Asked, kind-at-reads.Learnt, elem-below t, elem.Post, checked-reads.Asked, checked-reads.Learnt, state-Answer-refused-reads.Asked, state-Answer-refused-reads.Learnt, link-reads.Asked, link-reads.Learnt, past-comma-reads.Asked, past-comma-reads.Learnt, at-reads.Asked, at-reads.Learnt, tuple-node-reads.Asked, tuple-node-reads.Learnt)
 
 abbrev pub Inv-loop : lts.InvT-loop
-Inv-loop text words classes nodes₀ names₀ notes₀ given m p₀ k₀ seen₀ nodes names notes p k seen =
+Inv-loop text words classes nodes₀ names₀ notes₀ given m p₀ k₀ latest₀ nodes names notes p k latest =
     Kept (length words) given nodes₀ names₀ p₀ nodes names p × (Under (p .used) k)
     × (kindAt words (m .at) (m .half) ≡ LBrack → TupleTurn (givenOf text words given) (below given (givenOf text words given)) (view m notes₀)
-    (was m nodes₀ names₀ notes₀) seen k p nodes names notes)
+    (was m nodes₀ names₀ notes₀) latest k p nodes names notes)
 
 abbrev pub μ-loop : lts.MeasureT-loop
-μ-loop text words classes nodes₀ names₀ notes₀ given m p₀ k₀ seen₀ nodes names notes p k seen =
+μ-loop text words classes nodes₀ names₀ notes₀ given m p₀ k₀ latest₀ nodes names notes p k latest =
     length words * 2 - placeOf p
 
 module _ (t : ℕ) where
@@ -52,15 +53,20 @@ module _ (t : ℕ) where
   none-requires c κs =
       search needs
 
+  pub none-requires-2 : lts.Need-none-requires-2 (R t) (tuple-at t) tuple.Post Inv-loop μ-loop
+  none-requires-2 c κs =
+      search needs
+
   pub loop-holds : lts.Need-loop-holds (R t) (tuple-at t) tuple.Post Inv-loop μ-loop
   loop-holds c =
-      let pre = c .before .before .before .before .before .before .pre in
-      let args = c .before .before .before .before .before .before .args in
-      let none = c .none in (
+      let pre = c .before .before .before .before .before .before .before .pre in
+      let args = c .before .before .before .before .before .before .before .args in
+      let none = c .before .none in
+      let none2 = c .none2 in (
         omega arith,
         omega (arith, same-kids (none .ensures)),
         λ brack. let text = args .text .now in let s = pre .1 .0 .spelt in
-            tuple-begins _ _ (args .m) _ _ _ (none .ensures) brack,
+            tuple-begins _ _ (args .m) _ _ _ (none .ensures) (none2 .ensures) brack,
       )
 
   pub kind-at-requires : lts.Need-kind-at-requires (R t) (tuple-at t) tuple.Post Inv-loop μ-loop
@@ -69,7 +75,7 @@ module _ (t : ℕ) where
 
   pub elem-requires : lts.Need-elem-requires (R t) (tuple-at t) tuple.Post Inv-loop μ-loop
   elem-requires c κs =
-      let pre = c .before .before .before .before .before .before .before .before .before .before .before .before .pre in
+      let pre = c .before .before .before .before .before .before .before .before .before .before .before .before .before .pre in
       (omega arith, ready (pre .1 .0) (omega arith) (omega arith))
 
   pub same-length : lts.Need-same-length (R t) (tuple-at t) tuple.Post Inv-loop μ-loop
@@ -86,8 +92,8 @@ module _ (t : ℕ) where
 
   pub returns : lts.Need-returns (R t) (tuple-at t) tuple.Post Inv-loop μ-loop
   returns c =
-      let pre = c .before .before .before .before .before .before .before .before .before .before .before .before .before .before .before .before .before .before .before .pre in
-      let args = c .before .before .before .before .before .before .before .before .before .before .before .before .before .before .before .before .before .before .before .args in
+      let pre = c .before .before .before .before .before .before .before .before .before .before .before .before .before .before .before .before .before .before .before .before .pre in
+      let args = c .before .before .before .before .before .before .before .before .before .before .before .before .before .before .before .before .before .before .before .before .args in
       let loop = c .before .before .before .before .before .before .before .before .before .before .before .before .loop in
       let kind-at = c .before .before .before .before .before .before .before .before .before .before .before .kind-at in
       let if1 = c .before .before .before .before .before .before .before .before .before .before .if1 in
@@ -102,7 +108,7 @@ module _ (t : ℕ) where
 
   pub checked-requires : lts.Need-checked-requires (R t) (tuple-at t) tuple.Post Inv-loop μ-loop
   checked-requires c κs =
-      let pre = c .before .before .before .before .before .before .before .before .before .before .before .before .before .before .before .before .before .before .before .before .before .pre in
+      let pre = c .before .before .before .before .before .before .before .before .before .before .before .before .before .before .before .before .before .before .before .before .before .before .pre in
       let loop = c .before .before .before .before .before .before .before .before .before .before .before .before .before .before .loop in
       let elem = c .before .before .before .before .before .before .before .before .elem in
       let if2 = c .before .before .if2 in
@@ -126,8 +132,8 @@ module _ (t : ℕ) where
 
   pub returns-2 : lts.Need-returns-2 (R t) (tuple-at t) tuple.Post Inv-loop μ-loop
   returns-2 c =
-      let pre = c .before .before .before .before .before .before .before .before .before .before .before .before .before .before .before .before .before .before .before .before .before .before .before .before .before .pre in
-      let args = c .before .before .before .before .before .before .before .before .before .before .before .before .before .before .before .before .before .before .before .before .before .before .before .before .before .args in
+      let pre = c .before .before .before .before .before .before .before .before .before .before .before .before .before .before .before .before .before .before .before .before .before .before .before .before .before .before .pre in
+      let args = c .before .before .before .before .before .before .before .before .before .before .before .before .before .before .before .before .before .before .before .before .before .before .before .before .before .before .args in
       let loop = c .before .before .before .before .before .before .before .before .before .before .before .before .before .before .before .before .before .before .loop in
       let kind-at = c .before .before .before .before .before .before .before .before .before .before .before .before .before .before .before .before .before .kind-at in
       let if1 = c .before .before .before .before .before .before .before .before .before .before .before .before .before .before .before .before .if1 in
@@ -147,19 +153,19 @@ module _ (t : ℕ) where
 
   pub link-requires : lts.Need-link-requires (R t) (tuple-at t) tuple.Post Inv-loop μ-loop
   link-requires c κs =
-      let pre = c .before .before .before .before .before .before .before .before .before .before .before .before .before .before .before .before .before .before .before .before .before .before .before .before .before .before .pre in
-      let loop = c .before .before .before .before .before .before .before .before .before .before .before .before .before .before .before .before .before .before .before .loop in
-      let elem = c .before .before .before .before .before .before .before .before .before .before .before .before .before .elem in
-      let if2 = c .before .before .before .before .before .before .before .if2 in
+      let pre = c .before .before .before .before .before .before .before .before .before .before .before .before .before .before .before .before .before .before .before .before .before .before .before .before .before .before .before .before .pre in
+      let loop = c .before .before .before .before .before .before .before .before .before .before .before .before .before .before .before .before .before .before .before .before .loop in
+      let elem = c .before .before .before .before .before .before .before .before .before .before .before .before .before .before .elem in
+      let if2 = c .before .before .before .before .before .before .before .before .if2 in
       omega (arith, elem .ensures .1 .1 (if2 .left), loop .inv .1, pre)
 
   pub past-comma-requires : lts.Need-past-comma-requires (R t) (tuple-at t) tuple.Post Inv-loop μ-loop
   past-comma-requires c κs =
-      let pre = c .before .before .before .before .before .before .before .before .before .before .before .before .before .before .before .before .before .before .before .before .before .before .before .before .before .before .before .before .before .pre in
-      let none = c .before .before .before .before .before .before .before .before .before .before .before .before .before .before .before .before .before .before .before .before .before .before .before .none in
-      let elem = c .before .before .before .before .before .before .before .before .before .before .before .before .before .before .before .before .elem in
-      let if2 = c .before .before .before .before .before .before .before .before .before .before .if2 in
-      let checked = c .before .before .before .before .before .before .before .checked in
+      let pre = c .before .before .before .before .before .before .before .before .before .before .before .before .before .before .before .before .before .before .before .before .before .before .before .before .before .before .before .before .before .before .before .pre in
+      let none = c .before .before .before .before .before .before .before .before .before .before .before .before .before .before .before .before .before .before .before .before .before .before .before .before .before .none in
+      let elem = c .before .before .before .before .before .before .before .before .before .before .before .before .before .before .before .before .before .elem in
+      let if2 = c .before .before .before .before .before .before .before .before .before .before .before .if2 in
+      let checked = c .before .before .before .before .before .before .before .before .checked in
       (pre .1 .0 .sound, omega (arith, checked .ensures .1, elem .ensures .1 .1 (if2 .left), same-kids (none .ensures)))
 
   pub refused-requires-2 : lts.Need-refused-requires-2 (R t) (tuple-at t) tuple.Post Inv-loop μ-loop
@@ -168,29 +174,29 @@ module _ (t : ℕ) where
 
   pub same-length-5 : lts.Need-same-length-5 (R t) (tuple-at t) tuple.Post Inv-loop μ-loop
   same-length-5 c =
-      let loop = c .before .before .before .before .before .before .before .before .before .before .before .before .before .before .before .before .before .before .before .before .before .before .before .before .before .before .loop in
-      let elem = c .before .before .before .before .before .before .before .before .before .before .before .before .before .before .before .before .before .before .before .before .elem in
+      let loop = c .before .before .before .before .before .before .before .before .before .before .before .before .before .before .before .before .before .before .before .before .before .before .before .before .before .before .before .loop in
+      let elem = c .before .before .before .before .before .before .before .before .before .before .before .before .before .before .before .before .before .before .before .before .before .elem in
       let link = c .before .before .before .before .before .before .link in
       link .kept .0 ∙ elem .kept .1 .1 .1 .0 ∙ loop .inv .0 .nodes
 
   pub same-length-6 : lts.Need-same-length-6 (R t) (tuple-at t) tuple.Post Inv-loop μ-loop
   same-length-6 c =
-      let loop = c .before .before .before .before .before .before .before .before .before .before .before .before .before .before .before .before .before .before .before .before .before .before .before .before .before .before .loop in
-      let elem = c .before .before .before .before .before .before .before .before .before .before .before .before .before .before .before .before .before .before .before .before .elem in
+      let loop = c .before .before .before .before .before .before .before .before .before .before .before .before .before .before .before .before .before .before .before .before .before .before .before .before .before .before .before .loop in
+      let elem = c .before .before .before .before .before .before .before .before .before .before .before .before .before .before .before .before .before .before .before .before .before .elem in
       elem .kept .1 .1 .1 .1 .0 ∙ loop .inv .0 .names
 
   pub returns-3 : lts.Need-returns-3 (R t) (tuple-at t) tuple.Post Inv-loop μ-loop
   returns-3 c =
-      let pre = c .before .before .before .before .before .before .before .before .before .before .before .before .before .before .before .before .before .before .before .before .before .before .before .before .before .before .before .before .before .before .before .before .before .pre in
-      let args = c .before .before .before .before .before .before .before .before .before .before .before .before .before .before .before .before .before .before .before .before .before .before .before .before .before .before .before .before .before .before .before .before .before .args in
-      let none = c .before .before .before .before .before .before .before .before .before .before .before .before .before .before .before .before .before .before .before .before .before .before .before .before .before .before .before .none in
-      let loop = c .before .before .before .before .before .before .before .before .before .before .before .before .before .before .before .before .before .before .before .before .before .before .before .before .before .before .loop in
-      let kind-at = c .before .before .before .before .before .before .before .before .before .before .before .before .before .before .before .before .before .before .before .before .before .before .before .before .before .kind-at in
-      let if1 = c .before .before .before .before .before .before .before .before .before .before .before .before .before .before .before .before .before .before .before .before .before .before .before .before .if1 in
-      let elem = c .before .before .before .before .before .before .before .before .before .before .before .before .before .before .before .before .before .before .before .before .elem in
-      let if2 = c .before .before .before .before .before .before .before .before .before .before .before .before .before .before .if2 in
-      let checked = c .before .before .before .before .before .before .before .before .before .before .before .checked in
-      let if3 = c .before .before .before .before .before .before .before .before .before .if3 in
+      let pre = c .before .before .before .before .before .before .before .before .before .before .before .before .before .before .before .before .before .before .before .before .before .before .before .before .before .before .before .before .before .before .before .before .before .before .before .pre in
+      let args = c .before .before .before .before .before .before .before .before .before .before .before .before .before .before .before .before .before .before .before .before .before .before .before .before .before .before .before .before .before .before .before .before .before .before .before .args in
+      let none = c .before .before .before .before .before .before .before .before .before .before .before .before .before .before .before .before .before .before .before .before .before .before .before .before .before .before .before .before .before .none in
+      let loop = c .before .before .before .before .before .before .before .before .before .before .before .before .before .before .before .before .before .before .before .before .before .before .before .before .before .before .before .loop in
+      let kind-at = c .before .before .before .before .before .before .before .before .before .before .before .before .before .before .before .before .before .before .before .before .before .before .before .before .before .before .kind-at in
+      let if1 = c .before .before .before .before .before .before .before .before .before .before .before .before .before .before .before .before .before .before .before .before .before .before .before .before .before .if1 in
+      let elem = c .before .before .before .before .before .before .before .before .before .before .before .before .before .before .before .before .before .before .before .before .before .elem in
+      let if2 = c .before .before .before .before .before .before .before .before .before .before .before .before .before .before .before .if2 in
+      let checked = c .before .before .before .before .before .before .before .before .before .before .before .before .checked in
+      let if3 = c .before .before .before .before .before .before .before .before .before .before .if3 in
       let past-comma = c .before .before .before .past-comma in
       let if4 = c .before .if4 in
       let refused2 = c .refused2 in (
@@ -208,24 +214,24 @@ module _ (t : ℕ) where
 
   pub loop-less : lts.Need-loop-less (R t) (tuple-at t) tuple.Post Inv-loop μ-loop
   loop-less c =
-      let none = c .before .before .before .before .before .before .before .before .before .before .before .before .before .before .before .before .before .before .before .before .before .before .before .before .before .before .before .none in
-      let elem = c .before .before .before .before .before .before .before .before .before .before .before .before .before .before .before .before .before .before .before .before .elem in
-      let if2 = c .before .before .before .before .before .before .before .before .before .before .before .before .before .before .if2 in
-      let checked = c .before .before .before .before .before .before .before .before .before .before .before .checked in
+      let none = c .before .before .before .before .before .before .before .before .before .before .before .before .before .before .before .before .before .before .before .before .before .before .before .before .before .before .before .before .before .none in
+      let elem = c .before .before .before .before .before .before .before .before .before .before .before .before .before .before .before .before .before .before .before .before .before .elem in
+      let if2 = c .before .before .before .before .before .before .before .before .before .before .before .before .before .before .before .if2 in
+      let checked = c .before .before .before .before .before .before .before .before .before .before .before .before .checked in
       omega (arith, checked .ensures .1, elem .ensures .1 .1 (if2 .left), same-kids (none .ensures))
 
   pub loop-again : lts.Need-loop-again (R t) (tuple-at t) tuple.Post Inv-loop μ-loop
   loop-again c =
-      let pre = c .before .before .before .before .before .before .before .before .before .before .before .before .before .before .before .before .before .before .before .before .before .before .before .before .before .before .before .before .before .before .before .before .before .pre in
-      let args = c .before .before .before .before .before .before .before .before .before .before .before .before .before .before .before .before .before .before .before .before .before .before .before .before .before .before .before .before .before .before .before .before .before .args in
-      let none = c .before .before .before .before .before .before .before .before .before .before .before .before .before .before .before .before .before .before .before .before .before .before .before .before .before .before .before .none in
-      let loop = c .before .before .before .before .before .before .before .before .before .before .before .before .before .before .before .before .before .before .before .before .before .before .before .before .before .before .loop in
-      let kind-at = c .before .before .before .before .before .before .before .before .before .before .before .before .before .before .before .before .before .before .before .before .before .before .before .before .before .kind-at in
-      let if1 = c .before .before .before .before .before .before .before .before .before .before .before .before .before .before .before .before .before .before .before .before .before .before .before .before .if1 in
-      let elem = c .before .before .before .before .before .before .before .before .before .before .before .before .before .before .before .before .before .before .before .before .elem in
-      let if2 = c .before .before .before .before .before .before .before .before .before .before .before .before .before .before .if2 in
-      let checked = c .before .before .before .before .before .before .before .before .before .before .before .checked in
-      let if3 = c .before .before .before .before .before .before .before .before .before .if3 in
+      let pre = c .before .before .before .before .before .before .before .before .before .before .before .before .before .before .before .before .before .before .before .before .before .before .before .before .before .before .before .before .before .before .before .before .before .before .before .pre in
+      let args = c .before .before .before .before .before .before .before .before .before .before .before .before .before .before .before .before .before .before .before .before .before .before .before .before .before .before .before .before .before .before .before .before .before .before .before .args in
+      let none = c .before .before .before .before .before .before .before .before .before .before .before .before .before .before .before .before .before .before .before .before .before .before .before .before .before .before .before .before .before .none in
+      let loop = c .before .before .before .before .before .before .before .before .before .before .before .before .before .before .before .before .before .before .before .before .before .before .before .before .before .before .before .loop in
+      let kind-at = c .before .before .before .before .before .before .before .before .before .before .before .before .before .before .before .before .before .before .before .before .before .before .before .before .before .before .kind-at in
+      let if1 = c .before .before .before .before .before .before .before .before .before .before .before .before .before .before .before .before .before .before .before .before .before .before .before .before .before .if1 in
+      let elem = c .before .before .before .before .before .before .before .before .before .before .before .before .before .before .before .before .before .before .before .before .before .elem in
+      let if2 = c .before .before .before .before .before .before .before .before .before .before .before .before .before .before .before .if2 in
+      let checked = c .before .before .before .before .before .before .before .before .before .before .before .before .checked in
+      let if3 = c .before .before .before .before .before .before .before .before .before .before .if3 in
       let link = c .before .before .before .before .before .before .link in
       let past-comma = c .before .before .before .past-comma in
       let if4 = c .before .if4 in (
@@ -247,7 +253,7 @@ module _ (t : ℕ) where
 
   pub tuple-node-requires : lts.Need-tuple-node-requires (R t) (tuple-at t) tuple.Post Inv-loop μ-loop
   tuple-node-requires c κs =
-      let pre = c .before .before .before .before .before .before .before .before .before .before .before .pre in
+      let pre = c .before .before .before .before .before .before .before .before .before .before .before .before .pre in
       (pre .1 .0 .sound, omega arith, omega arith, omega arith, omega arith, omega arith, omega arith)
 
   pub same-length-7 : lts.Need-same-length-7 (R t) (tuple-at t) tuple.Post Inv-loop μ-loop
@@ -263,8 +269,8 @@ module _ (t : ℕ) where
 
   pub returns-4 : lts.Need-returns-4 (R t) (tuple-at t) tuple.Post Inv-loop μ-loop
   returns-4 c =
-      let args = c .before .before .before .before .before .before .before .before .before .before .before .before .before .before .args in
-      let pre = c .before .before .before .before .before .before .before .before .before .before .before .before .before .before .pre in
+      let args = c .before .before .before .before .before .before .before .before .before .before .before .before .before .before .before .args in
+      let pre = c .before .before .before .before .before .before .before .before .before .before .before .before .before .before .before .pre in
       let loop = c .before .before .before .before .before .before .before .loop in
       let kind-at = c .before .before .before .before .before .before .kind-at in
       let if1 = c .before .before .before .before .before .if1 in
