@@ -65,7 +65,7 @@ def orders(c):
         n, k, d, s = x[0][1:5]
         for a in range(max(0, n - 3), n + 2):
             for b in range(max(0, d - 2), d + 1):
-                for e in (k, max(0, k - 1)): yield c.case('orders', t, w, 0, False, (4 * a + c.r.randrange(4), e, 3 * b + c.r.randrange(3), s - c.r.randrange(2)))
+                for e in (k, max(0, k - 1)): yield c.case('orders', t, w, 0, False, (4 * a + c.r.randrange(4), e, m.RECORD * b + c.r.randrange(m.RECORD), s - c.r.randrange(2)))
 
 
 def objects(seed, count):

@@ -22,7 +22,7 @@ from keys_vectors import sum_bytes, sum_words
 
 sys.setrecursionlimit(100000)
 
-WIDE = 65552, 16385, 128, 262146                            # nodes and names for all tokens, all diagnostics, any key; and more
+WIDE = 65552, 16385, 212, 262146                            # nodes and names for all tokens, all diagnostics, any key; and more
 
 
 # ---- the model, with the half and the byte of a refusal and the start of a spelling
@@ -128,7 +128,7 @@ def read(text, words, start, parens, lent):
     if len(text) > m.TEXT or len(words) > m.TOKENS or not words or start >= len(words): return no(1, 0, 0, 0)
     for i in range(len(words)):
         if m.bad(text, words, i): return no(2, i, 0, 0)
-    r = Reading(Text(text), words, start, parens, lent[0] // 4, lent[2] // 3)
+    r = Reading(Text(text), words, start, parens, lent[0] // 4, lent[2] // m.RECORD)
     try: t = r.type(True)
     except m.Refused as x: return no(*x.args)
     nodes, names = store(t)
@@ -329,7 +329,7 @@ class Cases:
         if parens is None: parens = c.r.random() < 0.5
         if lent is None:                                    # a node, a name and two notes for each two tokens are enough
             n = min(len(words), 60)
-            lent = c.lent((4 * n, n, 3 * min(n // 3 + 1, 34)))
+            lent = c.lent((4 * n, n, m.RECORD * min(n // 3 + 1, 34)))
         if len(lent) == 3: lent += (c.key_room(t, words, start, parens),)
         return sort, t, words, start, parens, lent
 

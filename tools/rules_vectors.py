@@ -19,7 +19,8 @@ import model as m
 from rules_model import WIDE, Cases, ObjectMaker, expected, keyofs, read, record
 from words_vectors import written
 
-AMPLE = 403, 101, 40, 2003                                  # words lent for nodes, names, diagnostics; bytes for the key
+D = m.RECORD                                                # words of a diagnostic
+AMPLE = 403, 101, 13 * D + 1, 2003                          # words lent for nodes, names, diagnostics; bytes for the key
 ITEMS = ["R%d" % i for i in range(1, 42)] + ["N%d" % i for i in range(1, 11)] + ["X%d" % i for i in range(1, 24)]
 
 # Items, and after the colon texts with ~ between them; # is a line break.
@@ -250,6 +251,26 @@ new <number = B<>>() => A |  | 13 on 5 to 11, 2 on 15 to 17; end 12
 T extends infer never extends ? : Y | records 0 | 9 at 4
 """
 
+# Rows for diagnostics of two places (02, W6).
+BOTH = r"""
+[A?, B] |  | 4 on 5 to 6 and 1 to 3; end 6
+[a?: A, B] |  | 4 on 8 to 9 and 1 to 6; end 8
+[A?, B?, C, D] |  | 4 on 9 to 10 and 5 to 7, 4 on 12 to 13 and 5 to 7; end 11
+[A?, ...B[], C] |  | 4 on 13 to 14 and 1 to 3; end 11
+[...a?: A, B] |  | 7 on 1 to 9; end 9
+[A?, [B?, C], D] |  | 4 on 10 to 11 and 6 to 8, 4 on 5 to 12 and 1 to 3, 4 on 14 to 15 and 1 to 3; end 13
+[(A[]?), B] |  | 4 on 9 to 10 and 2 to 6; end 10
+[(A[]?), B] | brackets kept | end 10
+[a?: A?, b: B] |  | 6 on 5 to 7, 4 on 9 to 13 and 1 to 7; end 11
+[A, B?] |  | end 6
+[A?, b: ...B] |  | 5 on 8 to 12, 4 on 5 to 12 and 1 to 3; end 9
+[A?, B, C?, D] |  | 4 on 5 to 6 and 1 to 3, 4 on 12 to 13 and 8 to 10; end 11
+A<> |  | 2 on 1 to 3; end 3
+new (this: A) => B |  | 3 on 5 to 12; end 8
+[A?, B] | records 0 | 9 at 5
+{ [a?: A]: B } |  | 8 on 4 to 5; end 10
+"""
+
 
 def objects(rows=OBJECTS):
     """Text, lent words, preserve_parens and the numbers that it comes to, of each row."""
@@ -259,14 +280,15 @@ def objects(rows=OBJECTS):
         lent = list(AMPLE)
         if how.startswith("key"): lent[3] = int(how.split()[1])
         if how.startswith("room"): lent[0] = 4 * int(how.split()[1])
-        if how.startswith("records"): lent[2] = 3 * int(how.split()[1])
+        if how.startswith("records"): lent[2] = D * int(how.split()[1])
         yield t.replace("#", "\n"), tuple(lent), how == "brackets kept", says
 
 
 def numbers(x):
     """An answer of rules_model.read in the words of OBJECTS, its key apart."""
     if x[0][0]: return "%d at %d" % x[0][:2], ""
-    notes = ", ".join("%d on %d to %d" % tuple(x[3][i:i + 3]) for i in range(0, len(x[3]), 3))
+    def note(n): return "%d on %d to %d" % tuple(n[:3]) + (" and %d to %d" % tuple(n[3:]) if n[4] else "")
+    notes = ", ".join(note(x[3][i:i + D]) for i in range(0, len(x[3]), D))
     return (notes + "; " if notes else "") + "end %d" % x[0][5], x[4].hex(" ").upper()
 
 
@@ -281,6 +303,11 @@ def object_rows(v, rows=OBJECTS, item="W1"):
 def reserved_rows(v):
     """The rows for reserved names."""
     object_rows(v, RESERVED, "W3")
+
+
+def both_rows(v):
+    """The rows for diagnostics of two places."""
+    object_rows(v, BOTH, "W6")
 
 
 def place_rows(v):
@@ -369,9 +396,9 @@ def least(text, parens=False):
     n, k, d, s = x[0][1:5]
     while read(t, words, 0, parens, (4 * n, k) + WIDE[2:])[0][0] == 8:
         n += 1
-    while read(t, words, 0, parens, (4 * n, k, 3 * d, s))[0][0] == 9:
+    while read(t, words, 0, parens, (4 * n, k, D * d, s))[0][0] == 9:
         d += 1
-    return 4 * n, k, 3 * d, s
+    return 4 * n, k, D * d, s
 
 
 def rows(v):
@@ -482,26 +509,26 @@ def long(v):
 def short_of_room(v):
     """Room and records at and one below what is needed where more is in use than is left at the end."""
     for room in range(9):
-        v.add("R17 X22 X20", "new (this: A<B, C>) => D", (4 * room, 9, 9))
-        v.add("R17 X22 X20", "new (this: A<B, C>, d: E) => F", (4 * room, 9, 9))
-        v.add("R23 X22", "(infer U extends A<B, C> ? X : Y)", (4 * room, 9, 9))
-        v.add("R23 X22", "(infer U extends A<B, C>)", (4 * room, 9, 9))
-        v.add("R22 R23 X22", "infer U\nextends A<B, C> ? X : Y", (4 * room, 9, 9))      # reads `infer U`, and the trial held three nodes
-        v.add("R22 R23 X22 X14", "infer U\nextends [A<>, B<>] ? X : Y", (40, 9, 3 * room))
-        v.add("R22 R23 X22 X16", "infer U\nextends A.b.c ? X : Y", (40, room, 9))
-        v.add("R23 X22", "(infer U\nextends A<B, C> ? X : Y)", (4 * room, 9, 9))
-        v.add("R23 X22", "(infer U extends [A, B, C, D] ? X : Y)", (4 * room + 3, 9, 9))
-        v.add("R27 X20", "this is A", (4 * room, 9, 9))
-        v.add("R16 X20", "(this: A) => B", (4 * room, 9, 9))
-        v.add("X20", "<T>(a) => B", (4 * room, 9, 9))
-        v.add("X16", "(infer U extends A.b<C.d> ? X.y : Z)", (64, room, 9))
-        v.add("X16 R17", "new <T>(this: A.b<C>, d: E.f) => G", (64, room, 9))
-        v.add("X14 N8", "[a?: ...A?, ...b?: B<>, C]", (64, 9, 3 * room))
-        v.add("X14 N8", "[a?: ...A?, ...b?: B<>, C]", (64, 9, 3 * room + 2))
+        v.add("R17 X22 X20", "new (this: A<B, C>) => D", (4 * room, 9, 3 * D))
+        v.add("R17 X22 X20", "new (this: A<B, C>, d: E) => F", (4 * room, 9, 3 * D))
+        v.add("R23 X22", "(infer U extends A<B, C> ? X : Y)", (4 * room, 9, 3 * D))
+        v.add("R23 X22", "(infer U extends A<B, C>)", (4 * room, 9, 3 * D))
+        v.add("R22 R23 X22", "infer U\nextends A<B, C> ? X : Y", (4 * room, 9, 3 * D))      # reads `infer U`, and the trial held three nodes
+        v.add("R22 R23 X22 X14", "infer U\nextends [A<>, B<>] ? X : Y", (40, 9, D * room))
+        v.add("R22 R23 X22 X16", "infer U\nextends A.b.c ? X : Y", (40, room, 3 * D))
+        v.add("R23 X22", "(infer U\nextends A<B, C> ? X : Y)", (4 * room, 9, 3 * D))
+        v.add("R23 X22", "(infer U extends [A, B, C, D] ? X : Y)", (4 * room + 3, 9, 3 * D))
+        v.add("R27 X20", "this is A", (4 * room, 9, 3 * D))
+        v.add("R16 X20", "(this: A) => B", (4 * room, 9, 3 * D))
+        v.add("X20", "<T>(a) => B", (4 * room, 9, 3 * D))
+        v.add("X16", "(infer U extends A.b<C.d> ? X.y : Z)", (64, room, 3 * D))
+        v.add("X16 R17", "new <T>(this: A.b<C>, d: E.f) => G", (64, room, 3 * D))
+        v.add("X14 N8", "[a?: ...A?, ...b?: B<>, C]", (64, 9, D * room))
+        v.add("X14 N8", "[a?: ...A?, ...b?: B<>, C]", (64, 9, D * room + D - 1))
     v.add("X16", "A" + ".b" * 100, (4, 101, 0))
     v.add("X16", "A" + ".b" * 100, (4, 100, 0))
     v.add("X16 X17", "A" + ".b" * 100 + " B)", (4, 0, 0))
-    for lent in ((0, 0, 0), (1, 0, 0), (3, 1, 1), (4, 0, 0), (4, 1, 0), (7, 1, 2), (0, 1, 3)):
+    for lent in ((0, 0, 0), (1, 0, 0), (3, 1, 1), (4, 0, 0), (4, 1, 0), (7, 1, D - 1), (0, 1, D)):
         for t in ("A", "any", "A<>", "()", "A["):
             v.add("X13 X14 X16 X17", t, lent)
 
@@ -526,16 +553,16 @@ def short_of_key(v):
 def many_notes(v):
     """32 and 33 diagnostics, and as many records, one more and one fewer."""
     for n in (31, 32, 33):
-        for c in (0, 3, 93, 95, 96, 98, 99, 102):
+        for c in (0, D, 31 * D, 32 * D - 1, 32 * D, 33 * D - 1, 33 * D, 34 * D):
             v.add("X14 N3", "[" + "A<>," * n + "]", (640, 40, c))
-        v.add("X14 X23 N10", "(infer U extends [" + "A<>," * n + "] ? X : Y)", (640, 80, 120))
-        v.add("X14 N4 N10", "new (this: [" + "A<>," * (n - 1) + "]) => B", (640, 80, 120))
-        v.add("X14 N10", "new (this: [" + "A<>," * n + "]) => B", (640, 80, 120))
-        v.add("X14 N5", "[A?," + "B," * n + "]", (640, 80, 120))
-        v.add("X14 N2", "[" + "A<<>() => B>," * n + "]", (640, 80, 120))
-        v.add("X14 N6", "[" + "a: ...B," * n + "]", (640, 80, 120))
-        v.add("X14 N7", "[" + "a: B?," * n + "]", (640, 80, 120))
-        v.add("X14 N8", "[" + "...a?: B," * n + "]", (640, 80, 120))
+        v.add("X14 X23 N10", "(infer U extends [" + "A<>," * n + "] ? X : Y)", (640, 80, 40 * D))
+        v.add("X14 N4 N10", "new (this: [" + "A<>," * (n - 1) + "]) => B", (640, 80, 40 * D))
+        v.add("X14 N10", "new (this: [" + "A<>," * n + "]) => B", (640, 80, 40 * D))
+        v.add("X14 N5", "[A?," + "B," * n + "]", (640, 80, 40 * D))
+        v.add("X14 N2", "[" + "A<<>() => B>," * n + "]", (640, 80, 40 * D))
+        v.add("X14 N6", "[" + "a: ...B," * n + "]", (640, 80, 40 * D))
+        v.add("X14 N7", "[" + "a: B?," * n + "]", (640, 80, 40 * D))
+        v.add("X14 N8", "[" + "...a?: B," * n + "]", (640, 80, 40 * D))
 
 
 def in_a_trial(v):
@@ -551,12 +578,12 @@ def in_a_trial(v):
         v.add("X23 X13", trial("keyof " * n + "A"), WIDE)
     v.add("X23 X13", trial("|".join("A" * 4096)), WIDE)
     for room in range(3, 10):
-        v.add("X23 X13", trial("[A, B, C]"), (4 * room, 20, 9))
-        v.add("X23 X13", trial("[A, B, C]"), (4 * room - 1, 20, 9))
-    for c in (0, 3, 6, 8, 9):
+        v.add("X23 X13", trial("[A, B, C]"), (4 * room, 20, 3 * D))
+        v.add("X23 X13", trial("[A, B, C]"), (4 * room - 1, 20, 3 * D))
+    for c in (0, D, 2 * D, 3 * D - 1, 3 * D):
         v.add("X23 X14", trial("[A<>, B<>, C<>]"), (99, 20, c))
-    v.add("X16 X22", trial("A.b.c.d"), (99, 3, 9))
-    v.add("X16 X22", trial("A.b.c.d"), (99, 2, 9))
+    v.add("X16 X22", trial("A.b.c.d"), (99, 3, 3 * D))
+    v.add("X16 X22", trial("A.b.c.d"), (99, 2, 3 * D))
 
 
 def orders(v):
@@ -564,8 +591,8 @@ def orders(v):
     top = "keyof " * 255 + "A"
     v.add("X17", "A<" + "A," * 4095 + top + ">", WIDE)                      # 7 and 6
     for room in (255, 256, 257):
-        v.add("X17", "keyof " + top, (4 * room, 9, 9))                      # 6 and 8
-    for lent in ((0, 9, 0), (0, 9, 3), (4, 9, 0), (4, 0, 3), (0, 0, 0), (4, 0, 0), (4, 1, 3)):
+        v.add("X17", "keyof " + top, (4 * room, 9, 3 * D))                  # 6 and 8
+    for lent in ((0, 9, 0), (0, 9, D), (4, 9, 0), (4, 0, D), (0, 0, 0), (4, 0, 0), (4, 1, D)):
         v.add("X17", "A<>", lent)                                           # 9, 8, 11
         v.add("X17", "(a = b) => c", lent)                                  # 8 before 4
         v.add("X17 N4", "new (this) => A", lent)
@@ -634,7 +661,7 @@ def taken(v):
 def stored():
     v = Vectors()
     for part in (rows, by_example, by_kind, mapped, elements, deep, high, long, short_of_room, many_notes, in_a_trial, orders, bad_lists, bad_words,
-                 generated, object_rows, object_texts, place_rows, reserved_rows, short_of_key, taken):
+                 generated, object_rows, object_texts, place_rows, reserved_rows, both_rows, short_of_key, taken):
         part(v)
     missing = set(ITEMS) - set(i for c in v for i in c[0].split())
     assert not missing, missing
