@@ -232,12 +232,12 @@ fn judged(
     got: &[u64; 11],
     nodes: &mut [u64; 838860],
     names: &mut [u64; 16385],
-    notes: &[u64; 128],
+    notes: &[u64; 212],
     key: &[u8; 262146],
     letters: &mut [u8; 131072],
     again: &mut [u8; 262146],
 ) -> After
-    requires { ⌜ (at < 65536) × (a .nodes ≤ 838860) × (a .names ≤ 16385) × (a .notes ≤ 128) × (a .key ≤ 262146) × (a .letters ≤ 131072) ⌝ }
+    requires { ⌜ (at < 65536) × (a .nodes ≤ 838860) × (a .names ≤ 16385) × (a .notes ≤ 212) × (a .key ≤ 262146) × (a .letters ≤ 131072) ⌝ }
     ensures { λ r. ⌜ (r .at < 65536) × (r .different ≤ 1) ⌝ }
 {
     let t = beside(out, at, run, head, a, got, nodes, names, notes, key, a.key);
@@ -259,12 +259,12 @@ fn reads(
     words: &[u64; 16385],
     nodes: &mut [u64; 838860],
     names: &mut [u64; 16385],
-    notes: &mut [u64; 128],
+    notes: &mut [u64; 212],
     key: &mut [u8; 262146],
     letters: &mut [u8; 131072],
     again: &mut [u8; 262146],
 ) -> After
-    requires { ⌜ (at < 65536) × (a .text ≤ 65536) × (a .words ≤ 16385) × (a .nodes ≤ 838860) × (a .names ≤ 16385) × (a .notes ≤ 128) × (a .key ≤ 262146) × (a .letters ≤ 131072) ⌝ }
+    requires { ⌜ (at < 65536) × (a .text ≤ 65536) × (a .words ≤ 16385) × (a .nodes ≤ 838860) × (a .names ≤ 16385) × (a .notes ≤ 212) × (a .key ≤ 262146) × (a .letters ≤ 131072) ⌝ }
     ensures { λ r. ⌜ (r .at < 65536) × (r .different ≤ 1) ⌝ }
 {
     let got = read_by(a, text, words, nodes, names, notes, key);
@@ -293,11 +293,11 @@ fn takes(
     a: Asked,
     nodes: &mut [u64; 838860],
     names: &mut [u64; 16385],
-    notes: &[u64; 128],
+    notes: &[u64; 212],
     key: &[u8; 262146],
     letters: &mut [u8; 131072],
 ) -> After
-    requires { ⌜ (at < 65536) × (a .nodes ≤ 838860) × (a .names ≤ 16385) × (a .notes ≤ 128) × (a .key ≤ 262146) × (a .letters ≤ 131072) ⌝ }
+    requires { ⌜ (at < 65536) × (a .nodes ≤ 838860) × (a .names ≤ 16385) × (a .notes ≤ 212) × (a .key ≤ 262146) × (a .letters ≤ 131072) ⌝ }
     ensures { λ r. ⌜ (r .at < 65536) × (r .different ≤ 1) ⌝ }
 {
     let got = taken_by(a, key, nodes, names, letters);
@@ -327,12 +327,12 @@ fn called(
     words: &[u64; 16385],
     nodes: &mut [u64; 838860],
     names: &mut [u64; 16385],
-    notes: &mut [u64; 128],
+    notes: &mut [u64; 212],
     key: &mut [u8; 262146],
     letters: &mut [u8; 131072],
     again: &mut [u8; 262146],
 ) -> After
-    requires { ⌜ (at < 65536) × (a .text ≤ 65536) × (a .words ≤ 16385) × (a .nodes ≤ 838860) × (a .names ≤ 16385) × (a .notes ≤ 128) × (a .key ≤ 262146) × (a .letters ≤ 131072) ⌝ }
+    requires { ⌜ (at < 65536) × (a .text ≤ 65536) × (a .words ≤ 16385) × (a .nodes ≤ 838860) × (a .names ≤ 16385) × (a .notes ≤ 212) × (a .key ≤ 262146) × (a .letters ≤ 131072) ⌝ }
     ensures { λ r. ⌜ (r .at < 65536) × (r .different ≤ 1) ⌝ }
 {
     if a.op < 4 {
@@ -431,7 +431,7 @@ fn taken(
     words: &mut [u64; 16385],
     nodes: &mut [u64; 838860],
     names: &mut [u64; 16385],
-    notes: &mut [u64; 128],
+    notes: &mut [u64; 212],
     key: &mut [u8; 262146],
     letters: &mut [u8; 131072],
     again: &mut [u8; 262146],
@@ -470,7 +470,7 @@ fn turn(
     words: &mut [u64; 16385],
     nodes: &mut [u64; 838860],
     names: &mut [u64; 16385],
-    notes: &mut [u64; 128],
+    notes: &mut [u64; 212],
     key: &mut [u8; 262146],
     letters: &mut [u8; 131072],
     again: &mut [u8; 262146],
@@ -519,7 +519,7 @@ fn records(
     words: &mut [u64; 16385],
     nodes: &mut [u64; 838860],
     names: &mut [u64; 16385],
-    notes: &mut [u64; 128],
+    notes: &mut [u64; 212],
     key: &mut [u8; 262146],
     letters: &mut [u8; 131072],
     again: &mut [u8; 262146],

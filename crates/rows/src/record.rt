@@ -6,10 +6,10 @@ use lines::record::four;
 use lines::record::least;
 
 // Words for ten diagnostics more than there may be, and two words.
-pub fn note_room() -> [u64; 128]
-    ensures { λ r. ⌜ 128 ≡ length r ⌝ }
+pub fn note_room() -> [u64; 212]
+    ensures { λ r. ⌜ 212 ≡ length r ⌝ }
 {
-    [0; 128]
+    [0; 212]
 }
 
 // What a record asks for: its call and options, the start, and the lengths of all that is lent.
@@ -27,7 +27,7 @@ pub struct Asked {
 
 // The head's first byte and eight numbers.
 pub fn asked_by(head: &[u8; 77]) -> Asked
-    ensures { λ r. ⌜ (r .text ≤ 65536) × (r .words ≤ 16385) × (r .nodes ≤ 838860) × (r .names ≤ 16385) × (r .notes ≤ 128) × (r .key ≤ 262146) × (r .letters ≤ 131072) ⌝ }
+    ensures { λ r. ⌜ (r .text ≤ 65536) × (r .words ≤ 16385) × (r .nodes ≤ 838860) × (r .names ≤ 16385) × (r .notes ≤ 212) × (r .key ≤ 262146) × (r .letters ≤ 131072) ⌝ }
 {
     Asked {
         op: head[0],
@@ -36,7 +36,7 @@ pub fn asked_by(head: &[u8; 77]) -> Asked
         words: least(four(head, 9), 16385),
         nodes: least(four(head, 13), 838860),
         names: least(four(head, 17), 16385),
-        notes: least(four(head, 21), 128),
+        notes: least(four(head, 21), 212),
         key: least(four(head, 25), 262146),
         letters: least(four(head, 29), 131072),
     }
