@@ -91,7 +91,7 @@ void typekey_differ(const uint8_t *left, uint64_t left_len, const uint8_t *right
    bytes in either key. */
 #define TYPEKEY_READ_NODE_WORDS(token_count) (4 * (uint64_t)(token_count))
 #define TYPEKEY_READ_NAME_WORDS(token_count) ((uint64_t)(token_count))
-#define TYPEKEY_READ_NOTE_WORDS (3 * TYPEKEY_MOST_NOTES)
+#define TYPEKEY_READ_NOTE_WORDS (5 * TYPEKEY_MOST_NOTES)
 #define TYPEKEY_READ_KEY_BYTES(text_len, token_count) ((uint64_t)(text_len) + 12 * (uint64_t)(token_count) + 16)
 #define TYPEKEY_BACK_NODE_WORDS(key_len) (4 * ((uint64_t)(key_len) + (uint64_t)(key_len) / 3 + 1))
 #define TYPEKEY_BACK_NAME_WORDS(key_len) ((uint64_t)(key_len) / 3 + 1)
@@ -175,7 +175,15 @@ static inline uint64_t typekey_token(uint64_t kind, int line_break_before, uint6
 #define TYPEKEY_WORD_CONST 106
 #define TYPEKEY_OTHER_RESERVED 107  /* any other reserved word */
 
-/* ---- Notes: diagnostics, three words each: number, first byte, end byte. The tree is read all the same. ---- */
+/* ---- Notes: diagnostics, five words each ----
+   Number; first byte, end byte; first byte and end byte of a second place, 0 and 0 where there is none. The tree is read all the same.
+   Only TYPEKEY_NOTE_REQUIRED_AFTER has a second place: the latest optional element before the required one. */
+static inline uint64_t typekey_note_number(const uint64_t *notes, uint64_t i) { return notes[5 * i]; }
+static inline uint64_t typekey_note_first(const uint64_t *notes, uint64_t i) { return notes[5 * i + 1]; }
+static inline uint64_t typekey_note_end(const uint64_t *notes, uint64_t i) { return notes[5 * i + 2]; }
+static inline uint64_t typekey_note_other_first(const uint64_t *notes, uint64_t i) { return notes[5 * i + 3]; }
+static inline uint64_t typekey_note_other_end(const uint64_t *notes, uint64_t i) { return notes[5 * i + 4]; } /* 0: no second place */
+
 #define TYPEKEY_NOTE_NO_TYPE_PARAMETERS 1   /* <>() => A */
 #define TYPEKEY_NOTE_NO_ARGUMENTS 2         /* A<> */
 #define TYPEKEY_NOTE_CONSTRUCTOR_THIS 3     /* new (this: A) => B, { new (this: A): B } */

@@ -1,5 +1,6 @@
 #!/usr/bin/env python3
-"""check_header.py: holds the numbers of include/typekey.h against docs/SCOPE.md (refusals, limits, tags, sorts, diagnostics) and tools/model.py (kinds, keywords)."""
+"""check_header.py: holds the numbers of include/typekey.h against docs/SCOPE.md (refusals, limits, tags, sorts, diagnostics) and tools/model.py (kinds, keywords,
+words of a record)."""
 import os
 import re
 import sys
@@ -38,11 +39,13 @@ def main():
     notes = re.findall(r"^\| (\d+) \|", SCOPE.split("## Diagnostics")[1].split("##")[0], re.M)
     for k in map(int, notes):
         if [v for n, (v, _) in MACROS.items() if n.startswith("NOTE_")].count(k) != 1: wrong.append(("NOTE_.. of diagnostic %d" % k, "one", "none or several"))
+    record = int(re.search(r"#define TYPEKEY_READ_NOTE_WORDS \((\d+) \* TYPEKEY_MOST_NOTES\)", HEADER)[1])
+    if record != m.RECORD: wrong.append(("READ_NOTE_WORDS", "%d a diagnostic" % m.RECORD, record))
     marks = {v: c for v, c in MACROS.values() if 16 <= v <= 40}
     for s, k in m.FIXED.items():
         if not s.isalpha() and not any(v == k and c == s for v, c in MACROS.values()): wrong.append((s, k, marks.get(k)))
     for w in wrong: print("typekey.h: %s is to be %s, and the header has %s" % w)
-    print("%d numbers of typekey.h, %d wrong" % (len(list(expected())) + len(notes) + sum(not s.isalpha() for s in m.FIXED), len(wrong)))
+    print("%d numbers of typekey.h, %d wrong" % (len(list(expected())) + len(notes) + 1 + sum(not s.isalpha() for s in m.FIXED), len(wrong)))
     sys.exit(bool(wrong))
 
 

@@ -23,7 +23,7 @@ static uint64_t key_size;
 /* The text with just enough lent, and what the bits of `none` name with nothing. */
 static void read_without(int none, uint64_t start, uint64_t options) {
     give(&text, TEXT, none & 1 ? 0 : 9), give(&tokens, TOKENS, none & 2 ? 0 : 6);
-    lend(&nodes, none & 4 ? 0 : 20), lend(&names, none & 8 ? 0 : 3), lend(&notes, none & 16 ? 0 : 96), lend(&key, none & 32 ? 0 : key_size ? key_size : 64);
+    lend(&nodes, none & 4 ? 0 : 20), lend(&names, none & 8 ? 0 : 3), lend(&notes, none & 16 ? 0 : TYPEKEY_READ_NOTE_WORDS), lend(&key, none & 32 ? 0 : key_size ? key_size : 64);
     read_lent(start, options);
 }
 static void take_without(int none) {
@@ -69,6 +69,21 @@ static void starts_and_options(void) {
             read_lent(0, others[i] | parens);
             EXPECT("the bits of options that say nothing", 0, 1 + parens, 1, 0, answer[4], 3);
         }
+}
+
+/* Words for diagnostics: a record is five, and words left over are 0. */
+static void records(void) {
+    const char *const said = "[A?, B, C]";
+    const uint64_t listed[] = {typekey_token(TYPEKEY_LEFT_BRACKET, 0, 0, 1), typekey_token(TYPEKEY_WORD, 0, 1, 1), typekey_token(TYPEKEY_QUESTION, 0, 2, 1), typekey_token(TYPEKEY_COMMA, 0, 3, 1),
+                               typekey_token(TYPEKEY_WORD, 0, 5, 1), typekey_token(TYPEKEY_COMMA, 0, 6, 1), typekey_token(TYPEKEY_WORD, 0, 8, 1), typekey_token(TYPEKEY_RIGHT_BRACKET, 0, 9, 1), typekey_token(0, 0, 10, 0)};
+    const uint64_t want[] = {4, 5, 6, 1, 3, 4, 8, 9, 1, 3};
+    for (uint64_t n = 0; n <= TYPEKEY_READ_NOTE_WORDS; n++) {
+        give(&text, said, 10), give(&tokens, listed, 9), lend(&nodes, TYPEKEY_READ_NODE_WORDS(9)), lend(&names, 3), lend(&notes, n), lend(&key, 64);
+        read_lent(0, 0);
+        if (n < 5) EXPECT("no record", 9, 5, 0, 6);
+        else if (n < 10) EXPECT("one record", 9, 7, 0, 9);
+        else EXPECT("two records", 0, 5, 3, 2, answer[4], 8), must(memcmp(notes.at, want, sizeof want) == 0, "the words of two records");
+    }
 }
 
 /* Lengths at the limits and over them. */
@@ -198,7 +213,7 @@ int main(void) {
     must(answer[0] == 0, "A | B & C");
     key_size = answer[4];
     memcpy(read_key, key.at, key_size);
-    empty_slices(), starts_and_options(), long_inputs(), differ_rows(), differ_edges();
+    empty_slices(), starts_and_options(), records(), long_inputs(), differ_rows(), differ_edges();
     printf("%u calls at the edges, 0 different\n", run);
     return 0;
 }

@@ -282,7 +282,7 @@ static void record_pair(void) {
 
 /* ---- cases ---- */
 static uint8_t kept_key[TYPEKEY_MOST_KEY + 65540], made[TYPEKEY_MOST_KEY + 65540];
-static uint64_t kept_nodes[4 * MOST], kept_names[MOST], kept_notes[128], kept[8];
+static uint64_t kept_nodes[4 * MOST], kept_names[MOST], kept_notes[212], kept[8];
 
 static int same_answer(const uint64_t *a) { return memcmp(a, answer, 64) == 0; }
 static int same(const Slice *s, const void *a, uint64_t used) { return used == 0 || memcmp(s->at, a, used * s->width) == 0; }
@@ -379,7 +379,7 @@ static void lend_for_read(int by_need) {
         int all = one_in(4);
         if (all || one_in(2)) a = one_in(9) ? 0 : below(a + 2);
         if (all || one_in(3)) b = one_in(9) ? 0 : below(b + 2);
-        if (all || one_in(3)) c = one_in(9) ? 0 : below(129);
+        if (all || one_in(3)) c = one_in(9) ? 0 : below(213);
         if (all || one_in(3)) d = one_in(9) ? 0 : below(d + 2);
     }
     lend(&nodes, a), lend(&names, b), lend(&notes, c), lend(&key, d);
@@ -419,8 +419,7 @@ static void a_read(int sampled) {
     if (kept[0] == 0) {
         memcpy(kept_nodes, nodes.at, 32 * kept[1]), memcpy(kept_key, key.at, kept[4]);
         if (kept[2]) memcpy(kept_names, names.at, 8 * kept[2]);
-        if (kept[3]) memcpy(kept_notes, notes.at, 24 * kept[3]);
-        for (uint64_t i = 0; i < kept[3]; i++) must(kept_notes[3 * i] - 1 < TYPEKEY_NOTE_RESERVED_NAME && kept_notes[3 * i + 1] < kept_notes[3 * i + 2] && kept_notes[3 * i + 2] <= laid_len, "a note");
+        if (kept[3]) memcpy(kept_notes, notes.at, 40 * kept[3]);
         must(key_of_tree(kept_nodes, kept[1], kept_names, kept[2], text.at, text.count, 1, made) == kept[4] && memcmp(made, kept_key, kept[4]) == 0, "a reading's key is not its tree's");
     }
     /* again, with the bits of options that say nothing as others */
@@ -428,7 +427,7 @@ static void a_read(int sampled) {
     read_lent(start, (chance() & ~(uint64_t)1) | (options & 1));
     must(same_answer(kept), "two readings of one text differ");
     if (kept[0]) return;
-    must(same(&nodes, kept_nodes, 4 * kept[1]) && same(&names, kept_names, kept[2]) && same(&notes, kept_notes, 3 * kept[3]) && same(&key, kept_key, kept[4]), "two readings of one text leave different things");
+    must(same(&nodes, kept_nodes, 4 * kept[1]) && same(&names, kept_names, kept[2]) && same(&notes, kept_notes, 5 * kept[3]) && same(&key, kept_key, kept[4]), "two readings of one text leave different things");
     if (one_in(8)) {
         int few = (int)below(2);
         if (few == 0 || kept[2]) {

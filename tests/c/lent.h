@@ -79,7 +79,7 @@ static void make_slices(void) {
     tokens = slice_of(TYPEKEY_MOST_TOKENS + 1, 8);
     nodes = slice_of(TYPEKEY_BACK_NODE_WORDS(TYPEKEY_MOST_KEY + 2), 8);
     names = slice_of(TYPEKEY_BACK_NAME_WORDS(TYPEKEY_MOST_KEY + 2), 8);
-    notes = slice_of(128, 8);
+    notes = slice_of(212, 8);
     key = slice_of(TYPEKEY_MOST_KEY + 2 + 65536, 1);
     letters = slice_of(TYPEKEY_MOST_KEY + 2, 1);
     other = slice_of(TYPEKEY_MOST_KEY + 2, 1);
@@ -92,6 +92,15 @@ static void watch_answer(int from) {
     for (int i = from; i < 8; i++) must(answer[i] == 0, "a word of the answer is not 0");
 }
 
+/* What holds for any diagnostic: its bytes are of the text, and those of a second place stand before them. */
+static void note_lent(uint64_t i) {
+    const uint64_t *n = words(&notes), first = typekey_note_first(n, i), end = typekey_note_end(n, i);
+    const uint64_t other_first = typekey_note_other_first(n, i), other_end = typekey_note_other_end(n, i);
+    must(typekey_note_number(n, i) - 1 < TYPEKEY_NOTE_RESERVED_NAME && first < end && end <= text.count, "a note");
+    if (typekey_note_number(n, i) == TYPEKEY_NOTE_REQUIRED_AFTER) must(0 < other_first && other_first < other_end && other_end < first, "the second place of a note");
+    else must(other_first == 0 && other_end == 0, "a second place of a note that has none");
+}
+
 /* Reads what text and tokens hold into what is lent; says of the answer all that holds for any. */
 static void read_lent(uint64_t start, uint64_t options) {
     dirty_answer();
@@ -102,7 +111,8 @@ static void read_lent(uint64_t start, uint64_t options) {
         watch_answer(7);
         zero_from(&nodes, 4 * answer[1], "nodes past the last are not 0");
         zero_from(&names, answer[2], "names past the last are not 0");
-        zero_from(&notes, 3 * answer[3], "notes past the last are not 0");
+        zero_from(&notes, 5 * answer[3], "notes past the last are not 0");
+        for (uint64_t i = 0; i < answer[3]; i++) note_lent(i);
         zero_from(&key, answer[4], "bytes past the key are not 0");
         must(answer[1] > 0 && answer[4] > 0 && answer[5] > start && answer[5] < tokens.count && answer[6] == 0, "counts or end of a reading");
         return;

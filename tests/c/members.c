@@ -1,4 +1,4 @@
-/* members: object types by example, shown by what typekey.h says of nodes and members: each sort of member, diagnostics 8 to 13 and 3, and
+/* members: object types by example, shown by what typekey.h says of nodes and members: each sort of member, diagnostics 8 to 13, 3 and 4, and
    what is refused, with a row for each form that is not read. The types in a member are shown as they stand in the text. */
 #include "lent.h"
 
@@ -77,9 +77,11 @@ static void show(void) {
         say_member(k);
     }
     for (uint64_t i = 0; i < answer[3]; i++) {
-        const uint64_t *r = words(&notes) + 3 * i;
-        snprintf(number, sizeof number, "| %d on %d to %d", (int)r[0], (int)r[1], (int)r[2]);
+        const uint64_t *r = words(&notes);
+        snprintf(number, sizeof number, "| %d on %d to %d", (int)typekey_note_number(r, i), (int)typekey_note_first(r, i), (int)typekey_note_end(r, i));
         say_word(number);
+        snprintf(number, sizeof number, "and %d to %d", (int)typekey_note_other_first(r, i), (int)typekey_note_other_end(r, i));
+        if (typekey_note_other_end(r, i)) say_word(number);
     }
 }
 
@@ -99,6 +101,7 @@ static const char *const ROWS[][2] = {
     {"{ readonly [a?: boolean,]: C }", "index readonly a type boolean type C | 8 on 13 to 14 | 9 on 23 to 24 | 11 on 12 to 23"},
     {"{ [a: 'x']: A }", "index a type 'x' type A | 10 on 6 to 9"},
     {"{ a: { b: B } }", "property a type { b: B }"},
+    {"{ a: [A?, [B?, C], D] }", "property a type [A?, [B?, C], D] | 4 on 15 to 16 and 11 to 13 | 4 on 10 to 17 and 6 to 8 | 4 on 19 to 20 and 6 to 8"},
     {"{ m<bigint>(string): A }", "method m type parameter bigint parameter string type A | 13 on 4 to 10"},
     {"{ a: B extends infer string ? C : D }", "property a type B extends infer string ? C : D | 13 on 21 to 27"},
     {"{ a b: A }", "3 at 2, half 0, byte 4"},

@@ -24,7 +24,7 @@ int main(int argc, char **argv) {
         if (h[0] < 4) {
             p += 77 + a[1] + 8 * a[2];
             if (p > size) return printf("cut\n"), 1;
-            give(&text, rest, a[1]), give(&tokens, rest + a[1], a[2]), lend(&notes, least(a[5], 128)), lend(&key, least(a[6], 262146));
+            give(&text, rest, a[1]), give(&tokens, rest + a[1], a[2]), lend(&notes, least(a[5], 212)), lend(&key, least(a[6], 262146));
             read_lent(a[0], h[0] & 1);
             must(a[1] == 0 || memcmp(text.at, rest, a[1]) == 0, "the text was written");
             must(a[2] == 0 || memcmp(tokens.at, rest + a[1], 8 * a[2]) == 0, "the tokens were written");
