@@ -21,7 +21,8 @@ test('twelve rows', () => {
   assert.equal(tree('T extends infer U extends number ? X : Y'), 'conditional(reference T, infer U(keyword number), reference X, reference Y)');
   assert.equal(tree('(infer U extends number ? X : Y)'), 'conditional(infer U, keyword number, reference X, reference Y)');
   assert.deepEqual(read('[A?, ...B[]]').diagnostics, []);
-  assert.deepEqual(read('[a?: A, B]').diagnostics.map((d) => [d.number, d.name, d.first, d.end]), [[4, 'RequiredAfterOptional', 8, 9]]);
+  assert.deepEqual(read('[a?: A, B]').diagnostics.map((d) => [d.number, d.name, d.first, d.end, d.other]), [[4, 'RequiredAfterOptional', 8, 9, { first: 1, end: 6 }]]);
+  assert.deepEqual(read('[A?, b: ...B, C?, ...D, E]').diagnostics.map((d) => [d.number, d.first, d.other]), [[5, 8, null], [4, 5, { first: 1, end: 3 }], [4, 24, { first: 14, end: 16 }]]);
   assert.equal(tree('A<<T>() => T>'), 'reference A(function(type parameter T, reference T))');
   assert.equal(tree('A\n[B]'), 'reference A');
   assert.deepEqual(read('A\n[B]').end, { token: 1, half: 0 });

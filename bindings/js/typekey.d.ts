@@ -93,6 +93,8 @@ export interface Diagnostic {
   /** Bytes of the text. */
   first: number;
   end: number;
+  /** A second place: of RequiredAfterOptional the latest optional element before the required one. Others have none. */
+  other: { first: number; end: number } | null;
   sentence: string;
 }
 

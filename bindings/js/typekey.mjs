@@ -253,7 +253,7 @@ export class TypeKey {
     const bytes = bytesOf(text), words = tokens instanceof BigUint64Array ? tokens : BigUint64Array.from(tokens);
     if (!Number.isSafeInteger(start) || start < 0) throw new TypeError(`start is an index of a token, not ${start}`);
     const sound = bytes.length <= LIMITS.text && words.length <= LIMITS.tokens, n = words.length;
-    const room = sound ? { nodes: 4 * (n + 4), names: n, notes: 96, key: bytes.length + 12 * n + 16 } : { nodes: 0, names: 0, notes: 0, key: 0 };
+    const room = sound ? { nodes: 4 * (n + 4), names: n, notes: 160, key: bytes.length + 12 * n + 16 } : { nodes: 0, names: 0, notes: 0, key: 0 };
     const left = this.#read(bytes, words, start, preserveParens ? 1 : 0, room), [number, ...rest] = left.answer;
     if (number) {
       const [token, half, byte] = rest;
@@ -264,7 +264,7 @@ export class TypeKey {
       ok: true,
       key: left.key.slice(0, key),
       tree: new Tree(bytes.slice(), left.nodes.slice(0, 8 * nodes), left.names.slice(0, 2 * names)),
-      diagnostics: Array.from({ length: notes }, (_, i) => diagnostic(left.notes, 6 * i, bytes)),
+      diagnostics: Array.from({ length: notes }, (_, i) => diagnostic(left.notes, 10 * i, bytes)),
       end: { token, half },
     };
   }
@@ -353,9 +353,11 @@ export class TypeKey {
 
 const copied = (left) => Object.fromEntries(Object.entries(left).map(([part, x]) => [part, x.slice()]));
 
+// From the five words of a record, two halves each. An end of 0 is no second place.
 function diagnostic(notes, at, text) {
   const number = notes[at], first = notes[at + 2], end = notes[at + 4], [name, said] = DIAGNOSTICS[number];
-  return { number, name, first, end, sentence: typeof said === 'string' ? said : said(utf8.decode(text.subarray(first, end))) };
+  const other = notes[at + 8] ? { first: notes[at + 6], end: notes[at + 8] } : null;
+  return { number, name, first, end, other, sentence: typeof said === 'string' ? said : said(utf8.decode(text.subarray(first, end))) };
 }
 
 // What is left of a token, from its word and the half that is used up, cut short where it is long; nothing at the end.

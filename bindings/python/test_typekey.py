@@ -63,11 +63,14 @@ class Rows(unittest.TestCase):
         for text, tree in self.READINGS.items():
             r = read(text)
             _, _, notes, end, key, _ = model.read(text.encode(), model.cut(text), 0, False)
-            self.assertEqual((shown(r.tree.root), [tuple(n) for n in r.notes], tuple(r.end), r.key), (tree, notes, end, key), text)
+            self.assertEqual((shown(r.tree.root), [n[:3] + (n.other or (0, 0)) for n in r.notes], tuple(r.end), r.key), (tree, notes, end, key), text)
             self.assertEqual(shown(typekey.take_back(r.key).root), tree, text)
         self.assertEqual(read("A").key.hex(), "104004000504")
         self.assertEqual(read("string[]").key.hex(), "11c270")
-        self.assertEqual(read("[a?: A, B]").notes, [Note(Diagnostic.RequiredAfter, 8, 9)])
+        self.assertEqual(read("[a?: A, B]").notes, [Note(Diagnostic.RequiredAfter, 8, 9, (1, 6))])
+        self.assertEqual(str(read("[a?: A, B]").notes[0]),
+                         "diagnostic 4 (RequiredAfter): a required element after an optional one, at bytes 8 to 9; the optional one is at bytes 1 to 6")
+        self.assertEqual([tuple(n) for n in read("[A?, b: ...B, C?, ...D, E]").notes], [(5, 8, 12, None), (4, 5, 12, (1, 3)), (4, 24, 25, (14, 16))])
         self.assertEqual(str(read("new (this: A) => B").notes[0]), "diagnostic 3 (ConstructorThis): `this` on a constructor, at bytes 5 to 12")
         with self.assertRaises(Refused) as x: read("T extends U ? : V")
         self.assertEqual((x.exception.why, x.exception.number, x.exception.token, x.exception.half, x.exception.byte), (Why.Unexpected, 3, 4, 0, 14))
@@ -101,7 +104,7 @@ class Members(unittest.TestCase):
     def test_rows(self):
         for text, (tree, *notes) in self.READINGS.items():
             r = read(text)
-            self.assertEqual((shown(r.tree.root), [tuple(n) for n in r.notes]), (tree, notes), text)
+            self.assertEqual((shown(r.tree.root), [tuple(n) for n in r.notes]), (tree, [(*n, None) for n in notes]), text)
             self.assertEqual(r.key, model.read(text.encode(), model.cut(text), 0, False)[4], text)
             self.assertEqual(shown(typekey.take_back(r.key).root), tree, text)
         self.assertEqual(read("{ a: A }").key.hex(" "), "16 40 04 00 00 16 14 10 01 00 01 41 00")

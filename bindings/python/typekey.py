@@ -138,13 +138,24 @@ _DIAGNOSTICS = ("type parameters with none between the brackets", "arguments wit
 
 
 class Note(NamedTuple):
-    """A diagnostic and the bytes of the text that it is about. As text it is a sentence."""
+    """A diagnostic and the bytes of the text that it is about. As text it is a sentence.
+
+    other is a second place, its first byte and its end byte: of RequiredAfter the latest optional element before the required
+    one. Other diagnostics have none.
+    """
     what: Diagnostic
     first: int
     end: int
+    other: Optional[Tuple[int, int]] = None
 
     def __str__(self) -> str:
-        return "diagnostic %d (%s): %s, at bytes %d to %d" % (self.what, self.what.name, _DIAGNOSTICS[self.what - 1], self.first, self.end)
+        also = "; the optional one is at bytes %d to %d" % self.other if self.other else ""
+        return "diagnostic %d (%s): %s, at bytes %d to %d%s" % (self.what, self.what.name, _DIAGNOSTICS[self.what - 1], self.first, self.end, also)
+
+
+# From the five words of a record. An end of 0 is no second place.
+def _note(number: int, first: int, end: int, other_first: int, other_end: int) -> Note:
+    return Note(Diagnostic(number), first, end, (other_first, other_end) if other_end else None)
 
 
 class End(NamedTuple):
@@ -329,7 +340,7 @@ class Tree:
 # ---- the calls
 
 class Buffers:
-    """Memory that a call writes into: words for nodes (4 each), names (1 each) and diagnostics (3 each), and bytes for the key,
+    """Memory that a call writes into: words for nodes (4 each), names (1 each) and diagnostics (5 each), and bytes for the key,
     or for the letters of a key that is taken back. Buffers can be lent again."""
     def __init__(self, nodes: int, names: int, notes: int, letters: int):
         self.nodes, self.names, self.notes = ((ctypes.c_uint64 * n)() for n in (nodes, names, notes))
@@ -339,7 +350,7 @@ class Buffers:
     def to_read(cls, text: int, tokens: int) -> Buffers:
         """Enough to read a text of so many bytes and tokens. More than the limits is never needed: that is refused."""
         text, tokens = min(text, 65535), min(tokens, 16384)
-        return cls(4 * (tokens + 4), tokens, 96, min(text + 12 * tokens + 16, 262144))
+        return cls(4 * (tokens + 4), tokens, 160, min(text + 12 * tokens + 16, 262144))
 
     @classmethod
     def to_take_back(cls, key: int) -> Buffers:
@@ -368,9 +379,9 @@ def read(text: bytes, tokens: Iterable[int], *, start: int = 0, preserve_parens:
                           b.nodes, len(b.nodes), b.names, len(b.names), b.notes, len(b.notes), b.letters, len(b.letters), answer)
     refused, nodes, names, notes, key, token_, half, _ = answer
     if refused: raise Refused(*answer[:4])
-    said = b.notes[:3 * notes]
+    said = b.notes[:5 * notes]
     return Reading(Tree(text, b.nodes[:4 * nodes], b.names[:names]), bytes(b.letters[:key]),
-                   [Note(Diagnostic(said[i]), said[i + 1], said[i + 2]) for i in range(0, 3 * notes, 3)], End(token_, half))
+                   [_note(*said[i:i + 5]) for i in range(0, 5 * notes, 5)], End(token_, half))
 
 
 def take_back(key: bytes, *, buffers: Optional[Buffers] = None) -> Tree:

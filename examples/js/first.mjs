@@ -14,7 +14,9 @@ console.log(`${text}\nkey: ${toHex(answer.key)}`);
 for (const { depth, tag, choices, spellings, first, end } of answer.tree) {
   console.log(`${'  '.repeat(depth)}${[tag, choices.word, ...spellings].filter(Boolean).join(' ')}  (${first} to ${end})`);
 }
-for (const { number, first, end, sentence } of answer.diagnostics) console.log(`diagnostic ${number} on bytes ${first} to ${end}: ${sentence}`);
+for (const { number, first, end, other, sentence } of answer.diagnostics) {
+  console.log(`diagnostic ${number} on bytes ${first} to ${end}${other ? ` and ${other.first} to ${other.end}` : ''}: ${sentence}`);
+}
 
 // Two types have one key exactly if they are one type. Where a type stands in its text and how it is spaced make no difference.
 const same = (a, b) => toHex(keys.read(a, cut(a)).key) === toHex(keys.read(b, cut(b)).key);

@@ -104,7 +104,7 @@ pub struct Need {
     pub nodes: usize,
     /// Words for names, one for each.
     pub names: usize,
-    /// Words for diagnostics, three for each.
+    /// Words for diagnostics, five for each.
     pub notes: usize,
     /// Bytes for the key, or for the letters of a key that is taken back.
     pub bytes: usize,
@@ -115,7 +115,7 @@ impl Need {
     pub const fn to_read(text: usize, tokens: usize) -> Need {
         let text = least(text, 65_535);
         let tokens = least(tokens, 16_384);
-        Need { nodes: 4 * (tokens + 4), names: tokens, notes: 96, bytes: least(text + 12 * tokens + 16, 262_144) }
+        Need { nodes: 4 * (tokens + 4), names: tokens, notes: 160, bytes: least(text + 12 * tokens + 16, 262_144) }
     }
 
     /// Enough to take back a key of so many bytes: a node has 6 bits at least, or 5 and a type of 9 or more, a name 24.
@@ -197,7 +197,7 @@ pub struct Reading<'a> {
 impl<'a> Reading<'a> {
     /// What was reported of the type, in the order in which it was met.
     pub fn notes(&self) -> impl ExactSizeIterator<Item = Note> + use<'a> {
-        self.notes.chunks_exact(3).map(|n| Note { what: Diagnostic::of(n[0]), span: n[1] as usize..n[2] as usize })
+        self.notes.chunks_exact(5).map(Note::of)
     }
 }
 
@@ -281,7 +281,7 @@ pub fn read_into<'a>(text: &'a [u8], tokens: &[u64], options: Options, lent: Len
         return Err(Refusal { why: Why::of(refused), place: Place::Token { token: a, half: b == 1, byte: c } });
     }
     let tree = Tree::new(text, &nodes[..4 * a], &names[..b]);
-    Ok(Reading { tree, key: &bytes[..key], end: End { token, half: half == 1 }, notes: &notes[..3 * c] })
+    Ok(Reading { tree, key: &bytes[..key], end: End { token, half: half == 1 }, notes: &notes[..5 * c] })
 }
 
 /// Takes a key back, in slices that are lent. Spans of the tree are all `0..0`.

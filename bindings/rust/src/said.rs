@@ -244,11 +244,28 @@ pub struct Note {
     pub what: Diagnostic,
     /// Of which bytes of the text.
     pub span: Range<usize>,
+    /// A second place that it is about: of `RequiredAfter` the latest optional element before the required one. Others
+    /// have none.
+    pub other: Option<Range<usize>>,
+}
+
+impl Note {
+    // From the five words of a record. An end of 0 is no second place.
+    pub(crate) fn of(record: &[u64]) -> Note {
+        let span = |i: usize| record[i] as usize..record[i + 1] as usize;
+        let other = Some(span(3)).filter(|other| other.end != 0);
+        Note { what: Diagnostic::of(record[0]), span: span(1), other }
+    }
 }
 
 impl fmt::Display for Note {
     fn fmt(&self, f: &mut fmt::Formatter) -> fmt::Result {
-        let Note { what, span } = self;
-        write!(f, "diagnostic {} ({what:?}): {}, at bytes {} to {}", what.number(), what.words(), span.start, span.end)
+        let Note { what, span, other } = self;
+        let (number, words) = (what.number(), what.words());
+        write!(f, "diagnostic {number} ({what:?}): {words}, at bytes {} to {}", span.start, span.end)?;
+        match other {
+            Some(other) => write!(f, "; the optional one is at bytes {} to {}", other.start, other.end),
+            None => Ok(()),
+        }
     }
 }

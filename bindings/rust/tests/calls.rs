@@ -203,9 +203,13 @@ fn notes_say_what_and_where() {
     let (text, mut buffers) = ("[a?: A, B]", Buffers::default());
     let r = read(text.as_bytes(), &cut(text), Options::default(), &mut buffers).unwrap();
     let notes: Vec<Note> = r.notes().collect();
-    assert_eq!(notes, [Note { what: Diagnostic::RequiredAfter, span: 8..9 }]);
-    let sentence = "diagnostic 4 (RequiredAfter): a required element after an optional one, at bytes 8 to 9";
+    assert_eq!(notes, [Note { what: Diagnostic::RequiredAfter, span: 8..9, other: Some(1..6) }]);
+    let sentence = "diagnostic 4 (RequiredAfter): a required element after an optional one, at bytes 8 to 9; the optional one is at bytes 1 to 6";
     assert_eq!(notes[0].to_string(), sentence);
+    let text = "[A?, b: ...B, C?, ...D, E]";
+    let r = read(text.as_bytes(), &cut(text), Options::default(), &mut buffers).unwrap();
+    let both: Vec<_> = r.notes().map(|n| (n.what.number(), n.span, n.other)).collect();
+    assert_eq!(both, [(5, 8..12, None), (4, 5..12, Some(1..3)), (4, 24..25, Some(14..16))]);
     let text = "{ []: A }";
     let r = read(text.as_bytes(), &cut(text), Options::default(), &mut buffers).unwrap();
     let sentence =

@@ -161,7 +161,7 @@ fn stored_vectors() {
     let file = std::fs::read(path).unwrap_or_else(|e| panic!("{path}: {e}"));
     let (mut rest, mut run, mut different) = (&file[..], 0, 0);
     let mut room = Room {
-        words: [vec![0; 838_860], vec![0; 16_385], vec![0; 128]],
+        words: [vec![0; 838_860], vec![0; 16_385], vec![0; 212]],
         bytes: vec![0; 262_146],
         others: Buffers::default(),
     };
