@@ -102,7 +102,8 @@ def got(line):
     if not o["ok"]:
         r = o["refused"]
         return False, r["number"], r["name"], r["token"], r["half"], r["byte"]
-    notes = [(d["number"], d["first"], d["end"]) for d in o["diagnostics"]]
+    pair = lambda p: (p["first"], p["end"]) if p else (0, 0)        # the second place, or none
+    notes = [(d["number"], d["first"], d["end"]) + pair(d["other"]) for d in o["diagnostics"]]
     return True, o["key"], notes, (o["end"]["token"], o["end"]["half"]), o["tree"]
 
 

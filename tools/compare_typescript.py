@@ -88,7 +88,7 @@ def files(folders):
 def by_program(texts):
     """How many of the texts the program reads otherwise than the model."""
     build()
-    def by_need(t, words): return 4 * len(words) + 16, len(words), 96, len(t) + 12 * len(words) + 16
+    def by_need(t, words): return 4 * len(words) + 16, len(words), m.RECORD * m.NOTES, len(t) + 12 * len(words) + 16
     cases = [('types', t.encode(), w, 0, True, by_need(t, w)) for t in texts for w in [m.cut(t)]]
     different = run('O3', [record(c, expected(c)) for c in cases])
     if different is None: sys.exit('the program failed')

@@ -46,6 +46,7 @@ LINES = model.ROWS + [
     "{ [k?: string]: A }", "{ [k: string,]: A }", "{ [k: 'a']: A }", "{ [k: null]: A }", "{ []: A; [k: B, i: C]: D }",
     "{ new (this: A): B }",
     "<string, T, undefined>(x: string) => string", "(infer any extends A<> ? X : Y)", "{ [string in K]: (any) => B }",
+    "[A?, B?, C, [D?, E], ...F]", "[" + "a" * 70 + "?, B]",         # two places, in one line and in two parts of one
 ]
 
 

@@ -319,7 +319,22 @@ fn note_words(out: &mut [u8; 65536], at: usize, n: Note) -> usize
     numbered(out, s, b",\"end\":", n.end)
 }
 
-// A diagnostic with its place.
+// The second place of a diagnostic, or null.
+fn other(out: &mut [u8; 65536], at: usize, text: &[u8], n: Note, line: usize) -> usize
+    requires { ⌜ at < 65536 ⌝ }
+    ensures { λ r. ⌜ r < 65536 ⌝ }
+{
+    if n.other_end == 0 {
+        return bytes(out, at, b",\"other\":null");
+    }
+    let p = numbered(out, at, b",\"other\":{\"first\":", n.other_first);
+    let q = numbered(out, p, b",\"end\":", n.other_end);
+    let r = byte(out, q, b',');
+    let s = place::json(out, r, place_of(text, n.other_first, line));
+    byte(out, s, b'}')
+}
+
+// A diagnostic with its place, and a second one.
 fn note(out: &mut [u8; 65536], at: usize, text: &[u8], n: Note, line: usize) -> usize
     requires { ⌜ at < 65536 ⌝ }
     ensures { λ r. ⌜ r < 65536 ⌝ }
@@ -327,7 +342,8 @@ fn note(out: &mut [u8; 65536], at: usize, text: &[u8], n: Note, line: usize) -> 
     let p = note_words(out, at, n);
     let q = byte(out, p, b',');
     let r = place::json(out, q, place_of(text, n.first, line));
-    byte(out, r, b'}')
+    let s = other(out, r, text, n, line);
+    byte(out, s, b'}')
 }
 
 // The first n diagnostics.

@@ -110,7 +110,26 @@ fn key_line(
     byte(out, r, b'\n')
 }
 
-// A diagnostic with its source line.
+// The second place of a diagnostic, if it has one.
+fn other(out: &mut [u8; 65536], at: usize, text: &[u8], n: Note) -> usize
+    requires { ⌜ at < 65536 ⌝ }
+    ensures { λ r. ⌜ r < 65536 ⌝ }
+{
+    if n.other_end == 0 {
+        return at;
+    }
+    place::second(
+        out,
+        at,
+        text,
+        n.first,
+        n.other_first,
+        n.other_end,
+        b" the optional one is here",
+    )
+}
+
+// A diagnostic with its source line, and that of its second place.
 fn note(out: &mut [u8; 65536], at: usize, text: &[u8], n: Note, line: usize) -> usize
     requires { ⌜ at < 65536 ⌝ }
     ensures { λ r. ⌜ r < 65536 ⌝ }
@@ -120,7 +139,8 @@ fn note(out: &mut [u8; 65536], at: usize, text: &[u8], n: Note, line: usize) -> 
     let r = place::told(out, q, place_of(text, n.first, line));
     let s = say::hint(out, r, text, n);
     let t = byte(out, s, b'\n');
-    place::source(out, t, text, n.first, n.end)
+    let u = place::source(out, t, text, n.first, n.end);
+    other(out, u, text, n)
 }
 
 // The first n diagnostics.

@@ -102,24 +102,55 @@ fn cut_mark(out: &mut [u8; 65536], at: usize, is_cut: bool, mark: &[u8]) -> usiz
     at
 }
 
-// A source line, or the part of it from one byte up to another.
-fn shown(
-    out: &mut [u8; 65536],
-    at: usize,
-    text: &[u8],
-    start: usize,
-    a: usize,
-    e: usize,
+// The part of a source line that is shown, and the line itself: the first byte and the end of each.
+struct Part {
+    first: usize,
     end: usize,
-) -> usize
+    start: usize,
+    stop: usize,
+}
+
+// The part around a byte.
+fn part_of(text: &[u8], at: usize) -> Part {
+    let start = since(text, at, b'\n');
+    let stop = until(text, at, b'\n');
+    Part {
+        first: aligned(text, from(start, at)),
+        end: aligned(text, to(stop, at)),
+        start,
+        stop,
+    }
+}
+
+// Whether two parts are one.
+fn is_same(a: Part, b: Part) -> bool {
+    if a.first != b.first {
+        return false;
+    }
+    a.end == b.end
+}
+
+// A source line, or the part of it that is shown.
+fn shown(out: &mut [u8; 65536], at: usize, text: &[u8], x: Part) -> usize
     requires { ⌜ at < 65536 ⌝ }
     ensures { λ r. ⌜ r < 65536 ⌝ }
 {
     let p = bytes(out, at, b"  ");
-    let q = cut_mark(out, p, a != start, b"...");
-    let r = copy(out, q, text, a, e, Shape::SOURCE);
-    let s = cut_mark(out, r, e != end, b"...");
+    let q = cut_mark(out, p, x.first != x.start, b"...");
+    let r = copy(out, q, text, x.first, x.end, Shape::SOURCE);
+    let s = cut_mark(out, r, x.end != x.stop, b"...");
     byte(out, s, b'\n')
+}
+
+// The same, unless it stands there already.
+fn shown_new(out: &mut [u8; 65536], at: usize, text: &[u8], old: Part, x: Part) -> usize
+    requires { ⌜ at < 65536 ⌝ }
+    ensures { λ r. ⌜ r < 65536 ⌝ }
+{
+    if is_same(old, x) {
+        return at;
+    }
+    shown(out, at, text, x)
 }
 
 // The caret of a byte at the end of a line.
@@ -133,25 +164,26 @@ fn lone(out: &mut [u8; 65536], at: usize, first: usize, end: usize) -> usize
     byte(out, at, b'^')
 }
 
-// The line under it: carets from a byte up to another, one at least.
+// The line under it: carets from a byte up to another, one at least, and words.
 fn carets(
     out: &mut [u8; 65536],
     at: usize,
     text: &[u8],
-    start: usize,
-    a: usize,
+    x: Part,
     first: usize,
     end: usize,
+    words: &[u8],
 ) -> usize
     requires { ⌜ at < 65536 ⌝ }
     ensures { λ r. ⌜ r < 65536 ⌝ }
 {
     let p = bytes(out, at, b"  ");
-    let q = cut_mark(out, p, a != start, b"   ");
-    let r = copy(out, q, text, a, first, Shape::BEFORE);
+    let q = cut_mark(out, p, x.first != x.start, b"   ");
+    let r = copy(out, q, text, x.first, first, Shape::BEFORE);
     let s = copy(out, r, text, first, end, Shape::CARET);
     let t = lone(out, s, first, end);
-    byte(out, t, b'\n')
+    let u = bytes(out, t, words);
+    byte(out, u, b'\n')
 }
 
 // The source line of a byte, with carets from it up to another byte of the line.
@@ -159,10 +191,25 @@ pub fn source(out: &mut [u8; 65536], at: usize, text: &[u8], first: usize, end: 
     requires { ⌜ at < 65536 ⌝ }
     ensures { λ r. ⌜ r < 65536 ⌝ }
 {
-    let start = since(text, first, b'\n');
-    let stop = until(text, first, b'\n');
-    let a = aligned(text, from(start, first));
-    let e = aligned(text, to(stop, first));
-    let p = shown(out, at, text, start, a, e, stop);
-    carets(out, p, text, start, a, first, least(end, e))
+    let x = part_of(text, first);
+    let p = shown(out, at, text, x);
+    carets(out, p, text, x, first, least(end, x.end), b"")
+}
+
+// Carets and words for a second place, under the source line that was shown of a first one, or under its own.
+pub fn second(
+    out: &mut [u8; 65536],
+    at: usize,
+    text: &[u8],
+    before: usize,
+    first: usize,
+    end: usize,
+    words: &[u8],
+) -> usize
+    requires { ⌜ at < 65536 ⌝ }
+    ensures { λ r. ⌜ r < 65536 ⌝ }
+{
+    let x = part_of(text, first);
+    let p = shown_new(out, at, text, part_of(text, before), x);
+    carets(out, p, text, x, first, least(end, x.end), words)
 }

@@ -31,10 +31,10 @@ pub fn key_room() -> [u8; 262160]
 }
 
 // The words of 32 diagnostics.
-pub fn note_room() -> [u64; 96]
-    ensures { λ r. ⌜ 96 ≡ length r ⌝ }
+pub fn note_room() -> [u64; 160]
+    ensures { λ r. ⌜ 160 ≡ length r ⌝ }
 {
-    [0; 96]
+    [0; 160]
 }
 
 // The words of 4,096 pairs of places.

@@ -47,7 +47,7 @@ fn reads(
     nodes: &mut [u64],
     names: &mut [u64],
     visits: &mut [u64; 393216],
-    notes: &mut [u64; 96],
+    notes: &mut [u64; 160],
     key: &mut [u8],
     job: Job,
 ) -> usize
@@ -100,7 +100,7 @@ fn lent(
     nodes: &mut [u64],
     names: &mut [u64],
     visits: &mut [u64; 393216],
-    notes: &mut [u64; 96],
+    notes: &mut [u64; 160],
     key: &mut [u8],
     job: Job,
 ) -> usize
