@@ -43,8 +43,9 @@ function ofType(keys, text, parens) {
       marks: pointed ? [{ first, end: first + (text.codePointAt(first) > 0xffff ? 2 : 1), class: 'refused' }] : [] };
   }
   const span = ({ first, end }) => ({ first: indexAt(text, first), end: indexAt(text, end) });
-  const messages = r.diagnostics.map((d) => ({ kind: 'note-message', title: `Diagnostic ${d.number}, bytes ${d.first} to ${d.end}`, sentence: d.sentence, span: span(d) }));
-  const marks = messages.map((m) => ({ ...m.span, class: 'noted' }));
+  const messages = r.diagnostics.map((d) => ({ kind: 'note-message', title: `Diagnostic ${d.number}, bytes ${d.first} to ${d.end}`,
+    sentence: d.other ? `${d.sentence} The optional one is at bytes ${d.other.first} to ${d.other.end}.` : d.sentence, span: span(d), other: d.other && span(d.other) }));
+  const marks = messages.flatMap((m) => [{ ...m.span, class: 'noted' }, ...(m.other ? [{ ...m.other, class: 'other' }] : [])]);
   if (r.end.token < tokens.length - 1) {
     const unread = { first: indexAt(text, startOf(r.end.token) + r.end.half), end: indexAt(text, end) };
     marks.push({ ...unread, class: 'unread' });
@@ -141,7 +142,7 @@ class Panel {
     this.point();
   }
 
-  message({ kind, title, sentence, text, at, span }) {
+  message({ kind, title, sentence, text, at, span, other }) {
     const element = make('div', { class: `message ${kind}` }, make('b', {}, title), make('br'), ...worded(sentence));
     if (at !== undefined) {
       const from = Math.max(text.lastIndexOf('\n', at - 1) + 1, at - 30), line = text.slice(from).split('\n')[0].slice(0, at - from + 30);
@@ -149,7 +150,7 @@ class Panel {
       element.append(make('pre', {}, `${line}\n${before}`, make('span', { class: 'caret' }, '^')));
     }
     if (span) {
-      element.addEventListener('pointerover', () => this.paint([{ ...span, class: 'here' }]));
+      element.addEventListener('pointerover', () => this.paint([span, other].filter(Boolean).map((s) => ({ ...s, class: 'here' }))));
       element.addEventListener('pointerleave', () => this.paint());
     }
     return element;

@@ -82,7 +82,13 @@ const checks = {
   async 'diagnostics'() {
     await open('type=%5Ba%3F%3A+A%2C+B%5D%0A%5BC%5D');
     same('titles', texts('.message b'), ['Diagnostic 4, bytes 8 to 9', 'Not all was read']);
-    same('marked', [texts('.editor .noted'), texts('.editor .unread')], [['B'], ['[C]']]);
+    same('marked', [texts('.editor .noted'), texts('.editor .other'), texts('.editor .unread')], [['B'], ['a?: A'], ['[C]']]);
+    $('.message').dispatchEvent(new frame.contentWindow.PointerEvent('pointerover'));
+    same('both places', texts('.editor .here'), ['a?: A', 'B']);
+    $('.message').dispatchEvent(new frame.contentWindow.PointerEvent('pointerleave'));
+    type('[A?, B?, C, D]');
+    same('words', texts('.message'), ['9 to 10', '12 to 13'].map((at) => `Diagnostic 4, bytes ${at}A required element cannot come after an optional one. The optional one is at bytes 5 to 7.`));
+    same('the latest one', [texts('.editor .noted'), texts('.editor .other')], [['C', 'D'], ['B?']]);
     type('<string>(x: string) => string');
     same('a hint', texts('.message'), ['Diagnostic 13, bytes 1 to 7string names a type of its own. Choose another name for the type parameter.']);
     same('marked', texts('.editor .noted'), ['string']);
