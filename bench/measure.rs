@@ -65,7 +65,7 @@ struct Rooms {
 impl Rooms {
     /// The header's bounds.
     fn to_read(text: usize, words: usize) -> Rooms {
-        Rooms { nodes: 4 * words, names: words, notes: 96, bytes: text + 12 * words + 16 }
+        Rooms { nodes: 4 * words, names: words, notes: 160, bytes: text + 12 * words + 16 }
     }
 
     fn to_take(key: usize) -> Rooms {
@@ -77,7 +77,7 @@ impl Rooms {
     }
 }
 
-const MOST_TO_READ: Rooms = Rooms { nodes: 65_536, names: 16_384, notes: 96, bytes: 262_144 };
+const MOST_TO_READ: Rooms = Rooms { nodes: 65_536, names: 16_384, notes: 160, bytes: 262_144 };
 const MOST_TO_TAKE: Rooms = Rooms { nodes: 1_398_108, names: 87_382, notes: 0, bytes: 262_144 };
 
 struct Lent {
@@ -90,7 +90,7 @@ struct Lent {
 impl Lent {
     fn new() -> Lent {
         let most = MOST_TO_TAKE;
-        Lent { nodes: vec![!0; most.nodes], names: vec![!0; most.names], notes: vec![!0; 128], bytes: vec![255; most.bytes + 16] }
+        Lent { nodes: vec![!0; most.nodes], names: vec![!0; most.names], notes: vec![!0; 212], bytes: vec![255; most.bytes + 16] }
     }
 
     fn read(&mut self, text: &[u8], words: &[u64], start: usize, parens: bool, r: Rooms) -> [u64; 8] {
@@ -358,7 +358,7 @@ fn lend(set: &Set, lent: &RefCell<Lent>) {
     for job in ["read", "take"] {
         let rooms: [Vec<Rooms>; 3] = match job {
             "read" => [
-                taken.iter().map(|(key, r)| Rooms { notes: 96, bytes: key.len(), ..*r }).collect(),
+                taken.iter().map(|(key, r)| Rooms { notes: 160, bytes: key.len(), ..*r }).collect(),
                 texts.iter().map(|(text, words)| Rooms::to_read(text.len(), words.len())).collect(),
                 vec![MOST_TO_READ; texts.len()],
             ],

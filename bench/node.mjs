@@ -31,7 +31,7 @@ function placed(all) {
   const bound = l => l.text.length + 12 * (l.tokens + 1) + 16;
   const longest = most(bound), tokens = most(l => l.tokens + 1);
   const lent = {
-    nodes: take(32 * Math.max(tokens, longest + longest / 3 + 1 | 0)), names: take(8 * Math.max(tokens, longest)), notes: take(768),
+    nodes: take(32 * Math.max(tokens, longest + longest / 3 + 1 | 0)), names: take(8 * Math.max(tokens, longest)), notes: take(1280),
     bytes: take(longest), answer: take(64), keys: take(sum(bound)),
   };
   const missing = at - x.memory.buffer.byteLength;
@@ -47,7 +47,7 @@ function placed(all) {
     return c;
   });
   const read = c => {
-    x.typekey_read(c.text, c.textLen, c.words, c.wordCount, 0n, 0n, lent.nodes, c.nodeWords, lent.names, c.wordCount, lent.notes, 96n, lent.bytes, c.bound, lent.answer);
+    x.typekey_read(c.text, c.textLen, c.words, c.wordCount, 0n, 0n, lent.nodes, c.nodeWords, lent.names, c.wordCount, lent.notes, 160n, lent.bytes, c.bound, lent.answer);
     return answer[0];
   };
   let bytes = 0;

@@ -10,14 +10,14 @@
 
 enum { STACK = 4 << 20, PAINT = 0xa5 };
 
-static uint64_t nodes[1398108], names[87382], notes[96], answer[8], tokens[TYPEKEY_MOST_TOKENS];
+static uint64_t nodes[1398108], names[87382], notes[TYPEKEY_READ_NOTE_WORDS], answer[8], tokens[TYPEKEY_MOST_TOKENS];
 static uint8_t bytes[TYPEKEY_MOST_KEY], text[TYPEKEY_MOST_KEY];
 static uint32_t text_len, token_count;
 static char *top;
 
 static void *read_text(void *unused) {
     top = __builtin_frame_address(0);
-    typekey_read(text, text_len, tokens, token_count, 0, 0, nodes, 65536, names, 16384, notes, 96, bytes, sizeof bytes, answer);
+    typekey_read(text, text_len, tokens, token_count, 0, 0, nodes, 65536, names, 16384, notes, TYPEKEY_READ_NOTE_WORDS, bytes, sizeof bytes, answer);
     return unused;
 }
 

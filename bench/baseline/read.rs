@@ -19,6 +19,8 @@ pub struct Refusal {
 pub struct Note {
     pub number: u64,
     pub span: (u32, u32),
+    /// The latest optional element before the required one, of 4.
+    pub other: Option<(u32, u32)>,
 }
 
 type Read<T> = Result<T, Refusal>;
@@ -116,10 +118,14 @@ impl Reader<'_> {
     }
 
     fn note(&mut self, number: u64, first: u32, end: u32) -> Read<()> {
+        self.note_both(number, (first, end), None)
+    }
+
+    fn note_both(&mut self, number: u64, span: (u32, u32), other: Option<(u32, u32)>) -> Read<()> {
         if self.notes.len() == MOST_NOTES {
             return self.refuse(9);
         }
-        self.notes.push(Note { number, span: (first, end) });
+        self.notes.push(Note { number, span, other });
         Ok(())
     }
 
@@ -550,14 +556,17 @@ impl Reader<'_> {
     fn tuple(&mut self) -> Read<Tall> {
         let first = self.first();
         self.step();
-        let mut seen = false;
+        let mut latest = None;
         let (all, height) = self.list(RIGHT_BRACKET, |r| {
             let t = r.element()?;
             let optional = matches!(t.0.form, Form::Optional(_) | Form::Named(_, true, _));
-            if seen && !optional && !matches!(t.0.form, Form::Rest(_)) {
-                r.note(4, t.0.span.first, t.0.span.end)?;
+            let span = (t.0.span.first, t.0.span.end);
+            if latest.is_some() && !optional && !matches!(t.0.form, Form::Rest(_)) {
+                r.note_both(4, span, latest)?;
             }
-            seen |= optional;
+            if optional {
+                latest = Some(span);
+            }
             Ok(t)
         })?;
         self.node(first, all.len(), height, Form::Tuple(all))
