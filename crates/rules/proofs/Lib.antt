@@ -6,5 +6,9 @@ pub mod WeightLaws
 pub mod Gives
 pub mod PartLaws
 pub mod RuleLaws
+pub mod LikeWords
+pub mod LikeValues
+pub mod Beside
+pub mod LikeLaws
 pub mod CallLaws
 pub mod Theorems

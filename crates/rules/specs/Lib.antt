@@ -27,3 +27,4 @@ pub mod Places
 pub mod Told
 pub mod Weight
 pub mod Call
+pub mod Like

@@ -1,0 +1,174 @@
+-- Two readings side by side: a relation between their results, and how the steps that all rules are made of keep it.
+use mathlib.Core.Path.{_≡_, refl, sym, ap, ap₂, _∙_}
+use mathlib.Core.Bool.{Bool, true, false}
+use mathlib.Core.List.{List, [], _∷_, _++_}
+use Prim.Native.Nat.{ℕ, _+_}
+use lib.Dec.{leb, ltb, eqb}
+use lib.ListN.{length}
+use Rattle.words.specs.Limits.{tallest, mostNotes}
+use Rattle.words.specs.Test.{_or_, test}
+use Rattle.keys.specs.Form.{Value, spelt, height}
+use Rattle.keys.specs.Limits.{noRoom}
+use Rattle.keys.specs.Placed as node
+use Rattle.keys.specs.Placed.{Placed, bare, Opt, absent, present, maybe}
+use Rattle.keys.proofs.BitsLaws.{clash}
+use Rattle.rules.specs.Refusal.{unexpected, manyNotes}
+use Rattle.rules.specs.Notes.{Note}
+use Rattle.rules.specs.State.{Given, State, Result, read, refuse, refused, then, next, past, stands, kind, kindAfter, onLine, nextOnLine, spelling, optional, overlong, make, report, reportIf}
+use Rattle.rules.specs.Like.{Like, noteNumbers}
+use Rattle.rules.proofs.LikeWords.{kind-at, line-at}
+use Rattle.rules.proofs.LikeValues.{Pair, itself, numbers-more, numbers-length}
+
+-- Two readings stand at the same cursor; where exact, with as many nodes in use and diagnostics of the same numbers.
+pub record Near (exact : Bool) (s t : State) : Type 0 where
+  pub at : s .at ≡ t .at
+  pub half : s .half ≡ t .half
+  pub nodes : exact ≡ true → s .nodes ≡ t .nodes
+  pub notes : exact ≡ true → noteNumbers (s .notes) ≡ noteNumbers (t .notes)
+
+-- Two such states.
+pub record Abreast (exact : Bool) : Type 0 where
+  pub one : State
+  pub other : State
+  pub near : Near exact one other
+
+-- Both read alike values; or both stop with the same number at the same place. Where not exact, one may stop alone.
+pub data Beside (exact : Bool) {A : Type 0} (shape : A → Placed) : Result A → Result A → Type 0 where
+  both : (v : Pair shape) (x : Abreast exact) → Beside exact shape (read (v .one) (x .one)) (read (v .other) (x .other))
+  stopped : {n i h : ℕ} → Beside exact shape (refuse n i h) (refuse n i h)
+  left-out : {n i h : ℕ} {r : Result A} → exact ≡ false → Beside exact shape (refuse n i h) r
+  right-out : {n i h : ℕ} {r : Result A} → exact ≡ false → Beside exact shape r (refuse n i h)
+
+-- What two readings are given: like lists; where exact, also as much room and as many records.
+pub record Twins (exact : Bool) (g h : Given) : Type 0 where
+  pub like : Like g h
+  pub room : exact ≡ true → g .room ≡ h .room
+  pub records : exact ≡ true → g .records ≡ h .records
+
+-- Two rules agree: from the same cursor on they read alike.
+abbrev pub Agree : Bool → {A : Type 0} → (A → Placed) → (State → Result A) → (State → Result A) → Type 0
+Agree exact shape rule rule' = (x : Abreast exact) → Beside exact shape (rule (x .one)) (rule' (x .other))
+
+-- ---- Steps
+module _ {exact : Bool} where
+  -- Both past their token.
+  abbrev pub nexts : Abreast exact → Abreast exact
+  nexts x = record { one = next (x .one); other = next (x .other); near = record { at = ap (λ (i : ℕ). i + 1) (x .near .at); half = refl; nodes = x .near .nodes; notes = x .near .notes } }
+
+  -- What both see of their tokens there is the same.
+  here : {A : Type 0} {f f' : ℕ → ℕ → A} → ((i k : ℕ) → f i k ≡ f' i k) → (x : Abreast exact) → f (x .one .at) (x .one .half) ≡ f' (x .other .at) (x .other .half)
+  here {f' = f'} e x = e (x .one .at) (x .one .half) ∙ λ d. f' (x .near .at d) (x .near .half d)
+
+  module _ {A : Type 0} {shape : A → Placed} where
+    pub refusal : {n : ℕ} (x : Abreast exact) → Unit {0} → Beside exact shape (refused n (x .one)) (refused n (x .other))
+    refusal {n} x u = rw (x .near .at, x .near .half) stopped
+
+    -- A test that both answer alike.
+    pub beside-test : {b c : Bool} {x y x' y' : Unit {0} → Result A} → b ≡ c → ((u : Unit {0}) → Beside exact shape (x u) (x' u)) → ((u : Unit {0}) → Beside exact shape (y u) (y' u))
+        → Beside exact shape (test b x y) (test c x' y')
+    beside-test {b} {c} {x} {y} {x'} {y'} e f h = by b c e
+      where
+        by : (b c : Bool) → b ≡ c → Beside exact shape (test b x y) (test c x' y')
+        by true true i = f tt
+        by true false i = clash (cc)
+        by false true i = clash (cc)
+        by false false i = h tt
+
+    -- A limit, which both meet alike where exact.
+    beside-limit : {b c : Bool} (n : ℕ) (x : Abreast exact) {y y' : Unit {0} → Result A} → (exact ≡ true → b ≡ c) → ((u : Unit {0}) → Beside exact shape (y u) (y' u))
+        → Beside exact shape (test b (λ _. refused n (x .one)) y) (test c (λ _. refused n (x .other)) y')
+    beside-limit {b} {c} n x {y} {y'} e r = by b c exact refl e
+      where
+        by : (b c e : Bool) → exact ≡ e → (exact ≡ true → b ≡ c) → Beside exact shape (test b (λ _. refused n (x .one)) y) (test c (λ _. refused n (x .other)) y')
+        by true true k i j = refusal x tt
+        by true false true i j = let z = j i in clash (cc)
+        by true false false i j = left-out i
+        by false true true i j = let z = j i in clash (cc)
+        by false true false i j = right-out i
+        by false false k i j = r tt
+
+  pub beside-then : {A B : Type 0} {shape : A → Placed} {shape' : B → Placed} {r r' : Result A} (on on' : A → State → Result B) → Beside exact shape r r'
+      → ((v : Pair shape) (x : Abreast exact) → Beside exact shape' (on (v .one) (x .one)) (on' (v .other) (x .other))) → Beside exact shape' (then r on) (then r' on')
+  beside-then on on' (both v x) f = f v x
+  beside-then on on' stopped f = stopped
+  beside-then on on' (left-out e) f = left-out e
+  beside-then on on' (right-out e) f = right-out e
+
+-- ---- Tokens
+module _ {exact : Bool} {g h : Given} (w : Twins exact g h) where
+  pub same-kind : (x : Abreast exact) → kind g (x .one) ≡ kind h (x .other)
+  same-kind x = here (kind-at (w .like)) x
+
+  pub same-stands : (k : ℕ) (x : Abreast exact) → stands g k (x .one) ≡ stands h k (x .other)
+  same-stands k x = ap (λ (j : ℕ). eqb j k) (same-kind x)
+
+  pub same-after : (n : ℕ) (x : Abreast exact) → kindAfter g n (x .one) ≡ kindAfter h n (x .other)
+  same-after n x = w .like .kinds (x .one .at + n) ∙ ap (λ (i : ℕ). kindAfter h n (record { at = i; half = 0; nodes = 0; notes = [] })) (x .near .at)
+
+  pub same-line : (x : Abreast exact) → onLine g (x .one) ≡ onLine h (x .other)
+  same-line x = here (line-at (w .like)) x
+
+  pub same-next-line : (x : Abreast exact) → nextOnLine g (x .one) ≡ nextOnLine h (x .other)
+  same-next-line x = same-line (nexts x)
+
+  -- The spellings there.
+  abbrev pub spelled : Abreast exact → Pair node.spell
+  spelled x =
+      record {
+        one = spelling g (x .one);
+        other = spelling h (x .other);
+        same = ap spelt (w .like .bytes (x .one .at) ∙ ap (λ (i : ℕ). spelling h (record { at = i; half = 0; nodes = 0; notes = [] }) .1) (x .near .at));
+      }
+
+  pub near-past : (k : ℕ) (x : Abreast exact) → Near exact (past g k (x .one)) (past h k (x .other))
+  near-past k x = by _ _ (same-stands k x)
+    where
+      by : (b c : Bool) → b ≡ c → Near exact (test b (λ _. next (x .one)) (λ _. x .one)) (test c (λ _. next (x .other)) (λ _. x .other))
+      by true true i = nexts x .near
+      by true false i = clash (cc)
+      by false true i = clash (cc)
+      by false false i = x .near
+
+  -- Both past a mark, if it stands there.
+  abbrev pub pasts : ℕ → Abreast exact → Abreast exact
+  pasts k x = record { one = past g k (x .one); other = past h k (x .other); near = near-past k x }
+
+  -- Both with one diagnostic more.
+  noted : (m n : Note) → m .number ≡ n .number → Abreast exact → Abreast exact
+  noted m n e x =
+      record {
+        one = record { at = x .one .at; half = x .one .half; nodes = x .one .nodes; notes = x .one .notes ++ (m ∷ []) };
+        other = record { at = x .other .at; half = x .other .half; nodes = x .other .nodes; notes = x .other .notes ++ (n ∷ []) };
+        near = record { at = x .near .at; half = x .near .half; nodes = x .near .nodes; notes = λ i. numbers-more (x .one .notes) (x .other .notes) m n (x .near .notes i) e };
+      }
+
+  module _ {A : Type 0} {shape : A → Placed} where
+    -- A mark that must stand there.
+    pub beside-expect : (k : ℕ) (x : Abreast exact) {y y' : Unit {0} → Result A} → ((u : Unit {0}) → Beside exact shape (y u) (y' u))
+        → Beside exact shape (test (stands g k (x .one)) y (λ _. refused unexpected (x .one))) (test (stands h k (x .other)) y' (λ _. refused unexpected (x .other)))
+    beside-expect k x f = beside-test (same-stands k x) f (refusal x)
+
+    pub beside-report : (m n : Note) → m .number ≡ n .number → (x : Abreast exact) (on on' : State → Result A) → Agree exact shape on on' → Beside exact shape (report g m (x .one) on) (report h n (x .other) on')
+    unfolding noted
+    beside-report m n e x on on' f = beside-limit manyNotes x full λ _. f (noted m n e x)
+      where
+        full : exact ≡ true
+            → leb mostNotes (length (x .one .notes)) or leb (g .records) (length (x .one .notes)) ≡ leb mostNotes (length (x .other .notes)) or leb (h .records) (length (x .other .notes))
+        full i = rw (numbers-length (x .one .notes) (x .other .notes) (x .near .notes i), w .records i) refl
+
+    pub beside-report-if : {b c : Bool} → b ≡ c → (m n : Note) → m .number ≡ n .number → (x : Abreast exact) (on on' : State → Result A) → Agree exact shape on on'
+        → Beside exact shape (reportIf b g m (x .one) on) (reportIf c h n (x .other) on')
+    beside-report-if e m n i x on on' f = beside-test e (λ _. beside-report m n i x on on' f) λ _. f x
+
+  -- A node of alike values.
+  pub beside-make : {l l' : List ℕ} → l ≡ l' → (t : Pair itself) (x : Abreast exact) → Beside exact itself (make g l (t .one) (x .one)) (make h l' (t .other) (x .other))
+  unfolding make
+  beside-make e t x =
+      beside-test (ap overlong e) (refusal x) λ _.
+      beside-test (ap (λ (v : Value). ltb tallest (height v)) (t .same)) (refusal x) λ _.
+      beside-limit noRoom x (λ i. ap₂ leb (w .room i) (x .near .nodes i)) λ _.
+      both t (record {
+        one = record { at = x .one .at; half = x .one .half; nodes = x .one .nodes + 1; notes = x .one .notes };
+        other = record { at = x .other .at; half = x .other .half; nodes = x .other .nodes + 1; notes = x .other .notes };
+        near = record { at = x .near .at; half = x .near .half; nodes = λ i. ap (λ (n : ℕ). n + 1) (x .near .nodes i); notes = x .near .notes };
+      })
