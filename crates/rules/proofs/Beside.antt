@@ -55,8 +55,18 @@ module _ {exact : Bool} where
   abbrev pub nexts : Abreast exact → Abreast exact
   nexts x = record { one = next (x .one); other = next (x .other); near = record { at = ap (λ (i : ℕ). i + 1) (x .near .at); half = refl; nodes = x .near .nodes; notes = x .near .notes } }
 
+  -- By a test that both answer alike.
+  pub near-test : {b c : Bool} {s t p q : State} → b ≡ c → Near exact s t → Near exact p q → Near exact (test b (λ _. s) (λ _. p)) (test c (λ _. t) (λ _. q))
+  near-test {b} {c} {s} {t} {p} {q} e m n = by b c e
+    where
+      by : (b c : Bool) → b ≡ c → Near exact (test b (λ _. s) (λ _. p)) (test c (λ _. t) (λ _. q))
+      by true true i = m
+      by true false i = clash (cc)
+      by false true i = clash (cc)
+      by false false i = n
+
   -- What both see of their tokens there is the same.
-  here : {A : Type 0} {f f' : ℕ → ℕ → A} → ((i k : ℕ) → f i k ≡ f' i k) → (x : Abreast exact) → f (x .one .at) (x .one .half) ≡ f' (x .other .at) (x .other .half)
+  pub here : {A : Type 0} {f f' : ℕ → ℕ → A} → ((i k : ℕ) → f i k ≡ f' i k) → (x : Abreast exact) → f (x .one .at) (x .one .half) ≡ f' (x .other .at) (x .other .half)
   here {f' = f'} e x = e (x .one .at) (x .one .half) ∙ λ d. f' (x .near .at d) (x .near .half d)
 
   module _ {A : Type 0} {shape : A → Placed} where
@@ -121,13 +131,7 @@ module _ {exact : Bool} {g h : Given} (w : Twins exact g h) where
       }
 
   pub near-past : (k : ℕ) (x : Abreast exact) → Near exact (past g k (x .one)) (past h k (x .other))
-  near-past k x = by _ _ (same-stands k x)
-    where
-      by : (b c : Bool) → b ≡ c → Near exact (test b (λ _. next (x .one)) (λ _. x .one)) (test c (λ _. next (x .other)) (λ _. x .other))
-      by true true i = nexts x .near
-      by true false i = clash (cc)
-      by false true i = clash (cc)
-      by false false i = x .near
+  near-past k x = near-test (same-stands k x) (nexts x .near) (x .near)
 
   -- Both past a mark, if it stands there.
   abbrev pub pasts : ℕ → Abreast exact → Abreast exact
@@ -161,13 +165,13 @@ module _ {exact : Bool} {g h : Given} (w : Twins exact g h) where
     beside-report-if e m n i x on on' f = beside-test e (λ _. beside-report m n i x on on' f) λ _. f x
 
   -- A node of alike values.
-  pub beside-make : {l l' : List ℕ} → l ≡ l' → (t : Pair itself) (x : Abreast exact) → Beside exact itself (make g l (t .one) (x .one)) (make h l' (t .other) (x .other))
+  pub beside-make : {l l' : List ℕ} → l ≡ l' → (t u : Placed) → bare t ≡ bare u → (x : Abreast exact) → Beside exact itself (make g l t (x .one)) (make h l' u (x .other))
   unfolding make
-  beside-make e t x =
+  beside-make e t u f x =
       beside-test (ap overlong e) (refusal x) λ _.
-      beside-test (ap (λ (v : Value). ltb tallest (height v)) (t .same)) (refusal x) λ _.
+      beside-test (ap (λ (v : Value). ltb tallest (height v)) f) (refusal x) λ _.
       beside-limit noRoom x (λ i. ap₂ leb (w .room i) (x .near .nodes i)) λ _.
-      both t (record {
+      both (record { one = t; other = u; same = f }) (record {
         one = record { at = x .one .at; half = x .one .half; nodes = x .one .nodes + 1; notes = x .one .notes };
         other = record { at = x .other .at; half = x .other .half; nodes = x .other .nodes + 1; notes = x .other .notes };
         near = record { at = x .near .at; half = x .near .half; nodes = λ i. ap (λ (n : ℕ). n + 1) (x .near .nodes i); notes = x .near .notes };

@@ -106,6 +106,16 @@ same-count o = by (o .one) (o .other) (o .same)
     by (present l) absent e = clash (cc)
     by (present l) (present m) e = cc
 
+pub same-many : (l : Pair listedNames) → length (l .one) ≡ length (l .other)
+same-many l = omega (arith, counted (l .one), counted (l .other), e)
+  where
+    counted : (l : List Spelling) → length (spellings l) ≡ length l
+    counted [] = refl
+    counted (x ∷ l) = ap suc (counted l)
+
+    e : length (spellings (l .one)) ≡ length (spellings (l .other))
+    e = cc
+
 -- ---- What rules ask of a node
 
 -- What is asked of a value as taking back lays it out is asked of the value.
