@@ -22,7 +22,7 @@ use Rattle.keys.proofs.StoreLaws.{length-records, under-plant, length-filled}
 use Rattle.keys.proofs.BitsLaws.{clash}
 use Rattle.rules.specs.Notes.{Note, noteWidth, noteWords}
 use Rattle.rules.specs.State.{Given, State, Result, read as got, refuse}
-use Rattle.rules.specs.Read.{refuses, Lent, given, granted, denied, fits, checked, outcome, Called, written, read}
+use Rattle.rules.specs.Read.{refuses, Lent, given, granted, denied, fits, keyed, checked, outcome, Called, written, read}
 use Rattle.rules.specs.Refusal.{isRule}
 use Rattle.rules.specs.Call.{Call, left, ruled, grants, Granted, Kept, AllZero, IsCursor, IsRefusal, is-badList, is-badToken, is-rules, is-noSpace}
 use Rattle.rules.proofs.TokenLaws.{both-true}
@@ -72,6 +72,11 @@ outcome-of c t s e f = by (check (c .text) (c .words) (c .start)) refl e
         fit : fits (c .lent) t (keyOf (bare t)) ≡ true
         fit = by-fit (fits (c .lent) t (keyOf (bare t))) refl (rw f at j)
     by (refused n p) i j = clash (cc)
+
+-- What a call on a list that passed the check leaves, by what the rules come to.
+pub left-by : (c : Call) → check (c .text) (c .words) (c .start) ≡ sound → left c ≡ written (c .lent) (keyed (given (c .text) (c .words) (c .parens) (c .lent)) (c .lent) (ruled c))
+unfolding read
+left-by c e = ap (λ (v : Verdict). written (c .lent) (checked (given (c .text) (c .words) (c .parens) (c .lent)) (c .start) (c .lent) v)) e
 
 -- Where a call grants, the rules read.
 pub ruled-by : (c : Call) → grants (left c .answer) ≡ true → (t : Placed) × (s : State) × (ruled c ≡ got t s)

@@ -11,4 +11,5 @@ pub mod LikeValues
 pub mod Beside
 pub mod LikeLaws
 pub mod CallLaws
+pub mod SpaceLaws
 pub mod Theorems

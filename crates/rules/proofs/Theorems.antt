@@ -24,6 +24,7 @@ use Rattle.rules.specs.Reading.{reading}
 use Rattle.rules.specs.Read.{granted, denied, Outcome, outcome, refuses, written, read}
 use Rattle.rules.specs.Places.{after, InOrder}
 use Rattle.rules.specs.Call.{Call, left, ruled, grants, keyLeft, Granted, Kept, AllZero, IsRefusal}
+use Rattle.rules.specs.Like.{Respaced, SameReading}
 use Rattle.rules.proofs.TokenLaws.{Checked, taken-inside, text-few, words-few}
 use Rattle.rules.proofs.FewLaws.{nodes-most}
 use Rattle.rules.proofs.ToldLaws.{names-told}
@@ -31,6 +32,7 @@ use Rattle.rules.proofs.WeightLaws.{key-most}
 use Rattle.rules.proofs.Gives.{Got, Good, itself}
 use Rattle.rules.proofs.RuleLaws.{reading-gives}
 use Rattle.rules.proofs.CallLaws.{gave, facts, ruled-by, filled-zero, kept-granted, kept-refused, call-refusal}
+use Rattle.rules.proofs.SpaceLaws.{calls-alike}
 
 -- ---- What the rules read: tree t and state s, from a text of bytes and a list that passed the check
 module _ (g : Given) (start : ℕ) {t : Placed} {s : State}
@@ -168,3 +170,7 @@ lengths-kept c bytes = by (grants (left c .answer)) refl
     by : (b : Bool) → grants (left c .answer) ≡ b → Kept (c .lent) (left c)
     by true e = kept-granted (facts (record { bytes = bytes; grant = e; rules = ruled-by c e .2 }))
     by false e = kept-refused (call-refused c e)
+
+-- Spaces don't matter (02, W14): two calls on like lists are granted the same tree, positions aside, with the same answer and key and diagnostics of the same numbers; or both are refused alike.
+pub spaces : (c d : Call) → Bytes (c .text) → Bytes (d .text) → Respaced c d → SameReading c d
+spaces c d bytes bytes' r = calls-alike c d bytes bytes' r
