@@ -1,5 +1,5 @@
 -- Two readings side by side: a relation between their results, and how the steps that all rules are made of keep it.
-use mathlib.Core.Path.{_≡_, refl, sym, ap, ap₂, _∙_}
+use mathlib.Core.Path.{_≡_, refl, ap, ap₂, _∙_}
 use mathlib.Core.Bool.{Bool, true, false}
 use mathlib.Core.List.{List, [], _∷_, _++_}
 use Prim.Native.Nat.{ℕ, _+_}
@@ -10,14 +10,14 @@ use Rattle.words.specs.Test.{_or_, test}
 use Rattle.keys.specs.Form.{Value, spelt, height}
 use Rattle.keys.specs.Limits.{noRoom}
 use Rattle.keys.specs.Placed as node
-use Rattle.keys.specs.Placed.{Placed, bare, Opt, absent, present, maybe}
+use Rattle.keys.specs.Placed.{Placed, bare}
 use Rattle.keys.proofs.BitsLaws.{clash}
 use Rattle.rules.specs.Refusal.{unexpected, manyNotes}
 use Rattle.rules.specs.Notes.{Note}
-use Rattle.rules.specs.State.{Given, State, Result, read, refuse, refused, then, next, past, stands, kind, kindAfter, onLine, nextOnLine, spelling, optional, overlong, make, report, reportIf}
+use Rattle.rules.specs.State.{Given, State, Result, read, refuse, refused, then, next, past, stands, kind, kindAfter, onLine, nextOnLine, spelling, overlong, make, report, reportIf}
 use Rattle.rules.specs.Like.{Like, noteNumbers}
 use Rattle.rules.proofs.LikeWords.{kind-at, line-at}
-use Rattle.rules.proofs.LikeValues.{Pair, itself, numbers-more, numbers-length}
+use Rattle.rules.proofs.LikeValues.{Pair, test-like, itself, numbers-more, numbers-length}
 
 -- Two readings stand at the same cursor; where exact, with as many nodes in use and diagnostics of the same numbers.
 pub record Near (exact : Bool) (s t : State) : Type 0 where
@@ -55,16 +55,6 @@ module _ {exact : Bool} where
   abbrev pub nexts : Abreast exact → Abreast exact
   nexts x = record { one = next (x .one); other = next (x .other); near = record { at = ap (λ (i : ℕ). i + 1) (x .near .at); half = refl; nodes = x .near .nodes; notes = x .near .notes } }
 
-  -- By a test that both answer alike.
-  pub near-test : {b c : Bool} {s t p q : State} → b ≡ c → Near exact s t → Near exact p q → Near exact (test b (λ _. s) (λ _. p)) (test c (λ _. t) (λ _. q))
-  near-test {b} {c} {s} {t} {p} {q} e m n = by b c e
-    where
-      by : (b c : Bool) → b ≡ c → Near exact (test b (λ _. s) (λ _. p)) (test c (λ _. t) (λ _. q))
-      by true true i = m
-      by true false i = clash (cc)
-      by false true i = clash (cc)
-      by false false i = n
-
   -- What both see of their tokens there is the same.
   pub here : {A : Type 0} {f f' : ℕ → ℕ → A} → ((i k : ℕ) → f i k ≡ f' i k) → (x : Abreast exact) → f (x .one .at) (x .one .half) ≡ f' (x .other .at) (x .other .half)
   here {f' = f'} e x = e (x .one .at) (x .one .half) ∙ λ d. f' (x .near .at d) (x .near .half d)
@@ -76,13 +66,7 @@ module _ {exact : Bool} where
     -- A test that both answer alike.
     pub beside-test : {b c : Bool} {x y x' y' : Unit {0} → Result A} → b ≡ c → ((u : Unit {0}) → Beside exact shape (x u) (x' u)) → ((u : Unit {0}) → Beside exact shape (y u) (y' u))
         → Beside exact shape (test b x y) (test c x' y')
-    beside-test {b} {c} {x} {y} {x'} {y'} e f h = by b c e
-      where
-        by : (b c : Bool) → b ≡ c → Beside exact shape (test b x y) (test c x' y')
-        by true true i = f tt
-        by true false i = clash (cc)
-        by false true i = clash (cc)
-        by false false i = h tt
+    beside-test e f h = test-like (Beside exact shape) e f h
 
     -- A limit, which both meet alike where exact.
     beside-limit : {b c : Bool} (n : ℕ) (x : Abreast exact) {y y' : Unit {0} → Result A} → (exact ≡ true → b ≡ c) → ((u : Unit {0}) → Beside exact shape (y u) (y' u))
@@ -113,7 +97,7 @@ module _ {exact : Bool} {g h : Given} (w : Twins exact g h) where
   same-stands k x = ap (λ (j : ℕ). eqb j k) (same-kind x)
 
   pub same-after : (n : ℕ) (x : Abreast exact) → kindAfter g n (x .one) ≡ kindAfter h n (x .other)
-  same-after n x = w .like .kinds (x .one .at + n) ∙ ap (λ (i : ℕ). kindAfter h n (record { at = i; half = 0; nodes = 0; notes = [] })) (x .near .at)
+  same-after n x = here (λ i _. w .like .kinds (i + n)) x
 
   pub same-line : (x : Abreast exact) → onLine g (x .one) ≡ onLine h (x .other)
   same-line x = here (line-at (w .like)) x
@@ -124,14 +108,10 @@ module _ {exact : Bool} {g h : Given} (w : Twins exact g h) where
   -- The spellings there.
   abbrev pub spelled : Abreast exact → Pair node.spell
   spelled x =
-      record {
-        one = spelling g (x .one);
-        other = spelling h (x .other);
-        same = ap spelt (w .like .bytes (x .one .at) ∙ ap (λ (i : ℕ). spelling h (record { at = i; half = 0; nodes = 0; notes = [] }) .1) (x .near .at));
-      }
+      record { one = spelling g (x .one); other = spelling h (x .other); same = ap spelt (here (λ i _. w .like .bytes i) x) }
 
   pub near-past : (k : ℕ) (x : Abreast exact) → Near exact (past g k (x .one)) (past h k (x .other))
-  near-past k x = near-test (same-stands k x) (nexts x .near) (x .near)
+  near-past k x = test-like (Near exact) (same-stands k x) (λ _. nexts x .near) λ _. x .near
 
   -- Both past a mark, if it stands there.
   abbrev pub pasts : ℕ → Abreast exact → Abreast exact

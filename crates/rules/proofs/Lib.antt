@@ -8,6 +8,7 @@ pub mod PartLaws
 pub mod RuleLaws
 pub mod LikeWords
 pub mod LikeValues
+pub mod LikeParts
 pub mod Beside
 pub mod LikeLaws
 pub mod CallLaws

@@ -1,134 +1,40 @@
 -- One law for each rule: two readings of like lists, from the same cursor on, read alike.
 use mathlib.Core.Path.{_≡_, refl, ap, ap₂, _∙_}
 use mathlib.Core.Bool.{Bool, true, false, not}
-use mathlib.Core.List.{List, [], _∷_, _++_}
+use mathlib.Core.List.{List, [], _∷_}
 use Prim.Native.Nat.{ℕ, zero, suc, _+_}
-use lib.Dec.{eqb}
-use lib.ListN.{length}
 use Rattle.words.specs.Limits.{mostOpen}
 use Rattle.words.specs.Test.{_and_, _or_, among, test}
 use Rattle.words.specs.Class as class
-use Rattle.words.specs.Kind.{Str, NumberLiteral, BigIntLiteral, NoSubstitutionTemplate, TemplateHead, TemplateMiddle, TemplateTail, LCurly, RCurly, LBrack, RBrack, LParen, RParen, LAngle, RAngle, Pipe, Amp, Question, Colon, Comma, Semicolon, Dot, Dot3, Arrow, Eq, Bang, Minus, Plus, Star, Abstract, As, Asserts, Infer, Is, Readonly, Extends, Import, In, New, This, True, False, Typeof}
-use Rattle.words.specs.Ahead.{starter, mappedStart, functionStart, indexStart, propertyKey}
+use Rattle.words.specs.Kind.{Str, NoSubstitutionTemplate, TemplateHead, TemplateMiddle, TemplateTail, LCurly, RCurly, LBrack, RBrack, LParen, RParen, LAngle, RAngle, Pipe, Amp, Question, Colon, Comma, Semicolon, Dot, Dot3, Arrow, Eq, Bang, Minus, Plus, Star, Abstract, As, Infer, Is, Readonly, Extends, Import, In, New, This, True, False, Typeof}
+use Rattle.words.specs.Ahead.{propertyKey}
+use Rattle.keys.specs.Form.{choice}
 use Rattle.keys.specs.Placed as node
-use Rattle.keys.specs.Placed.{Placed, void, pick, join, tree, bare, Spelling, Opt, absent, present, listed, listedNames, maybe, maybeList, maybeThis, maybeNamed, subjectOf, literalSpelling, isLiteral, isNoIndex, isAsked, isRest, asElement}
+use Rattle.keys.specs.Placed.{Placed, join, tree, bare, Opt, absent, present, listed, listedNames, maybe, maybeList, subjectOf, literalSpelling, isAsked, isRest, asElement}
 use Rattle.keys.proofs.BitsLaws.{clash}
-use Rattle.rules.specs.State.{Given, State, Result, Reader, read, refused, begin, next, halved, kind, stands, first, end, spelling, turns, past, expect, optional, make, reportIf}
+use Rattle.rules.specs.State.{Given, State, Result, Reader, read, begin, first, end, spelling, turns, optional, make, reportIf}
 use Rattle.rules.specs.Notes.{note, askedAfterLabel}
 use Rattle.rules.specs.Names.{name, bindingWord, reserved, bound, dotsFrom, dotted}
-use Rattle.rules.specs.List.{noEntry, count, position, listFrom, list}
+use Rattle.rules.specs.List.{listFrom, list}
 use Rattle.rules.specs.Arguments.{opens, opened, arguments, named, importFrom, importType}
 use Rattle.rules.specs.TypeParameters.{varies, typeParameter, typeParameters}
-use Rattle.rules.specs.Function.{ThisParameter, Parameters, parametersOf, thisType, modified, predicates, subject, freed, separated, reportThis, parameter, parametersFrom, thisFirst, parameters, returnType, functionNode, function}
+use Rattle.rules.specs.Function.{ThisParameter, modified, predicates, subject, freed, separated, reportThis, parameter, parametersFrom, thisFirst, parameters, returnType, functionNode, function}
 use Rattle.rules.specs.Union.{partsFrom, joined, intersection, union}
 use Rattle.rules.specs.Operator.{operators, operand, operatorFrom, operator}
-use Rattle.rules.specs.Infer.{Trial, none, kept as keptTrial, dropped, constraintOf, trial, infer}
+use Rattle.rules.specs.Infer.{none, kept as keptTrial, dropped, trial, infer}
 use Rattle.rules.specs.Postfix.{suffixed, bracketed, suffix, postfixFrom, postfix}
-use Rattle.rules.specs.Primary.{keywords, literals, negated, isKeyword, isNegative, isAssertion, keyword, literal, negative, this, assertion, query, curly, brackets, reference, enclosed, worded, primary}
+use Rattle.rules.specs.Primary.{literals, isKeyword, isNegative, isAssertion, keyword, literal, negative, this, assertion, query, curly, brackets, reference, enclosed, worded, primary}
 use Rattle.rules.specs.Mapped.{modifier, mapped}
-use Rattle.rules.specs.Object.{Signature, ofMethod, ofCall, ofConstruct, isConstruct, signatureNode, IndexParameter, IndexParameters, noIndex, oneIndex, severalIndex, withOne, hasOne, kept, keySort, keyHere, signs, constructs, isReadonly, unsupportedHere, memberEnd, thisNoted, reportIndex, signature, indexType, indexParameter, indexFrom, index, property, withKey, behindReadonly, member as objectMember, membersFrom, object}
+use Rattle.rules.specs.Object.{Signature, ofCall, ofConstruct, isConstruct, signatureNode, IndexParameters, noIndex, kept, keySort, keyHere, signs, constructs, memberEnd, thisNoted, reportIndex, signature, indexType, indexParameter, indexFrom, index, property, withKey, behindReadonly, member as objectMember, membersFrom, object}
 use Rattle.rules.specs.Tuple.{latestOptional, reportRequired, isOptionalElement, labelled, memberNode, member as namedMember, restOf, labelledElement, element as elementRule, checkedElement, tuple}
 use Rattle.rules.specs.Template.{piecesFrom, pieces, template}
 use Rattle.rules.specs.TypeRule.{begins, conditional, unionOrConditional, type as typeRule}
 use Rattle.rules.specs.Reading.{readType, reading}
+use Rattle.rules.specs.Like.{Like}
 use Rattle.rules.proofs.LikeWords.{starter-at, modifies-at, function-at, mapped-at, index-at, readonly-at, modifier-at, accessor-at}
-use Rattle.rules.proofs.LikeValues.{Pair, itself, listedPieces, listed-more, names-more, pieces-with, same-none, same-count, same-many, same-element, same-asked, same-rest, same-optional, same-literal, same-no-index, same-latest}
-use Rattle.rules.proofs.Beside.{Near, Abreast, Beside, both, Twins, Agree, nexts, near-test, here, refusal, beside-test, beside-then, same-kind, same-stands, same-after, same-line, same-next-line, spelled, pasts, beside-expect, beside-report, beside-report-if, beside-make}
-
--- ---- What is read beside trees, as values
-
-abbrev shapeOfThis : Opt ThisParameter → Placed
-shapeOfThis o = maybeThis (thisType o)
-
-abbrev shapeOfParameters : Parameters → Placed
-shapeOfParameters ps = join (shapeOfThis (ps .this)) (listed (ps .list))
-
-abbrev withThis : Pair shapeOfThis → Pair listed → Pair shapeOfParameters
-withThis o l = record { one = parametersOf (o .one) (l .one); other = parametersOf (o .other) (l .other); same = ap₂ Rattle.keys.specs.Form.pair (o .same) (l .same) }
-
-abbrev shapeOfTrial : Trial → Placed
-shapeOfTrial t = maybe (constraintOf t)
-
--- A parameter of an index signature.
-abbrev shapeOfParameter : IndexParameter → Placed
-shapeOfParameter p = join (node.spell (p .name)) (p .type)
-
-abbrev shapeOfIndex : IndexParameters → Placed
-shapeOfIndex noIndex = pick 0 void
-shapeOfIndex (oneIndex p) = pick 1 (shapeOfParameter p)
-shapeOfIndex (severalIndex p) = pick 2 (shapeOfParameter p)
-
--- Two that are alike, by their sort.
-data Indexes : IndexParameters → IndexParameters → Type 0 where
-  none-index : Indexes noIndex noIndex
-  one-index : (p q : IndexParameter) → bare (shapeOfParameter p) ≡ bare (shapeOfParameter q) → Indexes (oneIndex p) (oneIndex q)
-  several-index : (p q : IndexParameter) → bare (shapeOfParameter p) ≡ bare (shapeOfParameter q) → Indexes (severalIndex p) (severalIndex q)
-
-indexes : (v : Pair shapeOfIndex) → Indexes (v .one) (v .other)
-indexes v = by (v .one) (v .other) (v .same)
-  where
-    by : (a b : IndexParameters) → bare (shapeOfIndex a) ≡ bare (shapeOfIndex b) → Indexes a b
-    by noIndex noIndex e = none-index
-    by noIndex (oneIndex q) e = clash (cc)
-    by noIndex (severalIndex q) e = clash (cc)
-    by (oneIndex p) noIndex e = clash (cc)
-    by (oneIndex p) (oneIndex q) e = one-index p q (cc)
-    by (oneIndex p) (severalIndex q) e = clash (cc)
-    by (severalIndex p) noIndex e = clash (cc)
-    by (severalIndex p) (oneIndex q) e = clash (cc)
-    by (severalIndex p) (severalIndex q) e = several-index p q (cc)
-
-same-has : (v : Pair shapeOfIndex) → hasOne (v .one) ≡ hasOne (v .other)
-same-has v = by (indexes v)
-  where
-    by : {a b : IndexParameters} → Indexes a b → hasOne a ≡ hasOne b
-    by none-index = refl
-    by (one-index p q e) = refl
-    by (several-index p q e) = refl
-
-same-kept : (v : Pair shapeOfIndex) → bare (maybeNamed (kept (v .one))) ≡ bare (maybeNamed (kept (v .other)))
-same-kept v = by (indexes v)
-  where
-    by : {a b : IndexParameters} → Indexes a b → bare (maybeNamed (kept a)) ≡ bare (maybeNamed (kept b))
-    by none-index = refl
-    by (one-index p q e) = cc
-    by (several-index p q e) = cc
-
-same-with : (v : Pair shapeOfIndex) (p : Pair shapeOfParameter) → bare (shapeOfIndex (withOne (v .one) (p .one))) ≡ bare (shapeOfIndex (withOne (v .other) (p .other)))
-same-with v p = by (indexes v)
-  where
-    by : {a b : IndexParameters} → Indexes a b → bare (shapeOfIndex (withOne a (p .one))) ≡ bare (shapeOfIndex (withOne b (p .other)))
-    by none-index = cc (p .same)
-    by (one-index x y e) = cc
-    by (several-index x y e) = cc
-
-abbrev noIndexes : Pair shapeOfIndex
-noIndexes = record { one = noIndex; other = noIndex; same = refl }
-
-with-one : Pair shapeOfIndex → Pair shapeOfParameter → Pair shapeOfIndex
-with-one v p = record { one = withOne (v .one) (p .one); other = withOne (v .other) (p .other); same = same-with v p }
-
--- Two that are absent, two that are present.
-abbrev absents : Pair maybe
-absents = record { one = absent; other = absent; same = refl }
-
-abbrev presents : Pair itself → Pair maybe
-presents t = record { one = present (t .one); other = present (t .other); same = ap (λ v. Rattle.keys.specs.Form.choice 1 v) (t .same) }
-
-abbrev noLists : Pair maybeList
-noLists = record { one = absent; other = absent; same = refl }
-
-abbrev someLists : Pair listed → Pair maybeList
-someLists l = record { one = present (l .one); other = present (l .other); same = ap (λ v. Rattle.keys.specs.Form.choice 1 v) (l .same) }
-
-abbrev noEntries : Pair listed
-noEntries = record { one = []; other = []; same = refl }
-
-abbrev noPieces : Pair listedPieces
-noPieces = record { one = []; other = []; same = refl }
-
-abbrev numbers : ℕ → Pair node.number
-numbers k = record { one = k; other = k; same = refl }
+use Rattle.rules.proofs.LikeValues.{Pair, test-like, twice, presents, present-lists, itself, listedPieces, listed-more, names-more, pieces-with, same-none, same-count, same-many, same-element, same-asked, same-rest, same-optional, same-literal, same-no-index, same-latest}
+use Rattle.rules.proofs.LikeParts.{shapeOfThis, shapeOfParameters, with-this, shapeOfTrial, shapeOfParameter, shapeOfIndex, Indexes, none-index, one-index, several-index, indexes, same-has, same-kept, index-more}
+use Rattle.rules.proofs.Beside.{Near, Abreast, Beside, both, stopped, left-out, right-out, Twins, Agree, nexts, here, refusal, beside-test, beside-then, same-kind, same-stands, same-after, same-line, same-next-line, spelled, pasts, beside-expect, beside-report, beside-report-if, beside-make}
 
 module _ {exact : Bool} {g h : Given} (w : Twins exact g h) where
   -- ---- Lists
@@ -146,7 +52,7 @@ module _ {exact : Bool} {g h : Given} (w : Twins exact g h) where
 
     list-like : Agree exact listed (list g close entry) (list h close entry')
     unfolding list
-    list-like x = rw (w .like .many) (list-from (turns h) noEntries x)
+    list-like x = rw (w .like .many) (list-from (turns h) (twice []) x)
 
   -- ---- Names
 
@@ -185,7 +91,7 @@ module _ {exact : Bool} {g h : Given} (w : Twins exact g h) where
   optional-like : (k : ℕ) (part part' : State → Result Placed) → Agree exact itself part part' → Agree exact maybe (optional g k part) (optional h k part')
   optional-like k part part' f x =
       beside-test (same-stands w k x) (λ _. beside-then _ _ (f (nexts x)) λ t q. both (presents t) q) λ _.
-      both absents x
+      both (twice absent) x
 
   -- ---- Rules that read types
 
@@ -200,17 +106,17 @@ module _ {exact : Bool} {g h : Given} (w : Twins exact g h) where
         record {
           one = opened g (x .one);
           other = opened h (x .other);
-          near = near-test (same-stands w LAngle x) (nexts x .near) (record { at = x .near .at; half = refl; nodes = x .near .nodes; notes = x .near .notes });
+          near = test-like (Near exact) (same-stands w LAngle x) (λ _. nexts x .near) λ _. record { at = x .near .at; half = refl; nodes = x .near .nodes; notes = x .near .notes };
         }
 
     arguments-like : Agree exact maybeList (arguments g T) (arguments h U)
     unfolding arguments openeds
     arguments-like x =
         let o : opens g (x .one) ≡ opens h (x .other) = cc (same-line w x, same-kind w x) in
-        beside-test (ap not o) (λ _. both noLists x) λ _.
+        beside-test (ap not o) (λ _. both (twice absent) x) λ _.
         beside-then _ _ (list-like RAngle _ _ (λ l. reads true) (openeds x)) λ l q.
         beside-report-if w (same-none l) _ _ refl q _ _ λ q.
-        both (someLists l) q
+        both (present-lists l) q
 
     named-like : (tag b c : ℕ)
         → Agree exact itself (named g T (λ b e l o. tree tag b e (join (listedNames l) (maybeList o))) b) (named h U (λ b e l o. tree tag b e (join (listedNames l) (maybeList o))) c)
@@ -225,7 +131,7 @@ module _ {exact : Bool} {g h : Given} (w : Twins exact g h) where
     import-from b c isTypeof v x =
         beside-test (same-stands w Comma x) (refusal x) λ _.
         beside-expect w RParen x λ _.
-        beside-then _ _ (dots-on (record { one = []; other = []; same = refl }) (nexts x)) λ l q.
+        beside-then _ _ (dots-on (twice []) (nexts x)) λ l q.
         beside-then _ _ (arguments-like q) λ ts q.
         beside-make w (cc (same-many l, same-count ts)) _ _ (cc) q
 
@@ -252,21 +158,15 @@ module _ {exact : Bool} {g h : Given} (w : Twins exact g h) where
     type-parameters : (on : Bool) → Agree exact maybeList (typeParameters g T on) (typeParameters h U on)
     unfolding typeParameters
     type-parameters on x =
-        beside-test (ap not (same-stands w LAngle x)) (λ _. both noLists x) λ _.
+        beside-test (ap not (same-stands w LAngle x)) (λ _. both (twice absent) x) λ _.
         beside-then _ _ (list-like RAngle _ _ (λ l. type-parameter on) (nexts x)) λ l q.
         beside-report-if w (same-none l) _ _ refl q _ _ λ q.
-        both (someLists l) q
+        both (present-lists l) q
 
     -- ---- Function
 
     same-subject : (x : Abreast exact) → bare (subjectOf (subject g (x .one))) ≡ bare (subjectOf (subject h (x .other)))
-    same-subject x = by _ _ (same-stands w This x)
-      where
-        by : (b c : Bool) → b ≡ c → bare (subjectOf (test b (λ _. absent) (λ _. present (spelling g (x .one))))) ≡ bare (subjectOf (test c (λ _. absent) (λ _. present (spelling h (x .other)))))
-        by true true i = refl
-        by true false i = clash (cc)
-        by false true i = clash (cc)
-        by false false i = cc (spelled w x .same)
+    same-subject x = test-like (λ a b. bare (subjectOf a) ≡ bare (subjectOf b)) (same-stands w This x) (λ _. refl) λ _. cc (spelled w x .same)
 
     parameter-like : Agree exact itself (parameter g T) (parameter h U)
     unfolding parameter
@@ -301,33 +201,31 @@ module _ {exact : Bool} {g h : Given} (w : Twins exact g h) where
     unfolding parametersFrom
     parameters-from o zero l x = refusal x tt
     parameters-from o (suc fuel) l x =
-        beside-test (same-stands w RParen x) (λ _. both (withThis o l) (nexts x)) λ _.
-        beside-test (modifies-at (w .like) (x .one .at) ∙ ap (λ (i : ℕ). modified h (begin i)) (x .near .at)) (refusal x) λ _.
+        beside-test (same-stands w RParen x) (λ _. both (with-this o l) (nexts x)) λ _.
+        beside-test (here (λ i _. modifies-at (w .like) i) x) (refusal x) λ _.
         beside-test (same-stands w This x) (refusal x) λ _.
         beside-then _ _ (parameter-like x) λ t q.
-        beside-separated (same-stands w Dot3 x) q _ _ _ _ (λ q. both (withThis o (listed-more l t)) q) λ q.
+        beside-separated (same-stands w Dot3 x) q _ _ _ _ (λ q. both (with-this o (listed-more l t)) q) λ q.
         parameters-from o fuel (listed-more l t) q
 
     parameters-on : (o : Pair shapeOfThis) → Agree exact shapeOfParameters (parametersFrom g T (o .one) (turns g) []) (parametersFrom h U (o .other) (turns h) [])
-    parameters-on o x = rw (w .like .many) (parameters-from o (turns h) noEntries x)
+    parameters-on o x = rw (w .like .many) (parameters-from o (turns h) (twice []) x)
 
     -- What was taken since p is free again, by a test that both answer alike.
     freeds : {b c : Bool} → b ≡ c → Abreast exact → Abreast exact → Abreast exact
-    freeds {b} {c} e p q = record { one = freed b (p .one) (q .one); other = freed c (p .other) (q .other); near = by b c e }
+    freeds {b} {c} e p q = record { one = freed b (p .one) (q .one); other = freed c (p .other) (q .other); near = rw e (by c) }
       where
-        by : (b c : Bool) → b ≡ c → Near exact (freed b (p .one) (q .one)) (freed c (p .other) (q .other))
-        by true true i = record { at = q .near .at; half = q .near .half; nodes = p .near .nodes; notes = q .near .notes }
-        by true false i = clash (cc)
-        by false true i = clash (cc)
-        by false false i = q .near
+        by : (c : Bool) → Near exact (freed c (p .one) (q .one)) (freed c (p .other) (q .other))
+        by true = record { at = q .near .at; half = q .near .half; nodes = p .near .nodes; notes = q .near .notes }
+        by false = q .near
 
     this-first : {b c : Bool} → b ≡ c → Agree exact shapeOfParameters (thisFirst g T b) (thisFirst h U c)
     unfolding thisFirst freeds
     this-first e x =
         beside-then _ _ (optional-type Colon true (nexts x)) λ t q.
         let o : Pair shapeOfThis =
-            record { one = present (record { first = first g (x .one); end = end g (q .one); type = t .one }); other = present (record { first = first h (x .other); end = end h (q .other); type = t .other }); same = cc } in
-        beside-separated {b = false} refl (freeds e x q) _ _ _ _ (λ q. both (withThis o noEntries) q) λ q.
+        record { one = present (record { first = first g (x .one); end = end g (q .one); type = t .one }); other = present (record { first = first h (x .other); end = end h (q .other); type = t .other }); same = cc } in
+        beside-separated {b = false} refl (freeds e x q) _ _ _ _ (λ q. both (with-this o (twice [])) q) λ q.
         parameters-on o q
 
     parameters-like : {b c : Bool} → b ≡ c → Agree exact shapeOfParameters (parameters g T b) (parameters h U c)
@@ -335,7 +233,7 @@ module _ {exact : Bool} {g h : Given} (w : Twins exact g h) where
     parameters-like e x =
         beside-expect w LParen x λ _.
         beside-test (same-stands w This (nexts x)) (λ _. this-first e (nexts x)) λ _.
-        parameters-on (record { one = absent; other = absent; same = refl }) (nexts x)
+        parameters-on (twice absent) (nexts x)
 
     return-like : Agree exact itself (returnType g T) (returnType h U)
     unfolding returnType
@@ -447,8 +345,8 @@ module _ {exact : Bool} {g h : Given} (w : Twins exact g h) where
     pieces-like : Agree exact listedPieces (pieces g T) (pieces h U)
     unfolding pieces
     pieces-like x =
-        beside-test (same-stands w NoSubstitutionTemplate x) (λ _. both noPieces (nexts x)) λ _.
-        rw (w .like .many) (pieces-from (turns h) noPieces (nexts x))
+        beside-test (same-stands w NoSubstitutionTemplate x) (λ _. both (twice []) (nexts x)) λ _.
+        rw (w .like .many) (pieces-from (turns h) (twice []) (nexts x))
 
     template-like : Agree exact itself (template g T) (template h U)
     unfolding template
@@ -461,10 +359,10 @@ module _ {exact : Bool} {g h : Given} (w : Twins exact g h) where
     modifier-like : (k : ℕ) → Agree exact node.number (modifier g k) (modifier h k)
     unfolding modifier
     modifier-like k x =
-        beside-test (same-stands w k x) (λ _. both (numbers 1) (nexts x)) λ _.
-        beside-test (same-stands w Plus x) (λ _. beside-expect w k (nexts x) λ _. both (numbers 2) (nexts (nexts x))) λ _.
-        beside-test (same-stands w Minus x) (λ _. beside-expect w k (nexts x) λ _. both (numbers 3) (nexts (nexts x))) λ _.
-        both (numbers 0) x
+        beside-test (same-stands w k x) (λ _. both (twice 1) (nexts x)) λ _.
+        beside-test (same-stands w Plus x) (λ _. beside-expect w k (nexts x) λ _. both (twice 2) (nexts (nexts x))) λ _.
+        beside-test (same-stands w Minus x) (λ _. beside-expect w k (nexts x) λ _. both (twice 3) (nexts (nexts x))) λ _.
+        both (twice 0) x
 
     mapped-like : Agree exact itself (mapped g T) (mapped h U)
     unfolding mapped
@@ -511,16 +409,10 @@ module _ {exact : Bool} {g h : Given} (w : Twins exact g h) where
     signature-like b c v v' e f x =
         beside-then _ _ (type-parameters true x) λ ts q.
         beside-then _ _ (parameters-like e q) λ ps q.
-        beside-this (record { one = thisNoted v (ps .one .this); other = thisNoted v' (ps .other .this); same = by (isConstruct v) (isConstruct v') e ps }) q _ _ λ q.
+        let o : Pair shapeOfThis = record { one = thisNoted v (ps .one .this); other = thisNoted v' (ps .other .this); same = test-like (λ a b. bare (shapeOfThis a) ≡ bare (shapeOfThis b)) e (λ _. cc (ps .same)) λ _. refl } in
+        beside-this o q _ _ λ q.
         beside-then _ _ (optional-like Colon _ _ return-like q) λ r q.
         beside-end (cc (same-count ts)) (λ e. signatureNode b e v (ts .one) (ps .one) (r .one)) (λ e. signatureNode c e v' (ts .other) (ps .other) (r .other)) (λ e e'. f e e' ts ps r) q
-      where
-        by : (a b : Bool) → a ≡ b → (ps : Pair shapeOfParameters)
-            → bare (shapeOfThis (test a (λ _. ps .one .this) (λ _. absent))) ≡ bare (shapeOfThis (test b (λ _. ps .other .this) (λ _. absent)))
-        by true true i ps = cc
-        by true false i ps = clash (cc)
-        by false true i ps = clash (cc)
-        by false false i ps = refl
 
     index-type : (b c : ℕ) (n : Pair node.spell) → Agree exact shapeOfParameter (indexType g T b (n .one)) (indexType h U c (n .other))
     unfolding indexType
@@ -543,19 +435,19 @@ module _ {exact : Bool} {g h : Given} (w : Twins exact g h) where
         index-type (first g (x .one)) (first h (x .other)) n q
 
     index-from : (fuel : ℕ) (ps : Pair shapeOfIndex) → Agree exact shapeOfIndex (indexFrom g T fuel (ps .one)) (indexFrom h U fuel (ps .other))
-    unfolding indexFrom freeds with-one
+    unfolding indexFrom freeds
     index-from zero ps x = refusal x tt
     index-from (suc fuel) ps x =
         beside-test (same-stands w RBrack x) (λ _. both ps x) λ _.
         beside-then _ _ (index-parameter x) λ p q.
         let q = freeds (same-has ps) x q in
-        beside-test (same-stands w RBrack q) (λ _. both (with-one ps p) q) λ _.
+        beside-test (same-stands w RBrack q) (λ _. both (index-more ps p) q) λ _.
         beside-expect w Comma q λ _.
         beside-report-if w (same-stands w RBrack (nexts q)) _ _ refl (nexts q) _ _ λ r.
-        index-from fuel (with-one ps p) r
+        index-from fuel (index-more ps p) r
 
     index-on : Agree exact shapeOfIndex (indexFrom g T (turns g) noIndex) (indexFrom h U (turns h) noIndex)
-    index-on x = rw (w .like .many) (index-from (turns h) noIndexes x)
+    index-on x = rw (w .like .many) (index-from (turns h) (twice noIndex) x)
 
     index-like : (b c : ℕ) (readonly : Bool) → Agree exact itself (index g T b readonly) (index h U c readonly)
     unfolding index
@@ -573,7 +465,7 @@ module _ {exact : Bool} {g h : Given} (w : Twins exact g h) where
         record {
           one = keyHere g (x .one);
           other = keyHere h (x .other);
-          same = ap₂ (λ (k : ℕ) v. Rattle.keys.specs.Form.choice (keySort k) v) (same-kind w x) (spelled w x .same);
+          same = ap₂ (λ (k : ℕ) v. choice (keySort k) v) (same-kind w x) (spelled w x .same);
         }
 
     property-like : (b c : ℕ) (readonly : Bool) (k : Pair node.spellKey) {question question' : Bool} → question ≡ question'
@@ -617,7 +509,7 @@ module _ {exact : Bool} {g h : Given} (w : Twins exact g h) where
         members-from fuel (listed-more l t) q
 
     members-on : Agree exact listed (membersFrom g T (turns g) []) (membersFrom h U (turns h) [])
-    members-on x = rw (w .like .many) (members-from (turns h) noEntries x)
+    members-on x = rw (w .like .many) (members-from (turns h) (twice []) x)
 
     object-like : Agree exact itself (object g T) (object h U)
     unfolding object
@@ -632,15 +524,14 @@ module _ {exact : Bool} {g h : Given} (w : Twins exact g h) where
     unfolding keyword
     keyword-like x = beside-make w refl _ _ (cc (same-kind w x)) (nexts x)
 
+    -- The spelling that a literal keeps.
+    same-spelling : (x : Abreast exact) {b c : Bool} → b ≡ c
+        → bare (literalSpelling (test b (λ _. absent) λ _. present (spelling g (x .one)))) ≡ bare (literalSpelling (test c (λ _. absent) λ _. present (spelling h (x .other))))
+    same-spelling x e = test-like (λ a b. bare (literalSpelling a) ≡ bare (literalSpelling b)) e (λ _. refl) λ _. spelled w x .same
+
     literal-like : Agree exact itself (literal g) (literal h)
     unfolding literal
-    literal-like x = beside-make w refl _ _ (cc (same-kind w x, by _ _ (ap (among (True ∷ False ∷ [])) (same-kind w x)))) (nexts x)
-      where
-        by : (b c : Bool) → b ≡ c → bare (literalSpelling (test b (λ _. absent) (λ _. present (spelling g (x .one))))) ≡ bare (literalSpelling (test c (λ _. absent) (λ _. present (spelling h (x .other)))))
-        by true true i = refl
-        by true false i = clash (cc)
-        by false true i = clash (cc)
-        by false false i = spelled w x .same
+    literal-like x = beside-make w refl _ _ (cc (same-kind w x, same-spelling x (ap (among (True ∷ False ∷ [])) (same-kind w x)))) (nexts x)
 
     negative-like : Agree exact itself (negative g) (negative h)
     unfolding negative
@@ -739,7 +630,7 @@ module _ {exact : Bool} {g h : Given} (w : Twins exact g h) where
     trial-like : (on : Bool) → Agree exact shapeOfTrial (trial g T on) (trial h U on)
     unfolding trial
     trial-like on x =
-        beside-test (ap not (same-stands w Extends x)) (λ _. both (record { one = none; other = none; same = refl }) x) λ _.
+        beside-test (ap not (same-stands w Extends x)) (λ _. both (twice none) x) λ _.
         beside-then _ _ (reads false (nexts x)) λ t q.
         beside-test (ap (λ b. on and b) (same-stands w Question q)) (λ _. both (record { one = dropped (q .one .at); other = dropped (q .other .at); same = refl }) x) λ _.
         both (record { one = keptTrial (t .one); other = keptTrial (t .other); same = cc }) q
@@ -821,3 +712,15 @@ types-like {g = g} {h = h} w (suc n) = λ on x. type-like w (readType g n) (read
 pub reading-like : {g h : Given} → Twins true g h → (i : ℕ) → Beside true itself (reading g i) (reading h i)
 unfolding reading
 reading-like w i = types-like w mostOpen true (record { one = begin i; other = begin i; near = record { at = refl; half = refl; nodes = λ _. refl; notes = λ _. refl } })
+
+-- Where not exact: two readings from the same cursor, whatever room, nodes and diagnostics each has, end at the same cursor with the same tree if both read.
+pub ends-alike : {g h : Given} → Like g h → (n : ℕ) (on : Bool) (s t : State) → s .at ≡ t .at → s .half ≡ t .half → {a b : Placed} {p q : State} → readType g n on s ≡ read a p
+    → readType h n on t ≡ read b q → (bare a ≡ bare b) × (p .at ≡ q .at) × (p .half ≡ q .half)
+ends-alike l n on s t i j {a} {b} {p} {q} e f =
+    by (types-like (record { like = l; room = λ k. clash (cc); records = λ k. clash (cc) }) n on (record { one = s; other = t; near = record { at = i; half = j; nodes = λ k. clash (cc); notes = λ k. clash (cc) } })) e f
+  where
+    by : {r r' : Result Placed} → Beside false itself r r' → r ≡ read a p → r' ≡ read b q → (bare a ≡ bare b) × (p .at ≡ q .at) × (p .half ≡ q .half)
+    by (both v x) e f = (cc (v .same), cc (x .near .at), cc (x .near .half))
+    by stopped e f = clash (cc)
+    by (left-out k) e f = clash (cc)
+    by (right-out k) e f = clash (cc)

@@ -2,12 +2,12 @@
 use mathlib.Core.Path.{_≡_, refl, sym, ap, _∙_}
 use mathlib.Core.Bool.{Bool, true, false}
 use mathlib.Core.List.{List, [], _∷_, _++_}
-use Prim.Native.Nat.{ℕ, suc, _+_}
+use Prim.Native.Nat.{ℕ, suc}
 use native.Mathlib.Omega.{arith}
 use lib.Dec.{eqb}
 use lib.ListN.{length, length-append}
-use Rattle.words.specs.Test.{_or_, test}
-use Rattle.keys.specs.Form.{Value, nothing, pair, node as nodeValue, names, letters}
+use Rattle.words.specs.Test.{test}
+use Rattle.keys.specs.Form.{Value, choice, node as nodeValue, names}
 use Rattle.keys.specs.Table.{type}
 use Rattle.keys.specs.Placed as node
 use Rattle.keys.specs.Placed.{Placed, void, said, pick, join, tree, bare, laid, Spelling, Opt, absent, present, entries, listed, listedNames, spellings, pieces, maybe, maybeList, tagOf, content, second, chosen, isSet, isLiteral, isNoIndex, isAsked, isRest, optionalIf, asElement}
@@ -27,6 +27,15 @@ pub record Pair {A : Type 0} (shape : A → Placed) : Type 0 where
   pub other : A
   pub same : bare (shape one) ≡ bare (shape other)
 
+-- A test that is answered alike: what holds on both ways holds of what it chooses.
+pub test-like : {A : Type 0} (R : A → A → Type 0) {b c : Bool} {x y x' y' : Unit {0} → A} → b ≡ c → ((u : Unit {0}) → R (x u) (x' u)) → ((u : Unit {0}) → R (y u) (y' u))
+    → R (test b x y) (test c x' y')
+test-like R {c = c} {x = x} {y = y} {x' = x'} {y' = y'} e f h = rw e (by c)
+  where
+    by : (c : Bool) → R (test c x y) (test c x' y')
+    by true = f tt
+    by false = h tt
+
 -- A tree as a value.
 abbrev pub itself : Placed → Placed
 itself t = t
@@ -35,9 +44,16 @@ itself t = t
 abbrev pub listedPieces : List (Placed × Spelling) → Placed
 listedPieces l = pick (length l) (entries (pieces l))
 
--- Two absent parts.
-pub both-absent : Pair maybe
-both-absent = record { one = absent; other = absent; same = refl }
+-- The same value twice.
+abbrev pub twice : {A : Type 0} {shape : A → Placed} → A → Pair shape
+twice a = record { one = a; other = a; same = refl }
+
+-- Both present.
+abbrev pub presents : Pair itself → Pair maybe
+presents t = record { one = present (t .one); other = present (t .other); same = ap (choice 1) (t .same) }
+
+abbrev pub present-lists : Pair listed → Pair maybeList
+present-lists l = record { one = present (l .one); other = present (l .other); same = ap (choice 1) (l .same) }
 
 -- ---- Lists that grow at their end
 
@@ -205,16 +221,9 @@ latest-from : (o p : Opt Placed) (l m : List Placed) → bare (maybe o) ≡ bare
 latest-from o p [] [] a e = a
 latest-from o p [] (y ∷ m) a e = clash (cc)
 latest-from o p (x ∷ l) [] a e = clash (cc)
-latest-from o p (x ∷ l) (y ∷ m) a e = latest-from _ _ l m (by _ _ (same-optional b)) (cc)
-  where
-    b : Pair itself
-    b = record { one = x; other = y; same = cc }
-
-    by : (c d : Bool) → c ≡ d → bare (maybe (test c (λ _. present x) (λ _. o))) ≡ bare (maybe (test d (λ _. present y) (λ _. p)))
-    by true true i = cc (b .same)
-    by true false i = clash (cc)
-    by false true i = clash (cc)
-    by false false i = a
+latest-from o p (x ∷ l) (y ∷ m) a e =
+    let b : Pair itself = record { one = x; other = y; same = cc } in
+    latest-from _ _ l m (test-like (λ r t. bare (maybe r) ≡ bare (maybe t)) (same-optional b) (λ _. cc (b .same)) λ _. a) (cc)
 
 pub same-latest : (l : Pair listed) → bare (maybe (latestOptional (l .one))) ≡ bare (maybe (latestOptional (l .other)))
 same-latest l =

@@ -1,15 +1,11 @@
 -- What like lists tell alike: every test that a rule asks of tokens.
 use mathlib.Core.Path.{_≡_, refl, sym, ap, _∙_}
-use mathlib.Core.Bool.{Bool, true}
 use mathlib.Core.List.{List, [], _∷_}
 use Prim.Native.Nat.{ℕ, zero, suc, _+_}
-use native.Mathlib.Omega.{arith}
 use lib.ListN.{length, getD, drop}
-use Rattle.words.specs.Test.{_and_, test}
 use Rattle.words.specs.Word.{kind, newline}
-use Rattle.words.specs.Cursor.{wordAt, wholeKind, left, kindAt, onLine, sameLine}
+use Rattle.words.specs.Cursor.{wordAt, left, kindAt, sameLine}
 use Rattle.words.specs.Ahead.{nextKind, startsBy, starts, starter, modifies, passed, firstWord, pastModifiers, functionStart, mappedStart, readonlyStart, modifierStart, accessorStart, indexStart}
-use Rattle.words.specs.declared.ahead.FunctionStart.{FunctionStart}
 use Rattle.keys.proofs.BitsLaws.{clash}
 use Rattle.rules.specs.State.{Given}
 use Rattle.rules.specs.Like.{Like}

@@ -1,9 +1,7 @@
 -- Two calls on like lists: what is granted or refused to both.
-use mathlib.Core.Path.{_≡_, refl, sym, ap, ap₂, _∙_}
+use mathlib.Core.Path.{_≡_, refl, sym, ap, _∙_}
 use mathlib.Core.Bool.{Bool, true, false}
-use mathlib.Core.List.{List}
-use Prim.Native.Nat.{ℕ, _/_}
-use lib.ListN.{length}
+use Prim.Native.Nat.{_/_}
 use lib.Seq.{take-append-seam}
 use Rattle.words.specs.Test.{test}
 use Rattle.words.specs.Check.{sound, check}
@@ -15,8 +13,8 @@ use Rattle.keys.proofs.BitsLaws.{clash}
 use Rattle.rules.specs.Notes.{noteWidth}
 use Rattle.rules.specs.State.{State, Result, read as got}
 use Rattle.rules.specs.Read.{Lent, granted, denied, fits, keyed, Called, written}
-use Rattle.rules.specs.Call.{Call, left, ruled, grants, keyLeft, Granted}
-use Rattle.rules.specs.Like.{givenTo, Respaced, GrantedAlike, SameReading, both-granted, both-refused}
+use Rattle.rules.specs.Call.{Call, left, ruled, grants, keyLeft}
+use Rattle.rules.specs.Like.{givenTo, Respaced, SameReading, both-granted, both-refused}
 use Rattle.rules.proofs.LikeValues.{Pair, itself, same-names, numbers-length}
 use Rattle.rules.proofs.Beside.{Abreast, Beside, both, stopped, left-out, right-out, Twins}
 use Rattle.rules.proofs.LikeLaws.{reading-like}
@@ -26,7 +24,7 @@ use Rattle.rules.proofs.CallLaws.{left-by}
 ruled-like : {c d : Call} → Respaced c d → Beside true itself (ruled c) (ruled d)
 ruled-like {c} {d} r =
     let w : Twins true (givenTo c) (givenTo d) =
-        record { like = r .like; room = λ _. ap (λ (l : Lent). l .nodes / recordWords) (r .lent); records = λ _. ap (λ (l : Lent). l .notes / noteWidth) (r .lent) } in
+    record { like = r .like; room = λ _. ap (λ (l : Lent). l .nodes / recordWords) (r .lent); records = λ _. ap (λ (l : Lent). l .notes / noteWidth) (r .lent) } in
     rw (r .start) (reading-like w (d .start))
 
 -- What a call leaves where a tree was read: by a test, its key and names fit what is lent, or 11.
