@@ -5,7 +5,7 @@ use mathlib.Core.Bool.{Bool, true, false}
 use mathlib.Core.List.{List}
 use Prim.Native.Nat.{ℕ, _/_, _^_, _≤_, _<_}
 use native.Mathlib.Omega.{arith}
-use lib.ListN.{length}
+use lib.ListN.{length, take}
 use lib.Seq.{take-append-seam}
 use Rattle.words.specs.Limits.{tallest, mostNotes, mostKey}
 use Rattle.words.specs.Check.{sound, check}
@@ -23,8 +23,8 @@ use Rattle.rules.specs.State.{Given, State, end, read as got}
 use Rattle.rules.specs.Reading.{reading}
 use Rattle.rules.specs.Read.{granted, denied, Outcome, outcome, refuses, written, read}
 use Rattle.rules.specs.Places.{after, InOrder}
-use Rattle.rules.specs.Call.{Call, left, ruled, grants, keyLeft, Granted, Kept, AllZero, IsRefusal}
-use Rattle.rules.specs.Like.{Respaced, SameReading}
+use Rattle.rules.specs.Call.{Call, left, ruled, grants, keySize, keyLeft, Granted, Kept, AllZero, IsRefusal}
+use Rattle.rules.specs.Like.{Respaced, noteNumbers, withoutByte, SameReading, both-granted, both-refused}
 use Rattle.rules.proofs.TokenLaws.{Checked, taken-inside, text-few, words-few}
 use Rattle.rules.proofs.FewLaws.{nodes-most}
 use Rattle.rules.proofs.ToldLaws.{names-told}
@@ -128,6 +128,12 @@ module _ {c : Call} {t : Placed} {s : State} (x : Granted c t s) where
   pub call-notes : Each (NoteStands (length (c .text))) (s .notes)
   call-notes = notes-stand _ (c .start) (x .bytes) (facts x .passed) (x .rules)
 
+  -- Its nodes stand in order, each inside its parent, and all end inside the text.
+  pub call-in-order : InOrder 0 t × (after 0 t ≤ length (c .text))
+  call-in-order =
+      let f = facts x in
+      (tree-in-order _ (c .start) (x .bytes) (f .passed) (x .rules), tree-in-text _ (c .start) (x .bytes) (f .passed) (x .rules))
+
   -- The key that it leaves is its tree's.
   pub call-key : keyLeft (left c) ≡ keyOf (bare t)
   call-key = ap keyLeft call-leaves ∙ take-append-seam (keyOf (bare t)) _
@@ -171,6 +177,32 @@ lengths-kept c bytes = by (grants (left c .answer)) refl
     by true e = kept-granted (facts (record { bytes = bytes; grant = e; rules = ruled-by c e .2 }))
     by false e = kept-refused (call-refused c e)
 
--- Spaces don't matter (02, W14): two calls on like lists are granted the same tree, positions aside, with the same answer and key and diagnostics of the same numbers; or both are refused alike.
-pub spaces : (c d : Call) → Bytes (c .text) → Bytes (d .text) → Respaced c d → SameReading c d
-spaces c d bytes bytes' r = calls-alike c d bytes bytes' r
+-- ---- Two calls on like lists (02, W14)
+module _ (c d : Call) (bytes : Bytes (c .text)) (bytes' : Bytes (d .text)) (r : Respaced c d) where
+  -- Spaces don't matter: both are granted the same tree, positions aside, with the same answer and key and diagnostics of the same numbers; or both are refused alike.
+  pub spaces : SameReading c d
+  spaces = calls-alike c d bytes bytes' r
+
+  -- They have the same answer but for the byte of a refusal.
+  pub spaces-answer : withoutByte (left c .answer) ≡ withoutByte (left d .answer)
+  spaces-answer = by spaces
+    where
+      by : SameReading c d → withoutByte (left c .answer) ≡ withoutByte (left d .answer)
+      by (both-granted x y a) = ap withoutByte (a .answer)
+      by (both-refused e f) = ap withoutByte e ∙ sym (ap withoutByte f)
+
+  -- They leave the same key.
+  pub spaces-key : keyLeft (left c) ≡ keyLeft (left d)
+  spaces-key = by spaces
+    where
+      by : SameReading c d → keyLeft (left c) ≡ keyLeft (left d)
+      by (both-granted x y a) = a .key
+      by (both-refused e f) = ap (λ a. take (keySize a) (left c .key)) e ∙ sym (ap (λ a. take (keySize a) (left d .key)) f)
+
+  -- Trees that they are granted are the same, positions aside, and so are the numbers of their diagnostics.
+  pub spaces-tree : {t u : Placed} {s q : State} → Granted c t s → Granted d u q → (bare t ≡ bare u) × (noteNumbers (s .notes) ≡ noteNumbers (q .notes))
+  spaces-tree {t} {u} {s} {q} x y = by spaces
+    where
+      by : SameReading c d → (bare t ≡ bare u) × (noteNumbers (s .notes) ≡ noteNumbers (q .notes))
+      by (both-granted v w a) = (cc (v .rules, x .rules, w .rules, y .rules, a .tree), cc (v .rules, x .rules, w .rules, y .rules, a .notes))
+      by (both-refused e f) = let z : true ≡ false = sym (x .grant) ∙ ap grants e in clash (cc)

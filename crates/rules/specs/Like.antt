@@ -9,7 +9,7 @@ use Rattle.words.specs.Check.{sound, spelled, check}
 use Rattle.keys.specs.Placed.{Placed, bare}
 use Rattle.rules.specs.Notes.{Note}
 use Rattle.rules.specs.State.{Given, State}
-use Rattle.rules.specs.Read.{given, refuses}
+use Rattle.rules.specs.Read.{given, Answer, reads, refuses}
 use Rattle.rules.specs.Call.{Call, left, keyLeft, Granted}
 
 -- As many tokens, at each index of the same kind, newline flag and spelled bytes, and the same preserve_parens. Texts and starts may differ.
@@ -36,6 +36,11 @@ pub record Respaced (c d : Call) : Type 0 where
 abbrev pub noteNumbers : List Note → List ℕ
 noteNumbers [] = []
 noteNumbers (n ∷ l) = n .number ∷ noteNumbers l
+
+-- an answer but for the byte of a refusal
+abbrev pub withoutByte : Answer → Answer
+withoutByte (reads nodes names notes at half key) = reads nodes names notes at half key
+withoutByte (refuses number token half byte) = refuses number token half 0
 
 -- Two granted calls read the same tree, positions aside: the same answer, so the same end cursor, the same key, and diagnostics of the same numbers.
 pub record GrantedAlike (c d : Call) (t u : Placed) (s q : State) : Type 0 where
