@@ -1,10 +1,10 @@
--- The three demands, sentence by sentence, of what a caller of the open calls sees, and what W9 asks of the third. A text or a key is a list of bytes; trees are compared as bare values, positions aside.
+-- The three demands, sentence by sentence, of what a caller of the open calls sees, what W9 asks of the third, and W14's positions and spaces. A text or a key is a list of bytes; trees are compared as bare values, positions aside.
 -- That what is seen is `left c`, `takeBack` or `differ`, whatever is given and lent, is the promise of each call: `Reads` in `calls/specs/Reading`, `TakesBack` in Taking, `Differs` in `differs/specs/Call`.
 use mathlib.Core.Path.{_≡_, refl, sym, ap, _∙_, subst}
 use mathlib.Core.Logic.{_↔_}
 use mathlib.Core.Bool.{Bool, true, false}
 use mathlib.Core.List.{List, []}
-use Prim.Native.Nat.{ℕ, _+_, _*_, _/_}
+use Prim.Native.Nat.{ℕ, _+_, _*_, _/_, _≤_}
 use lib.Dec.{leb}
 use lib.ListN.{length, take}
 use lib.Seq.{take-append-seam}
@@ -23,6 +23,8 @@ use Rattle.keys.proofs.Theorems.{one-standing}
 use Rattle.rules.specs.State.{State}
 use Rattle.rules.specs.Read.{granted, refuses, Called, written}
 use Rattle.rules.specs.Call.{Call, left, grants, keyLeft, Granted, Kept, AllZero, IsRefusal}
+use Rattle.rules.specs.Places.{after, InOrder}
+use Rattle.rules.specs.Like.{Respaced, noteNumbers, withoutByte}
 use Rattle.rules.proofs.Theorems as rules
 use Rattle.differs.specs.Content.{Pair, contentOf, differences}
 use Rattle.differs.specs.Differ as difference
@@ -78,6 +80,10 @@ module _ (c : Call) (bytes : Bytes (c .text)) {z : Called} (seen : z ≡ left c)
           namesThere = ap (λ y. take (length (namesOf t)) (y .nameWords)) granted-leaves ∙ take-append-seam (namesOf t) _;
           spelled = rules.call-spelled x;
         }
+
+    -- W14: a node's first byte is below its end byte, a child's bytes lie inside its parent's, entries of a list come in order without overlap, and all end inside the text.
+    pub granted-in-order : InOrder 0 t × (after 0 t ≤ length (c .text))
+    granted-in-order = rules.call-in-order x
 
     -- The key is the tree's, as the node table lays it out.
     pub granted-key : keyLeft z ≡ keyOf (bare t)
@@ -184,6 +190,20 @@ module _ {c c' : Call} {t t' : Placed} {s s' : State} (x : Granted c t s) (x' : 
       let same = sym (ap (λ y. y .answer) (granted-leaves c (x .bytes) seen x)) ∙ f ∙ ap (λ y. y .answer) (granted-leaves c' (x' .bytes) seen' x') in
       let count : nodes (bare t) ≡ nodes (bare t') = cc in
       one-standing {q = t'} (granted-stands c (x .bytes) seen x) (rw (e, n, m) (granted-stands c' (x' .bytes) seen' x')) count
+
+-- ---- W14: two readings of lists past refusals 1 and 2 that are alike in kinds, newline flags, spellings, start, option and room
+module _ {c c' : Call} (bytes : Bytes (c .text)) (bytes' : Bytes (c' .text)) (r : Respaced c c') {z z' : Called} (seen : z ≡ left c) (seen' : z' ≡ left c') where
+  -- They have the same answer but for the byte of a refusal: the same refusal number, token and half, or the same counts and end cursor ..
+  pub spaced-answer : withoutByte (z .answer) ≡ withoutByte (z' .answer)
+  spaced-answer = ap (λ y. withoutByte (y .answer)) seen ∙ rules.spaces-answer c c' bytes bytes' r ∙ sym (ap (λ y. withoutByte (y .answer)) seen')
+
+  -- .. the same key ..
+  pub spaced-key : keyLeft z ≡ keyLeft z'
+  spaced-key = ap keyLeft seen ∙ rules.spaces-key c c' bytes bytes' r ∙ sym (ap keyLeft seen')
+
+  -- .. and, where trees are granted, the same tree and diagnostics of the same numbers.
+  pub spaced-tree : {t t' : Placed} {s s' : State} → Granted c t s → Granted c' t' s' → (bare t ≡ bare t') × (noteNumbers (s .notes) ≡ noteNumbers (s' .notes))
+  spaced-tree x x' = rules.spaces-tree c c' bytes bytes' r x x'
 
 -- ---- Nothing is left open: any two results that fit a call's promise coincide, without exception
 
