@@ -17,7 +17,8 @@ use Rattle.rules.specs.Notes.{Note}
 use Rattle.rules.specs.State.{Given, State, Result, read, refuse, refused, then, next, past, stands, kind, kindAfter, onLine, nextOnLine, spelling, overlong, make, report, reportIf}
 use Rattle.rules.specs.Like.{Like, noteNumbers}
 use Rattle.rules.proofs.LikeWords.{kind-at, line-at}
-use Rattle.rules.proofs.LikeValues.{Pair, test-like, itself, numbers-more, numbers-length}
+use Rattle.rules.proofs.Gives.{itself}
+use Rattle.rules.proofs.LikeValues.{Pair, test-like, numbers-more, numbers-length}
 
 -- Two readings stand at the same cursor; where exact, with as many nodes in use and diagnostics of the same numbers.
 pub record Near (exact : Bool) (s t : State) : Type 0 where

@@ -32,7 +32,8 @@ use Rattle.rules.specs.TypeRule.{begins, conditional, unionOrConditional
 use Rattle.rules.specs.Reading.{readType, reading}
 use Rattle.rules.specs.Like.{Like}
 use Rattle.rules.proofs.LikeWords.{starter-at, modifies-at, function-at, mapped-at, index-at, readonly-at, modifier-at, accessor-at}
-use Rattle.rules.proofs.LikeValues.{Pair, test-like, twice, presents, present-lists, itself, listedPieces, listed-more, names-more, pieces-with, same-none, same-count, same-many, same-element, same-asked, same-rest, same-optional, same-literal, same-no-index, same-latest}
+use Rattle.rules.proofs.Gives.{itself}
+use Rattle.rules.proofs.LikeValues.{Pair, test-like, twice, presents, present-lists, listedPieces, listed-more, names-more, pieces-with, same-none, same-count, same-many, same-element, same-asked, same-rest, same-optional, same-literal, same-no-index, same-latest}
 use Rattle.rules.proofs.LikeParts.{shapeOfThis, shapeOfParameters, with-this, shapeOfTrial, shapeOfParameter, shapeOfIndex, Indexes, none-index, one-index, several-index, indexes, same-has, same-kept, index-more}
 use Rattle.rules.proofs.Beside.{Near, Abreast, Beside, both, stopped, left-out, right-out, Twins, Agree, nexts, here, refusal, beside-test, beside-then, same-kind, same-stands, same-after, same-line, same-next-line, spelled, pasts, beside-expect, beside-report, beside-report-if, beside-make}
 

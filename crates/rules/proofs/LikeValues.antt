@@ -19,6 +19,7 @@ use Rattle.rules.specs.Notes.{Note}
 use Rattle.rules.specs.List.{noEntry, count}
 use Rattle.rules.specs.Tuple.{isOptionalElement, latestFrom, latestOptional}
 use Rattle.rules.specs.Like.{noteNumbers}
+use Rattle.rules.proofs.Gives.{itself}
 use Rattle.rules.proofs.PartLaws.{pieces-more}
 
 -- Two values that are the same as the node table has them, positions aside.
@@ -35,10 +36,6 @@ test-like R {c = c} {x = x} {y = y} {x' = x'} {y' = y'} e f h = rw e (by c)
     by : (c : Bool) → R (test c x y) (test c x' y')
     by true = f tt
     by false = h tt
-
--- A tree as a value.
-abbrev pub itself : Placed → Placed
-itself t = t
 
 -- The types of a template, each with its spelling, as values.
 abbrev pub listedPieces : List (Placed × Spelling) → Placed

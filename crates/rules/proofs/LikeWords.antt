@@ -13,10 +13,10 @@ use Rattle.rules.specs.Like.{Like}
 -- ---- Two lists of words, whatever their texts
 
 -- As many words, of the same kinds and newline flags.
-pub record Same (v w : List ℕ) : Type 0 where
-  pub many : length v ≡ length w
-  pub kinds : (i : ℕ) → kind (getD v i 0) ≡ kind (getD w i 0)
-  pub lines : (i : ℕ) → newline (getD v i 0) ≡ newline (getD w i 0)
+record Same (v w : List ℕ) : Type 0 where
+  many : length v ≡ length w
+  kinds : (i : ℕ) → kind (getD v i 0) ≡ kind (getD w i 0)
+  lines : (i : ℕ) → newline (getD v i 0) ≡ newline (getD w i 0)
 
 same-tail : {a b : ℕ} {v w : List ℕ} → Same (a ∷ v) (b ∷ w) → Same v w
 same-tail s = record { many = cc; kinds = λ i. s .kinds (suc i); lines = λ i. s .lines (suc i) }

@@ -15,7 +15,8 @@ use Rattle.rules.specs.State.{State, Result, read as got}
 use Rattle.rules.specs.Read.{Lent, granted, denied, fits, keyed, Called, written}
 use Rattle.rules.specs.Call.{Call, left, ruled, grants, keyLeft}
 use Rattle.rules.specs.Like.{givenTo, Respaced, SameReading, both-granted, both-refused}
-use Rattle.rules.proofs.LikeValues.{Pair, itself, same-names, numbers-length}
+use Rattle.rules.proofs.Gives.{itself}
+use Rattle.rules.proofs.LikeValues.{Pair, same-names, numbers-length}
 use Rattle.rules.proofs.Beside.{Abreast, Beside, both, stopped, left-out, right-out, Twins}
 use Rattle.rules.proofs.LikeLaws.{reading-like}
 use Rattle.rules.proofs.CallLaws.{left-by}

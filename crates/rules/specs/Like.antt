@@ -12,7 +12,7 @@ use Rattle.rules.specs.State.{Given, State}
 use Rattle.rules.specs.Read.{given, Answer, reads, refuses}
 use Rattle.rules.specs.Call.{Call, left, keyLeft, Granted}
 
--- As many tokens, at each index of the same kind, newline flag and spelled bytes, and the same preserve_parens. Texts and starts may differ.
+-- As many tokens, at each index the same kind, newline flag and spelled bytes, and the same preserve_parens. The texts may differ, and where tokens stand in them.
 pub record Like (g h : Given) : Type 0 where
   pub many : length (g .words) ≡ length (h .words)
   pub kinds : (i : ℕ) → wholeKind (g .words) i ≡ wholeKind (h .words) i
@@ -24,7 +24,7 @@ pub record Like (g h : Given) : Type 0 where
 abbrev pub givenTo : Call → Given
 givenTo c = given (c .text) (c .words) (c .parens) (c .lent)
 
--- Two calls on lists past refusals 1 and 2 that are alike, from the same token on, with the same lent: only what stands between tokens may differ.
+-- Two calls on lists past refusals 1 and 2 that are alike, from the same token on, with as much lent: they may differ in what stands between tokens.
 pub record Respaced (c d : Call) : Type 0 where
   pub passed : check (c .text) (c .words) (c .start) ≡ sound
   pub alsoPassed : check (d .text) (d .words) (d .start) ≡ sound
