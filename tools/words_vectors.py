@@ -197,6 +197,23 @@ def spellings(c):
             c.check(*laid([(k, s)], 1))
 
 
+ROWS = [(1, "any"), (1, "anyy"), (1, "undefined"), (1, "undefinedx"), (1, "{"), (41, "=>"), (41, "=="), (41, "a"), (83, "out"), (83, "get"),
+        (107, "in"), (107, "class"), (64, "all"), (2, "any")]
+
+
+def guesses(c):
+    """Words and marks that are a fixed spelling but for a little, most of them with its length, its first or its last byte."""
+    for k, s in ROWS:
+        c.check(*laid([(k, s.encode())], 1))
+    for k in (1, 41):
+        for s in sorted(SPELL.values()):
+            near = [bytes([s[0] ^ 128]) + s[1:], s[:-1] + bytes([s[-1] ^ 64]), s[:-1] + bytes([s[-1] ^ 128]), s[:-1] + bytes([s[-1] ^ 1])]
+            near += [s[:i] + b"~" + s[i + 1:] for i in range(1, len(s) - 1)]
+            near += [s + s[-1:] * 16, s[:1] * 16 + s, s + b"~" * 15 + s[-1:]]      # sixteen bytes more
+            for t in near:
+                c.check(*laid([(k, t)], 1))
+
+
 def places(c):
     text = b"abc def ghi"
     end = pack(EOF, 0, 11, 0)
@@ -424,7 +441,7 @@ def samples(c):
 
 def cases():
     c = Cases()
-    for part in (kinds, spellings, places, two_at_once, cursors, fields, starters, function_starts, mapped_starts, samples, limits):
+    for part in (kinds, spellings, guesses, places, two_at_once, cursors, fields, starters, function_starts, mapped_starts, samples, limits):
         part(c)
     return c
 
