@@ -1,5 +1,6 @@
 #!/usr/bin/env python3
-"""Writes the constant tables of crates/words/src/tables.rt: class words, places of spellings, letters.
+"""Writes the constant tables of crates/words/src/tables.rt: class words, places of spellings, letters,
+guesses.
 
     tools/tables.py          write them
     tools/tables.py --check  say whether they are as they would be written
@@ -31,6 +32,17 @@ def letters():
     return text, places
 
 
+def guesses():
+    """The one kind whose spelling can have a length, a first and a last byte; a place for each sum of the three."""
+    table = [0] * 128
+    for kind, s in model.SPELL.items():
+        at = (8 * (len(s) % 16) + 13 * s[0] + 46 * s[-1]) % 128
+        if table[at]:
+            sys.exit("the spellings of %d and %d have one place" % (table[at], kind))
+        table[at] = kind
+    return table
+
+
 def array(name, kind, values):
     rows = ["    " + ", ".join(str(v) for v in values[i:i + 16]) + ",\n" for i in range(0, len(values), 16)]
     return "pub const %s: [%s; %d] = [\n%s];\n" % (name, kind, len(values), "".join(rows))
@@ -41,6 +53,7 @@ def tables():
     yield "pub const LETTERS: [u8; %d] = *b\"%s\";\n" % (len(text), text.decode())
     yield array("CLASSES", "u16", [classes(k) for k in range(256)])
     yield array("PLACES", "u16", places)
+    yield array("GUESSES", "u8", guesses())
 
 
 def main():

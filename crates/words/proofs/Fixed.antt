@@ -5,16 +5,18 @@ use mathlib.Core.List.{List, [], _∷_, _++_}
 use Prim.Native.Nat.{ℕ, zero, suc, _+_, _-_, _*_, _/_, _%_, _≤_, _<_}
 use native.Mathlib.Omega.{arith}
 use borrow.Author.Tests.{eqb-true, leb-true, ltb-true, lt-leb}
+use native.Mathlib.Nat.{add-zero}
+use lib.Seq.{getD-take, getD-drop}
 use lib.Dec.{eqb, leb, ltb}
 use lib.ListN.{length, getD, take, drop}
 use mathlib.Core.Logic.{⊎-elim}
 use Rattle.words.specs.Test.{_and_, _or_, same, someBelow, between}
 use Rattle.words.specs.Kind.{LCurly, Star, Any, Unique, Extends, Const}
 use Rattle.words.specs.Class.{fixed}
-use Rattle.words.specs.Spelling.{spelling, spelledAs, spelledAsAny, fixedLetters, fixedPlaces}
+use Rattle.words.specs.Spelling.{spelling, spelledAs, spelledAsAny, fixedLetters, fixedPlaces, guessPlace, guessPlaceOf, fixedGuesses}
 use Rattle.words.specs.Check.{part}
-use Rattle.words.proofs.Tests.{every-below, below-each, both-true, lt-or-le}
-use Rattle.words.proofs.Bytes.{same-eq}
+use Rattle.words.proofs.Tests.{every-below, below-each, some-of, some-gives, both-true, both-ways, not-or, lt-or-le}
+use Rattle.words.proofs.Bytes.{same-eq, part-length, part-some}
 
 abbrev empty : List ℕ → Bool
 empty [] = true
@@ -129,19 +131,71 @@ fixed-low k e = ⊎-elim (λ l. l) (λ g. absurd (never g)) (lt-or-le k 107)
         let z : _≡_ {A = ℕ} 0 1 = cc in
         omega arith
 
--- one kind more
-some-more : (f : ℕ → Bool) (k : ℕ) → 0 < k → someBelow k f ≡ (f (k - 1) or someBelow (k - 1) f)
-some-more f zero h = absurd (omega arith)
-some-more f (suc k) h = ap (λ (i : ℕ). f i or someBelow i f) less
+-- ---- the guess
+-- its place, of a part of a text
+pub guess-part : (text : List ℕ) (at n : ℕ) → at + n ≤ length text → 1 ≤ n → guessPlaceOf (part text at n) ≡ guessPlace n (getD text at 0) (getD text (at + (n - 1)) 0)
+guess-part text at n h m = λ i. guessPlace (part-length text at n h i) (first i) (last i)
   where
-    less : k ≡ suc k - 1
-    less = omega arith
+    byte : (j : ℕ) → j < n → getD (part text at n) j 0 ≡ getD text (at + j) 0
+    byte j l = getD-take n (drop at text) j 0 l ∙ getD-drop at text j 0
 
-pub some-spelled : (s : List ℕ) (k : ℕ) → 1 ≤ length s → 0 < k → k ≤ 107 → {b : Bool} → same (spelling (k - 1)) s ≡ b
-    → someBelow k (spelledAs s) ≡ (b or someBelow (k - 1) (spelledAs s))
-some-spelled s k l h m e =
-    some-more (spelledAs s) k h ∙ ap (λ (x : Bool). x or someBelow (k - 1) (spelledAs s)) (spelled-is s (k - 1) l (omega arith) ∙ e)
+    first : getD (part text at n) 0 0 ≡ getD text at 0
+    first = byte 0 (omega arith) ∙ ap (λ (j : ℕ). getD text j 0) (add-zero at)
 
-pub none-spelled : (s : List ℕ) (k : ℕ) → k ≤ 0 → someBelow k (spelledAs s) ≡ false
-none-spelled s zero h = refl
-none-spelled s (suc k) h = absurd (omega arith)
+    last : getD (part text at n) (length (part text at n) - 1) 0 ≡ getD text (at + (n - 1)) 0
+    last = ap (λ (j : ℕ). getD (part text at n) (j - 1) 0) (part-length text at n h) ∙ byte (n - 1) (omega arith)
+
+-- the guess of kind k's spelling, if it is fixed, is k
+abbrev own-guess : List ℕ → ℕ → Bool
+own-guess guesses k = not (fixed k) or eqb (getD guesses (guessPlaceOf (spelling k)) 0) k
+
+abbrev low-guess : List ℕ → ℕ → Bool
+low-guess guesses i = ltb (getD guesses i 0) 107
+
+-- the guess of each fixed spelling is its kind, and no guess is another number
+abbrev guesses-all : List ℕ → Bool
+guesses-all guesses =
+    every-below 107 (own-guess guesses) and every-below 128 (low-guess guesses)
+
+fixed-guessed : guesses-all fixedGuesses ≡ true
+fixed-guessed = refl
+
+module _ (guesses : List ℕ) (p : guesses ≡ fixedGuesses) where
+  abbrev guessed : List ℕ → ℕ
+  guessed s = getD guesses (guessPlaceOf s) 0
+
+  lawful : guesses-all guesses ≡ true
+  lawful = ap guesses-all p ∙ fixed-guessed
+
+  both : (every-below 107 (own-guess guesses) ≡ true) × (every-below 128 (low-guess guesses) ≡ true)
+  both = both-true (every-below 107 (own-guess guesses)) (every-below 128 (low-guess guesses)) lawful
+
+  pub guess-low : (i : ℕ) → i < 128 → getD guesses i 0 < 107
+  guess-low i h = ltb-true (getD guesses i 0) 107 (below-each 128 (low-guess guesses) (both .1) i h)
+
+  fixed-guess : (k : ℕ) → k < 107 → fixed k ≡ true → guessed (spelling k) ≡ k
+  fixed-guess k h e =
+      eqb-true (guessed (spelling k)) k (not-or (fixed k) _ (below-each 107 (own-guess guesses) (both .0) k h) e)
+
+  -- some bytes are a fixed spelling exactly when they are that of their guess
+  pub guess-tells : (s : List ℕ) → 1 ≤ length s → spelledAsAny s ≡ same (spelling (guessed s)) s
+  guess-tells s h = both-ways (spelledAsAny s) (same (spelling (guessed s)) s) (some-gives 107 (spelledAs s) (same (spelling (guessed s)) s) found) back
+    where
+      found : (k : ℕ) → k < 107 → spelledAs s k ≡ true → same (spelling (guessed s)) s ≡ true
+      found k l e =
+          let is-both = both-true (fixed k) (same (spelling k) s) e in
+          let is : spelling k ≡ s = same-eq (spelling k) s (is-both .1) in
+          let kind : guessed s ≡ k = ap guessed (sym is) ∙ fixed-guess k l (is-both .0) in
+          ap (λ (j : ℕ). same (spelling j) s) kind ∙ is-both .1
+
+      back : same (spelling (guessed s)) s ≡ true → spelledAsAny s ≡ true
+      back e =
+          let low : guessed s < 107 = guess-low (guessPlaceOf s) (omega arith) in
+          some-of 107 (spelledAs s) (guessed s) low (spelled-is s (guessed s) h low ∙ e)
+
+  -- the same of a part of a text whose guess is k
+  pub guess-decides : (text : List ℕ) (at n k : ℕ) → at + n ≤ length text → 1 ≤ n → k ≡ getD guesses (guessPlace n (getD text at 0) (getD text (at + (n - 1)) 0)) 0
+      → same (spelling k) (part text at n) ≡ spelledAsAny (part text at n)
+  guess-decides text at n k h m e =
+      ap (λ (j : ℕ). same (spelling j) (part text at n)) (e ∙ ap (λ (i : ℕ). getD guesses i 0) (sym (guess-part text at n h m)))
+      ∙ sym (guess-tells (part text at n) (part-some text at n h m))

@@ -12,7 +12,7 @@ use lib.ListN.{length, getD, length-append, List·getD-append}
 use lib.Seq.{getD-at}
 use lib.Pow.{shr-shr}
 use borrow.Author.Tests.{eq-eqb, ne-eqb}
-use Rattle.words.specs.Test.{_and_, _or_, among}
+use Rattle.words.specs.Test.{_and_, _or_, among, someBelow}
 use Rattle.words.specs.Class.{bit, packed, table, classesOf, classWord, classWords, inClass}
 use Rattle.words.specs.Word.{end}
 use Rattle.words.specs.Cursor.{wordAt, secondHalf, left, onLine, firstByte, endByte}
@@ -64,6 +64,38 @@ below-each (suc n) f e k h =
   where
     suc-one : suc k ≡ suc n → k ≡ n
     suc-one q = omega arith
+
+-- ---- some number below n passes exactly when one of them does
+or-right : (a b : Bool) → b ≡ true → (a or b) ≡ true
+or-right true b e = refl
+or-right false b e = e
+
+or-gives : (x y b : Bool) → (x ≡ true → b ≡ true) → (y ≡ true → b ≡ true) → (x or y) ≡ true → b ≡ true
+or-gives true y b f g e = f refl
+or-gives false y b f g e = g e
+
+pub not-or : (a b : Bool) → (not a or b) ≡ true → a ≡ true → b ≡ true
+not-or true b e p = e
+not-or false b e p = let z : _≡_ {A = ℕ} 0 1 = cc in absurd (omega arith)
+
+pub both-ways : (a b : Bool) → (a ≡ true → b ≡ true) → (b ≡ true → a ≡ true) → a ≡ b
+both-ways true b f g = sym (f refl)
+both-ways false true f g = g refl
+both-ways false false f g = refl
+
+pub some-of : (n : ℕ) (f : ℕ → Bool) (k : ℕ) → k < n → f k ≡ true → someBelow n f ≡ true
+some-of zero f k h e = absurd (omega arith)
+some-of (suc n) f k h e =
+    ⊎-elim (λ q. ap (λ (x : Bool). x or someBelow n f) (ap f (suc-one q) ∙ e)) (λ l. or-right (f n) (someBelow n f) (some-of n f k (omega arith) e))
+    (eq-or-lt-of-le h)
+  where
+    suc-one : suc k ≡ suc n → n ≡ k
+    suc-one q = omega arith
+
+pub some-gives : (n : ℕ) (f : ℕ → Bool) (b : Bool) → ((k : ℕ) → k < n → f k ≡ true → b ≡ true) → someBelow n f ≡ true → b ≡ true
+some-gives zero f b g e = let z : _≡_ {A = ℕ} 0 1 = cc in absurd (omega arith)
+some-gives (suc n) f b g e =
+    or-gives (f n) (someBelow n f) b (g n (omega arith)) (some-gives n f b (λ k h. g k (omega arith))) e
 
 -- ---- class words
 pub bit-test : (b : Bool) → eqb (bit b) 1 ≡ b

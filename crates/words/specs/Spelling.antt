@@ -1,12 +1,12 @@
 -- The spellings that 01's table of kinds fixes, and what a token's bytes must be.
-use Prim.Native.Nat.{ℕ, zero, suc, _+_, _-_, _*_}
+use Prim.Native.Nat.{ℕ, zero, suc, _+_, _-_, _*_, _%_}
 use Prim.Native.Char.{Char, code}
 use Prim.Native.String as S
 use Prim.Native.String.{String}
 use mathlib.Core.Bool.{Bool, true, false, not}
 use mathlib.Core.List.{List, [], _∷_, _++_}
 use lib.Dec.{eqb, leb}
-use lib.ListN.{getD, length}
+use lib.ListN.{getD, length, set, replicate}
 use Rattle.words.specs.Test.{_and_, _or_, same, test, someBelow, among}
 use Rattle.words.specs.Kind.{Word, LCurly, Any, Extends, OtherReserved}
 use Rattle.words.specs.Class.{fixed, other}
@@ -76,3 +76,20 @@ placesFrom (suc n) k at = (at * 16 + length (spelling k)) ∷ placesFrom n (suc 
 
 abbrev pub fixedPlaces : List ℕ
 fixedPlaces = placesFrom 256 0 0
+
+-- ---- the one kind whose fixed spelling a byte string can be, as the code guesses it
+
+-- where the guess for a string of n bytes stands, by its first and its last byte
+abbrev pub guessPlace : ℕ → ℕ → ℕ → ℕ
+guessPlace n first last = (8 * (n % 16) + 13 * first + 46 * last) % 128
+
+abbrev pub guessPlaceOf : List ℕ → ℕ
+guessPlaceOf s = guessPlace (length s) (getD s 0 0) (getD s (length s - 1) 0)
+
+-- each fixed kind below k at the place of its spelling, 0 elsewhere
+abbrev pub guessesBelow : ℕ → List ℕ
+guessesBelow zero = replicate 128 0
+guessesBelow (suc k) = test (fixed k) (λ _. set (guessesBelow k) (guessPlaceOf (spelling k)) k) (λ _. guessesBelow k)
+
+abbrev pub fixedGuesses : List ℕ
+fixedGuesses = guessesBelow OtherReserved

@@ -5,7 +5,7 @@ ghost use Prim.Native.Nat.{_^_, _<_};
 ghost use lib.ListN.{length};
 ghost use Rattle.words.specs.Check as check;
 ghost use Rattle.words.specs.Verdict.{verdict};
-ghost use Rattle.words.specs.Spelling.{fixedLetters, fixedPlaces};
+ghost use Rattle.words.specs.Spelling.{fixedGuesses, fixedLetters, fixedPlaces};
 ghost use Rattle.words.specs.Class.{classWords};
 use crate::kind::Class;
 use crate::kind::Kind;
@@ -14,6 +14,7 @@ use crate::kind::in_class;
 use crate::limits::Text;
 use crate::limits::Tokens;
 use crate::spelling::spelled_right;
+use crate::spelling::spelling_guesses;
 use crate::spelling::spelling_letters;
 use crate::spelling::spelling_places;
 use crate::token;
@@ -61,8 +62,9 @@ fn good_word(
     classes: &[u16; 256],
     places: &[u16; 256],
     letters: &[u8; 189],
+    guesses: &[u8; 128],
 ) -> bool
-    requires { ⌜ (now classes ≡ classWords) × (now places ≡ fixedPlaces) × (now letters ≡ fixedLetters) ⌝ }
+    requires { ⌜ (now classes ≡ classWords) × (now places ≡ fixedPlaces) × (now letters ≡ fixedLetters) × (now guesses ≡ fixedGuesses) ⌝ }
     ensures { λ r. ⌜ r ≡ check.goodWord (now (text .entry)) before last word ⌝ }
 {
     let kind = token::kind(word);
@@ -84,7 +86,7 @@ fn good_word(
     if kind == Kind::EOF {
         return true;
     }
-    spelled_right(text, from, n, classes, places, letters, kind)
+    spelled_right(text, from, n, classes, places, letters, guesses, kind)
 }
 
 // The lowest bad word.
@@ -94,8 +96,9 @@ fn words_from(
     classes: &[u16; 256],
     places: &[u16; 256],
     letters: &[u8; 189],
+    guesses: &[u8; 128],
 ) -> Checked
-    requires { ⌜ (now classes ≡ classWords) × (now places ≡ fixedPlaces) × (now letters ≡ fixedLetters) ⌝ }
+    requires { ⌜ (now classes ≡ classWords) × (now places ≡ fixedPlaces) × (now letters ≡ fixedLetters) × (now guesses ≡ fixedGuesses) ⌝ }
     ensures { λ r. ⌜ verdict r ≡ check.wordsFrom (now (text .entry)) 0 0 (now (words .entry)) ⌝ }
 {
     let mut before: usize = 0;
@@ -111,6 +114,7 @@ fn words_from(
             classes,
             places,
             letters,
+            guesses,
         ) {
             return Checked::BadToken(i);
         }
@@ -136,5 +140,6 @@ pub fn check(text: &[u8], words: &[u64], start: usize) -> Checked
     let classes = class_words();
     let places = spelling_places();
     let letters = spelling_letters();
-    words_from(text, words, &classes, &places, &letters)
+    let guesses = spelling_guesses();
+    words_from(text, words, &classes, &places, &letters, &guesses)
 }

@@ -1,14 +1,15 @@
 // The fixed spellings, and what a token's bytes must be.
 ghost use mathlib.Core.Path.{_≡_};
 ghost use Prim.Native.Nat.{_+_, _≤_, _<_};
-ghost use lib.ListN.{length};
+ghost use lib.ListN.{length, getD};
 ghost use Rattle.words.specs.Test.{among, same};
-ghost use Rattle.words.specs.Spelling.{fixedLetters, fixedPlaces, backslash, spelledAsAny, spelledRight, spelling};
+ghost use Rattle.words.specs.Spelling.{fixedGuesses, fixedLetters, fixedPlaces, guessPlace, backslash, spelledAsAny, spelledRight, spelling};
 ghost use Rattle.words.specs.Check.{part};
 ghost use Rattle.words.specs.Class.{classWords};
 use crate::kind::Class;
 use crate::kind::Kind;
 use crate::kind::in_class;
+use crate::tables::GUESSES;
 use crate::tables::LETTERS;
 use crate::tables::PLACES;
 
@@ -22,6 +23,12 @@ pub fn spelling_letters() -> [u8; 189]
     ensures { λ r. ⌜ r ≡ fixedLetters ⌝ }
 {
     LETTERS
+}
+
+pub fn spelling_guesses() -> [u8; 128]
+    ensures { λ r. ⌜ r ≡ fixedGuesses ⌝ }
+{
+    GUESSES
 }
 
 // Whether n bytes of the text are the same as n of the letters.
@@ -58,25 +65,29 @@ pub fn spelled(
     same_bytes(text, at, letters, place / 16, n)
 }
 
-// Whether n bytes of the text, at least one, are the fixed spelling of any kind.
+// The one kind whose fixed spelling n bytes can be, by the first and the last of them: 0 if they can be none.
+fn guess(n: usize, first: u8, last: u8, guesses: &[u8; 128]) -> usize
+    requires { ⌜ now guesses ≡ fixedGuesses ⌝ }
+    ensures { λ r. ⌜ (r ≡ getD (now (guesses .entry)) (guessPlace n first last) 0) × (r < 107) ⌝ }
+{
+    guesses[(8 * (n % 16) + 13 * (first as usize) + 46 * (last as usize)) % 128] as usize
+}
+
+// Whether n bytes of the text, at least one, are the fixed spelling of any kind: only the guessed one is compared.
 pub fn spelled_as_any(
     text: &[u8],
     at: usize,
     n: usize,
     places: &[u16; 256],
     letters: &[u8; 189],
+    guesses: &[u8; 128],
 ) -> bool
-    requires { ⌜ (at + n ≤ length (now text)) × (1 ≤ n) × (now places ≡ fixedPlaces) × (now letters ≡ fixedLetters) ⌝ }
+    requires { ⌜ (at + n ≤ length (now text)) × (1 ≤ n) × (now places ≡ fixedPlaces) × (now letters ≡ fixedLetters) × (now guesses ≡ fixedGuesses) ⌝ }
     ensures { λ r. ⌜ r ≡ spelledAsAny (part (now (text .entry)) at n) ⌝ }
 {
-    let mut kind = Kind::OTHER_RESERVED;
-    while 0 < kind {
-        kind -= 1;
-        if spelled(text, at, n, places, letters, kind) {
-            return true;
-        }
-    }
-    false
+    let behind = n - 1;
+    let kind = guess(n, text[at], text[at + behind], guesses);
+    spelled(text, at, n, places, letters, kind)
 }
 
 // Whether n bytes of the text hold a backslash.
@@ -102,9 +113,10 @@ pub fn spelled_right(
     classes: &[u16; 256],
     places: &[u16; 256],
     letters: &[u8; 189],
+    guesses: &[u8; 128],
     kind: usize,
 ) -> bool
-    requires { ⌜ (at + n ≤ length (now text)) × (1 ≤ n) × (now classes ≡ classWords) × (now places ≡ fixedPlaces) × (now letters ≡ fixedLetters) × (kind < 256) ⌝ }
+    requires { ⌜ (at + n ≤ length (now text)) × (1 ≤ n) × (now classes ≡ classWords) × (now places ≡ fixedPlaces) × (now letters ≡ fixedLetters) × (now guesses ≡ fixedGuesses) × (kind < 256) ⌝ }
     ensures { λ r. ⌜ r ≡ spelledRight kind (part (now (text .entry)) at n) ⌝ }
 {
     if in_class(classes, kind, Class::FIXED) {
@@ -113,7 +125,7 @@ pub fn spelled_right(
     if !in_class(classes, kind, Class::OTHER) {
         return true;
     }
-    if spelled_as_any(text, at, n, places, letters) {
+    if spelled_as_any(text, at, n, places, letters, guesses) {
         return false;
     }
     if kind != Kind::WORD {

@@ -36,19 +36,23 @@ spelling-places-requires c κs = search needs
 spelling-letters-requires : tie.Need-spelling-letters-requires
 spelling-letters-requires c κs = search needs
 
+spelling-guesses-requires : tie.Need-spelling-guesses-requires
+spelling-guesses-requires c κs = search needs
+
 words-from-requires : tie.Need-words-from-requires
 words-from-requires c κs =
-    let class-words = c .before .before .before .before .before .class-words in
-    let spelling-places = c .before .before .before .before .spelling-places in
-    let spelling-letters = c .before .before .before .spelling-letters in
-    (class-words .ensures, spelling-places .ensures, spelling-letters .ensures)
+    let class-words = c .before .before .before .before .before .before .before .class-words in
+    let spelling-places = c .before .before .before .before .before .before .spelling-places in
+    let spelling-letters = c .before .before .before .before .before .spelling-letters in
+    let spelling-guesses = c .before .before .before .before .spelling-guesses in
+    (class-words .ensures, spelling-places .ensures, spelling-letters .ensures, spelling-guesses .ensures)
 
 returns-4 : tie.Need-returns-4
 returns-4 c =
-    let args = c .before .before .before .before .before .before .before .before .before .before .before .before .args in
-    let if1 = c .before .before .before .before .before .before .before .before .before .if1 in
-    let if2 = c .before .before .before .before .before .before .before .before .if2 in
-    let if3 = c .before .before .before .before .before .before .before .if3 in
+    let args = c .before .before .before .before .before .before .before .before .before .before .before .before .before .before .args in
+    let if1 = c .before .before .before .before .before .before .before .before .before .before .before .if1 in
+    let if2 = c .before .before .before .before .before .before .before .before .before .before .if2 in
+    let if3 = c .before .before .before .before .before .before .before .before .before .if3 in
     let words-from = c .words-from in
     words-from .ensures ∙ sym (list-is (args .text .now) (args .words .now) (args .start) (le-leb _ _ (if1 .left)) (le-leb _ _ (if2 .left)) (lt-ltb _ _ (if3 .left)))
 
@@ -62,5 +66,6 @@ check-spec =
     class-words-requires
     spelling-places-requires
     spelling-letters-requires
+    spelling-guesses-requires
     words-from-requires
     returns-4)

@@ -124,7 +124,7 @@ spelled-right-requires c κs =
     let ends-well = c .before .before .ends-well in
     let if4 = c .before .if4 in
     let if5 = c .if5 in
-    (inside _ _ _ _ (sym (placed .ensures) ∙ not-false _ (if3 .left)), bytes-there _ _ _ (if5 .left) (sym (ends-well .ensures) ∙ not-false _ (if4 .left)), pre .0, pre .1, pre .2, omega (arith, kind .ensures))
+    (inside _ _ _ _ (sym (placed .ensures) ∙ not-false _ (if3 .left)), bytes-there _ _ _ (if5 .left) (sym (ends-well .ensures) ∙ not-false _ (if4 .left)), pre .0, pre .1, pre .2, pre .3, omega (arith, kind .ensures))
 
 returns-6 : tie.Need-returns-6
 returns-6 c =

@@ -11,10 +11,10 @@ use Rattle.words.proofs.check.words_from.Statement.{statement}
 use Rattle.words.proofs.check.words_from.Tie as tie
 
 abbrev Inv-loop : tie.InvT-loop
-Inv-loop text words classes places letters before₀ i₀ before i = (i ≤ length words) × (spec.wordsFrom text 0 0 words ≡ spec.wordsFrom text before i (drop i words))
+Inv-loop text words classes places letters guesses before₀ i₀ before i = (i ≤ length words) × (spec.wordsFrom text 0 0 words ≡ spec.wordsFrom text before i (drop i words))
 
 abbrev μ-loop : tie.MeasureT-loop
-μ-loop text words classes places letters before₀ i₀ before i = length words - i
+μ-loop text words classes places letters guesses before₀ i₀ before i = length words - i
 
 loop-holds : tie.Need-loop-holds Inv-loop μ-loop
 loop-holds c = (search needs, refl)

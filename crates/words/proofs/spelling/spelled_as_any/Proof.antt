@@ -1,76 +1,48 @@
--- The invariant: no kind from `kind` up is spelled so. Assumes nothing.
-use mathlib.Core.Path.{_≡_, refl, sym, _∙_}
-use Prim.Native.Nat.{_≤_}
-use Rattle.words.specs.Test.{someBelow}
-use Rattle.words.specs.Check.{part}
-use Rattle.words.specs.Spelling as spec
-use Rattle.words.proofs.Bytes.{part-some}
-use Rattle.words.proofs.Fixed.{some-spelled, none-spelled}
+-- Some bytes are a fixed spelling exactly when they are that of their guess.
+use mathlib.Core.Path.{_∙_}
+use Rattle.words.proofs.Fixed.{guess-decides}
 use borrow.Author.Needs.{needs}
 use native.Mathlib.Omega.{arith}
 use Rattle.words.proofs.spelling.spelled_as_any.Statement.{statement}
 use Rattle.words.proofs.spelling.spelled_as_any.Tie as tie
 
-abbrev Inv-loop : tie.InvT-loop
-Inv-loop text at n places letters kind₀ kind = (kind ≤ 107) × (spec.spelledAsAny (part text at n) ≡ someBelow kind (spec.spelledAs (part text at n)))
+sub-behind : tie.Need-sub-behind
+sub-behind c = search needs
 
-abbrev μ-loop : tie.MeasureT-loop
-μ-loop text at n places letters kind₀ kind = kind
+shared-slice-read-guess : tie.Need-shared-slice-read-guess
+shared-slice-read-guess c = search needs
 
-loop-holds : tie.Need-loop-holds Inv-loop μ-loop
-loop-holds c = (omega arith, refl)
+add-guess : tie.Need-add-guess
+add-guess c = search needs
 
-sub-kind : tie.Need-sub-kind Inv-loop μ-loop
-sub-kind c = search needs
+shared-slice-read-guess-2 : tie.Need-shared-slice-read-guess-2
+shared-slice-read-guess-2 c = search needs
 
-spelled-requires : tie.Need-spelled-requires Inv-loop μ-loop
+guess-requires : tie.Need-guess-requires
+guess-requires c κs = search needs
+
+spelled-requires : tie.Need-spelled-requires
 spelled-requires c κs =
-    let pre = c .before .before .before .pre in
-    let loop = c .before .loop in
-    let loop-test = c .loop-test in
-    (pre .0, pre .2, pre .3, omega (arith, loop .inv .0, loop-test .taken))
+    let pre = c .before .before .before .before .pre in
+    let guess = c .guess in
+    (omega (arith, pre .0), pre .2, pre .3, guess .ensures .1)
 
-returns : tie.Need-returns Inv-loop μ-loop
+returns : tie.Need-returns
 returns c =
     let pre = c .before .before .before .before .before .pre in
     let args = c .before .before .before .before .before .args in
-    let loop = c .before .before .before .loop in
-    let loop-test = c .before .before .loop-test in
-    let spelled = c .before .spelled in
-    let if1 = c .if1 in
-    sym (loop .inv .1 ∙ some-spelled _ (loop .kind) (part-some (args .text .now) (args .at) (args .n) (pre .0) (pre .1)) (loop-test .taken) (loop .inv .0) (sym (spelled .ensures) ∙ if1 .taken))
-
-loop-less : tie.Need-loop-less Inv-loop μ-loop
-loop-less c =
-    let loop-test = c .before .before .loop-test in
-    omega (arith, loop-test .taken)
-
-loop-again : tie.Need-loop-again Inv-loop μ-loop
-loop-again c =
-    let pre = c .before .before .before .before .before .pre in
-    let args = c .before .before .before .before .before .args in
-    let loop = c .before .before .before .loop in
-    let loop-test = c .before .before .loop-test in
-    let spelled = c .before .spelled in
-    let if1 = c .if1 in
-    (omega (arith, loop .inv .0), loop .inv .1 ∙ some-spelled _ (loop .kind) (part-some (args .text .now) (args .at) (args .n) (pre .0) (pre .1)) (loop-test .taken) (loop .inv .0) (sym (spelled .ensures) ∙ if1 .left))
-
-returns-2 : tie.Need-returns-2 Inv-loop μ-loop
-returns-2 c =
-    let loop = c .before .loop in
-    let loop-test = c .loop-test in
-    sym (loop .inv .1 ∙ none-spelled _ (loop .kind) (loop-test .left))
+    let guess = c .before .guess in
+    let spelled = c .spelled in
+    spelled .ensures ∙ guess-decides (args .guesses .now) (pre .4) (args .text .now) (args .at) (args .n) (guess .result) (pre .0) (pre .1) (guess .ensures .0)
 
 pub spelled-as-any-spec : {M : Type 1} → statement M
 spelled-as-any-spec =
     tie.close
     (tie.spec
-    Inv-loop
-    μ-loop
-    loop-holds
-    sub-kind
+    sub-behind
+    shared-slice-read-guess
+    add-guess
+    shared-slice-read-guess-2
+    guess-requires
     spelled-requires
-    returns
-    loop-less
-    loop-again
-    returns-2)
+    returns)

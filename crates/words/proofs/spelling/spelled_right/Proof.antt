@@ -15,7 +15,7 @@ use Rattle.words.proofs.spelling.spelled_right.Tie as tie
 in-class-requires : tie.Need-in-class-requires
 in-class-requires c κs =
     let pre = c .before .pre in
-    (pre .2, pre .5, omega arith)
+    (pre .2, pre .6, omega arith)
 
 spelled-requires : tie.Need-spelled-requires
 spelled-requires c κs =
@@ -36,7 +36,7 @@ returns c =
 in-class-requires-2 : tie.Need-in-class-requires-2
 in-class-requires-2 c κs =
     let pre = c .before .before .before .pre in
-    (pre .2, pre .5, omega arith)
+    (pre .2, pre .6, omega arith)
 
 returns-2 : tie.Need-returns-2
 returns-2 c =
@@ -50,7 +50,7 @@ returns-2 c =
 spelled-as-any-requires : tie.Need-spelled-as-any-requires
 spelled-as-any-requires c κs =
     let pre = c .before .before .before .before .before .pre in
-    (pre .0, pre .1, pre .3, pre .4)
+    (pre .0, pre .1, pre .3, pre .4, pre .5)
 
 returns-3 : tie.Need-returns-3
 returns-3 c =
