@@ -1,6 +1,5 @@
 #!/usr/bin/env python3
-"""Writes the constant tables of crates/words/src/tables.rt: class words, places of spellings, letters,
-guesses.
+"""Writes the constant tables of crates/words/src/tables.rt: class words, places of spellings, letters, guesses.
 
     tools/tables.py          write them
     tools/tables.py --check  say whether they are as they would be written
@@ -25,7 +24,7 @@ def classes(kind):
 
 def letters():
     text, places = b"", []
-    for kind in range(256):
+    for kind in range(128):
         spelling = model.SPELL.get(kind, b"")
         places.append(len(text) * 16 + len(spelling))
         text += spelling

@@ -10,7 +10,7 @@ use lib.Seq.{getD-take, getD-drop}
 use lib.Dec.{eqb, leb, ltb}
 use lib.ListN.{length, getD, take, drop}
 use mathlib.Core.Logic.{⊎-elim}
-use Rattle.words.specs.Test.{_and_, _or_, same, someBelow, between}
+use Rattle.words.specs.Test.{_and_, _or_, same, between}
 use Rattle.words.specs.Kind.{LCurly, Star, Any, Unique, Extends, Const}
 use Rattle.words.specs.Class.{fixed}
 use Rattle.words.specs.Spelling.{spelling, spelledAs, spelledAsAny, fixedLetters, fixedPlaces, guessPlace, guessPlaceOf, fixedGuesses}
@@ -88,7 +88,7 @@ module _ (places letters : List ℕ) (k : ℕ) (p : places ≡ fixedPlaces) (q :
   abbrev entry : ℕ
   entry = getD places k 0
 
-  long : length places ≡ 256
+  long : length places ≡ 128
   long = ap (λ (l : List ℕ). length l) p
 
   there : stands letters k entry ≡ true
@@ -152,10 +152,9 @@ own-guess guesses k = not (fixed k) or eqb (getD guesses (guessPlaceOf (spelling
 abbrev low-guess : List ℕ → ℕ → Bool
 low-guess guesses i = ltb (getD guesses i 0) 107
 
--- the guess of each fixed spelling is its kind, and no guess is another number
+-- the guess of each fixed spelling is its kind, and every guess is below 107
 abbrev guesses-all : List ℕ → Bool
-guesses-all guesses =
-    every-below 107 (own-guess guesses) and every-below 128 (low-guess guesses)
+guesses-all guesses = every-below 107 (own-guess guesses) and every-below 128 (low-guess guesses)
 
 fixed-guessed : guesses-all fixedGuesses ≡ true
 fixed-guessed = refl

@@ -75,7 +75,7 @@ placesFrom zero k at = []
 placesFrom (suc n) k at = (at * 16 + length (spelling k)) ∷ placesFrom n (suc k) (at + length (spelling k))
 
 abbrev pub fixedPlaces : List ℕ
-fixedPlaces = placesFrom 256 0 0
+fixedPlaces = placesFrom 128 0 0
 
 -- ---- the one kind whose fixed spelling a byte string can be, as the code guesses it
 

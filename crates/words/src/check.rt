@@ -60,7 +60,7 @@ fn good_word(
     before: usize,
     last: bool,
     classes: &[u16; 256],
-    places: &[u16; 256],
+    places: &[u16; 128],
     letters: &[u8; 189],
     guesses: &[u8; 128],
 ) -> bool
@@ -94,7 +94,7 @@ fn words_from(
     text: &[u8],
     words: &[u64],
     classes: &[u16; 256],
-    places: &[u16; 256],
+    places: &[u16; 128],
     letters: &[u8; 189],
     guesses: &[u8; 128],
 ) -> Checked

@@ -13,7 +13,7 @@ use crate::tables::GUESSES;
 use crate::tables::LETTERS;
 use crate::tables::PLACES;
 
-pub fn spelling_places() -> [u16; 256]
+pub fn spelling_places() -> [u16; 128]
     ensures { λ r. ⌜ r ≡ fixedPlaces ⌝ }
 {
     PLACES
@@ -51,7 +51,7 @@ pub fn spelled(
     text: &[u8],
     at: usize,
     n: usize,
-    places: &[u16; 256],
+    places: &[u16; 128],
     letters: &[u8; 189],
     kind: usize,
 ) -> bool
@@ -66,6 +66,7 @@ pub fn spelled(
 }
 
 // The one kind whose fixed spelling n bytes can be, by the first and the last of them: 0 if they can be none.
+// No fixed spelling has 16 bytes.
 fn guess(n: usize, first: u8, last: u8, guesses: &[u8; 128]) -> usize
     requires { ⌜ now guesses ≡ fixedGuesses ⌝ }
     ensures { λ r. ⌜ (r ≡ getD (now (guesses .entry)) (guessPlace n first last) 0) × (r < 107) ⌝ }
@@ -78,7 +79,7 @@ pub fn spelled_as_any(
     text: &[u8],
     at: usize,
     n: usize,
-    places: &[u16; 256],
+    places: &[u16; 128],
     letters: &[u8; 189],
     guesses: &[u8; 128],
 ) -> bool
@@ -111,7 +112,7 @@ pub fn spelled_right(
     at: usize,
     n: usize,
     classes: &[u16; 256],
-    places: &[u16; 256],
+    places: &[u16; 128],
     letters: &[u8; 189],
     guesses: &[u8; 128],
     kind: usize,
