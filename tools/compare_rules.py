@@ -4,7 +4,7 @@ that is lent.
 
     compare_rules.py [--count N] [--seed S] [--build O3|O0|checked] [--sorts SORTS] [--no-build]
         SORTS: stored, limits, orders, short, generated (N texts), objects (the rows of W1 and N texts with object types),
-        forms (N texts with forms that are not read and reserved names), keys (N keys, as compare_keys.py makes them)
+        forms (N texts with forms that are not read and reserved names), tuples (N tuples), keys (N keys, as compare_keys.py makes them)
     compare_rules.py --stack [--build B]       the least stack that the program needs for each of the largest readings
 
 It runs in the folder that holds crates.txt. The program crate `rows` is compiled unproved by tools/unproved.sh. What is
@@ -28,7 +28,7 @@ import model as m
 import rules_vectors as v
 from compare import answers
 from compare_keys import keys
-from rules_model import TAGS, WIDE, Cases, FormMaker, ObjectMaker, called, expected, keyofs, read, record
+from rules_model import TAGS, WIDE, Cases, FormMaker, ObjectMaker, TupleMaker, called, expected, keyofs, read, record
 from words_vectors import root
 
 # ---- texts
@@ -88,6 +88,7 @@ def cases(seed, count, sorts):
     if has('generated'): yield from c.generated(count)
     if has('objects'): yield from objects(seed, count)
     if has('forms'): yield from Cases(seed, FormMaker).generated(count)
+    if has('tuples'): yield from Cases(seed, TupleMaker).generated(count)
     if has('keys'):
         for op, key, rooms in keys(count, seed): yield 'keys', key, tuple(rooms[:3])
 

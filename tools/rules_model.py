@@ -283,6 +283,16 @@ class FormMaker(ObjectMaker):
         return g.pick('', '', '', 'keyof ') + 'infer ' + g.pick('U', 'any', 'string', 'unknown', 'is') + g.one('', lambda: g.line() + ' extends ' + g.type(d - 1)) if g.r.random() < 0.15 else ObjectMaker.operator(g, d)
 
 
+class TupleMaker(ObjectMaker):
+    """Tuples, with optional elements among required ones and rests."""
+    def element(g, d):
+        return g.pick('', '', '', '', '...') + g.pick('', '', '', 'a: ', 'a?: ', 'a?: ', 'a: ...') + g.type(g.pick(-1, -1, d)) + g.pick('', '', '?')
+    def sound(g, most):
+        while True:
+            t = g.tuple(g.pick(1, 2, 2, 3))
+            if len(t) <= most: return t
+
+
 TOKENS = "A B x string null this 1 2n 's' `t` `h${ }m${ }t` { } [ ] ( ) < > << <= <<= | & ? : , ; . ... => = ! - + * @ any abstract as asserts infer is keyof out readonly unique public extends false import in new true typeof void const class".split()
 
 
