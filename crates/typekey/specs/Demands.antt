@@ -18,8 +18,10 @@ use Rattle.keys.specs.Key.{taken, refused, nodeTable, keyOf, HasRoom, IsKey}
 use Rattle.keys.specs.Store.{TakenBack, back, no, lent, takeBack, nodesOf, namesOf, Left}
 use Rattle.keys.specs.Holds.{Stands}
 use Rattle.keys.proofs.BitsLaws.{clash}
+use Rattle.keys.proofs.Fitting.{Each}
 use Rattle.keys.proofs.Theorems as keys
 use Rattle.keys.proofs.Theorems.{one-standing}
+use Rattle.rules.specs.Notes.{NoteStands}
 use Rattle.rules.specs.State.{State}
 use Rattle.rules.specs.Read.{granted, refuses, Called, written}
 use Rattle.rules.specs.Call.{Call, left, grants, keyLeft, Granted, Kept, AllZero, IsRefusal}
@@ -80,6 +82,10 @@ module _ (c : Call) (bytes : Bytes (c .text)) {z : Called} (seen : z ≡ left c)
           namesThere = ap (λ y. take (length (namesOf t)) (y .nameWords)) granted-leaves ∙ take-append-seam (namesOf t) _;
           spelled = rules.call-spelled x;
         }
+
+    -- W6: of its diagnostics a 4 has a second place, which ends no later than the first begins, both in the text; the others have none.
+    pub granted-notes : Each (NoteStands (length (c .text))) (s .notes)
+    granted-notes = rules.call-notes x
 
     -- W14: a node's first byte is below its end byte, a child's bytes lie inside its parent's, entries of a list come in order without overlap, and all end inside the text.
     pub granted-in-order : InOrder 0 t × (after 0 t ≤ length (c .text))
