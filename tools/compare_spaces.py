@@ -46,6 +46,11 @@ QUOTES, APART, WORD = "`'\"", "{ } [ ] ( ) > , ; :".split(), re.compile(r"[\w$#]
 COMMENT = re.compile(r"/\*.*?\*/|//[^\n]*", re.S)
 
 
+def tokens(text, words):
+    """Kind, newline flag and spelling of each."""
+    return [(w >> 55, text[w & 0xFFFFFFFF:][:w >> 32 & 0x1FFFF]) for w in words]
+
+
 def merges(a, b):
     """Whether two tokens with nothing between them may be cut otherwise: two words, a number and a dot, two marks but brackets and the like."""
     if a[-2:] == "${" or a[-1] in QUOTES or b[0] in QUOTES or b[0] == "}": return False
@@ -66,7 +71,7 @@ def gap(r, a, b, line):
 
 def respaced(r, text, words, lines):
     """Another text of the same tokens, with line breaks as lines says, and its token words; None where it is too long."""
-    spelled = [text[w & 0xFFFFFFFF:][:w >> 32 & 0x1FFFF].decode("latin1") for w in words]
+    spelled = [s.decode("latin1") for _, s in tokens(text, words)]
     parts, plain, new, at, before = [], [], [], 0, ""
     for w, s, line in zip(words, spelled, lines):
         g = gap(r, before, s, line)
@@ -129,7 +134,7 @@ def real(folders):
     for i in range(0, len(paths), 50):
         out = subprocess.run(["node", os.path.join(HERE, "types_of.js")] + paths[i:i + 50], env=env, capture_output=True, text=True)
         if out.returncode: sys.exit(out.stderr)
-        for line in out.stdout.splitlines():
+        for line in filter(None, out.stdout.split("\n")):
             text, _, _, *whole = json.loads(line)
             texts[re.sub(r"[^\x00-\x7f]", "X", whole[0] if text is None else text)] = None
     return [t for t in texts if len(t) <= m.TEXT // 2]
@@ -172,30 +177,33 @@ def pairs(args):
 
 # ---- runs
 def compare(args):
-    counts, changed, began, shown = collections.Counter(), collections.Counter(), time.time(), 0
+    counts, refused, changed, began = collections.Counter(), collections.Counter(), collections.Counter(), time.time()
     for (sort, text, words, start, parens, lent), (text2, words2) in pairs(args):
         one, two = called(text, words, start, parens, lent), called(text2, words2, start, parens, lent)
         a, b = seen(text, one), seen(text2, two)
         other = [k for k in a if a[k] != b[k]]
+        if {one[0][0], two[0][0]} & {1, 2}: sys.exit("a list that the check refuses: %r, %r" % (text, text2))
         counts["real" if sort == "real" else "generated"] += 1
-        counts["granted" if one[0][0] == 0 else "refused"] += 1
+        counts["refused" if one[0][0] else "granted"] += 1
+        refused[one[0][0]] += one[0][0] > 0
         counts["with members"] += one[0][0] == 0 and has_members(text, one)
         counts["nodes"] += (len(one[1]) + len(two[1])) // 4
         for t, x in ((text, one), (text2, two)):
             if x[1] and out_of_order(t, x[1]) is not None:
                 counts["out of order"] += 1
-                print("OUT OF ORDER: node %d of %r" % (out_of_order(t, x[1]), t[:300]))
+                if counts["out of order"] <= 8: print("OUT OF ORDER: node %d of %r" % (out_of_order(t, x[1]), t[:300]))
         if other:
             counts["different"] += 1
             first, second = one[0][0], two[0][0]
             changed["another key" if not first and not second and "key" in other else "another end alone" if not first and not second else
                     "granted one and refused the other" if not first or not second else "another refusal or place"] += 1
-            shown += 1
-            if shown <= (3 if args.moved else 8): print("%s in %s:\n  %r %s\n  %r %s" % ("changed" if args.moved else "DIFFERENT", ", ".join(other), text[:300], one[0], text2[:300], two[0]))
+            if counts["different"] <= (3 if args.moved else 8):
+                print("%s in %s:\n  %r %s\n  %r %s" % ("changed" if args.moved else "DIFFERENT", ", ".join(other), text[:300], one[0], text2[:300], two[0]))
     n = counts["real"] + counts["generated"]
     print("seed %d: %d pairs, %d %s; %d nodes, %d trees out of order; %.0f s"
           % (args.seed, n, counts["different"], "changed by line breaks" if args.moved else "different", counts["nodes"], counts["out of order"], time.time() - began))
     print("pairs: " + ", ".join("%s %d" % (k, counts[k]) for k in ("real", "generated", "granted", "refused", "with members")))
+    print("refusals: " + ", ".join("%d %d times" % x for x in sorted(refused.items()) if x[1]))
     if changed: print("changed: " + ", ".join("%s %d" % x for x in changed.most_common()))
     return counts["out of order"] > 0 or (counts["different"] == 0 if args.moved else counts["different"] > 0)
 
@@ -217,11 +225,12 @@ def rows(args):
     wrong = 0
     for texts in ROWS:
         (s, v), (t, w) = ((x.encode(), m.cut(x)) for x in texts)
-        alike = [(y >> 55, y >> 32 & 0x1FFFF) for y in v] == [(y >> 55, y >> 32 & 0x1FFFF) for y in w]
+        alike = tokens(s, v) == tokens(t, w)
         one, two = (called(x, y, 0, 0, (4 * 140, 140, 160, 4000)) for x, y in ((s, v), (t, w)))
         same = seen(s, one) == seen(t, two)
         wrong += alike and not same
-        print("%s, %s\n  %r: %s\n  %r: %s" % ("alike" if alike else "not alike", "the same" if same else "the same key" if one[4] and one[4] == two[4] else "not the same", texts[0], said(s, one), texts[1], said(t, two)))
+        print("%s, %s" % ("alike" if alike else "not alike", "the same" if same else "the same key" if one[4] and one[4] == two[4] else "not the same"))
+        print("  %r: %s\n  %r: %s" % (texts[0], said(s, one), texts[1], said(t, two)))
     return wrong
 
 
