@@ -52,7 +52,7 @@ stopped {n = n} {i = i} {h = h} (stops {n = m} {i = j} {h = k} x l) e =
 -- What granting tells: the list is sound, the outcome is the rules' tree, and its key and spellings fit.
 pub record Outcomes (c : Call) (t : Placed) (s : State) : Type 0 where
   pub passed : check (c .text) (c .words) (c .start) ≡ sound
-  pub is : outcome (c .text) (c .words) (c .start) (c .parens) (c .lent) ≡ granted t (s .notes) (s .at) (s .half) (keyOf (bare t))
+  pub is : outcome (c .text) (c .words) (c .start) (c .parens) (c .lent) ≡ granted t (s .notes) (s .at) (s .half) (keyOf (bare t)) (s .tally .entered)
   pub fit : fits (c .lent) t (keyOf (bare t)) ≡ true
 
 outcome-of : (c : Call) (t : Placed) (s : State) → grants (left c .answer) ≡ true → ruled c ≡ got t s → Outcomes c t s
@@ -60,7 +60,7 @@ unfolding read
 outcome-of c t s e f = by (check (c .text) (c .words) (c .start)) refl e
   where
     by-fit : (b : Bool) → fits (c .lent) t (keyOf (bare t)) ≡ b
-        → grants (written (c .lent) (test b (λ _. granted t (s .notes) (s .at) (s .half) (keyOf (bare t))) λ _. denied noSpace 0 0 0) .answer) ≡ true
+        → grants (written (c .lent) (test b (λ _. granted t (s .notes) (s .at) (s .half) (keyOf (bare t)) (s .tally .entered)) λ _. denied noSpace 0 0 0) .answer) ≡ true
         → fits (c .lent) t (keyOf (bare t)) ≡ true
     by-fit true i j = i
     by-fit false i j = clash (cc)
@@ -105,7 +105,7 @@ pub record Facts (c : Call) (t : Placed) (s : State) : Type 0 where
   pub passed : check (c .text) (c .words) (c .start) ≡ sound
   pub good : Got (given (c .text) (c .words) (c .parens) (c .lent)) (Good type) itself 1 0 0 0 t s
   pub fit : Fit (c .lent) t (keyOf (bare t))
-  pub leaves : left c ≡ written (c .lent) (granted t (s .notes) (s .at) (s .half) (keyOf (bare t)))
+  pub leaves : left c ≡ written (c .lent) (granted t (s .notes) (s .at) (s .half) (keyOf (bare t)) (s .tally .entered))
 
 pub facts : {c : Call} {t : Placed} {s : State} → Granted c t s → Facts c t s
 unfolding read
@@ -184,7 +184,7 @@ unfolding read
 call-refusal c bytes {n} {p} {h} {b} e = by (check (c .text) (c .words) (c .start)) refl (ruled c) refl e
   where
     by-fit : (fit : Bool) (t : Placed) (s : State)
-        → written (c .lent) (test fit (λ _. granted t (s .notes) (s .at) (s .half) (keyOf (bare t))) λ _. denied noSpace 0 0 0) .answer ≡ refuses n p h b
+        → written (c .lent) (test fit (λ _. granted t (s .notes) (s .at) (s .half) (keyOf (bare t)) (s .tally .entered)) λ _. denied noSpace 0 0 0) .answer ≡ refuses n p h b
         → IsRefusal (c .text) (c .words) n p h b
     by-fit true t s j = clash (cc)
     by-fit false t s j =

@@ -21,7 +21,7 @@ use Rattle.keys.proofs.Fitting.{Is, IsSpelling, Each, IfAny, Few, IsList, IsNam
 use Rattle.keys.proofs.Makers.{each-more}
 use Rattle.keys.proofs.BitsLaws.{clash}
 use Rattle.rules.specs.Notes.{Note, NoteStands}
-use Rattle.rules.specs.State.{Given, State, Result, Reader, read, refuse, then, next, past, stands, kind, first, end, spelling, overlong, make, report, reportIf}
+use Rattle.rules.specs.State.{Given, State, Result, Reader, read, refuse, then, next, past, stands, kind, first, end, spelling, overlong, make, report, reportIf, tallied}
 use Rattle.rules.specs.Refusal.{isRule}
 use Rattle.rules.specs.Call.{IsCursor}
 use Rattle.rules.specs.List.{count}
@@ -231,6 +231,11 @@ past-whole g k s a = by (stands g k s)
 pub counted : {g : Given} {n m : ℕ} {s : State} → n ≡ m → At g n s → At g m s
 counted e a =
     record { used = a .used ∙ e; roomy = a .roomy; few = a .few; recorded = a .recorded; noted = a .noted; inside = a .inside; one = a .one; shown = a .shown; order = a .order; rest = a .rest }
+
+-- Another tally, at the same place.
+pub tallied-at : {g : Given} {n : ℕ} {s : State} (e k : ℕ) → At g n s → At g n (tallied s e k)
+tallied-at e k a =
+    record { used = a .used; roomy = a .roomy; few = a .few; recorded = a .recorded; noted = a .noted; inside = a .inside; one = a .one; shown = a .shown; order = a .order; rest = a .rest }
 
 -- A measure that adds up over pairs adds up over a list that grows at its end.
 sum-more : (m : Value → ℕ) → m nothing ≡ 0 → ((a b : Value) → m (pair a b) ≡ m a + m b) → (l : List Placed) (t : Placed)

@@ -11,6 +11,14 @@ pub mod LikeValues
 pub mod LikeParts
 pub mod Beside
 pub mod LikeLaws
+pub mod Owing
+pub mod Spending
+pub mod EnteredLaws
 pub mod CallLaws
 pub mod SpaceLaws
 pub mod Theorems
+pub mod Balance
+pub mod BalanceLaws
+pub mod KeysOnly
+pub mod KeysOnlyBrackets
+pub mod KeysOnlyLaws

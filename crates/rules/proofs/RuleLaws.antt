@@ -5,9 +5,9 @@ use mathlib.Core.List.{List, [], _∷_, _++_}
 use Prim.Native.Nat.{ℕ, zero, suc, _+_, _≤_, _<_}
 use native.Mathlib.Omega.{arith}
 use borrow.Author.Tests.{eqb-true, eqb-false, not-false}
-use lib.Dec.{eqb}
+use lib.Dec.{eqb, leb}
 use lib.ListN.{length}
-use Rattle.words.specs.Limits.{mostOpen}
+use Rattle.words.specs.Limits.{mostOpen, mostTrials}
 use Rattle.words.specs.Test.{_and_, _or_, between, among, test}
 use Rattle.words.specs.Class as class
 use Rattle.words.specs.Kind.{Eof, ShiftLeft, LtEq, ShiftLeftEq, Str, NumberLiteral, BigIntLiteral, NoSubstitutionTemplate, TemplateHead, TemplateMiddle, TemplateTail, LCurly, RCurly, LBrack, RBrack, LParen, RParen, LAngle, RAngle, Pipe, Amp, Question, Colon, Comma, Semicolon, Dot, Dot3, Arrow, Eq, Bang, Minus, Plus, Star, Any, Unknown, Null, Void, Abstract, As, Asserts, Infer, Is as IsWord, Readonly, Extends, Import, In, New, This, Typeof}
@@ -19,7 +19,7 @@ use Rattle.keys.proofs.Fitting.{Is, IsSpelling, Each, IfAny, IsList, IsNames, I
 use Rattle.keys.proofs.Makers as makers
 use Rattle.rules.specs.Refusal.{unexpected}
 use Rattle.rules.specs.Notes.{note, requiredAfterOptional, askedAfterLabel, NoteStands, of-one, of-two}
-use Rattle.rules.specs.State.{Given, State, Result, Reader, read, refused, begin, next, halved, kind, kindAfter, stands, onLine, first, end, spelling, turns, past, expect, optional, make, reportIf}
+use Rattle.rules.specs.State.{Given, State, Result, Reader, read, refused, begin, next, halved, kind, kindAfter, stands, onLine, first, end, spelling, turns, past, expect, optional, make, reportIf, entering}
 use Rattle.rules.specs.Names.{name, bindingWord, reserved, bound, dotsFrom, dotted}
 use Rattle.rules.specs.List.{noEntry, count, position, listFrom, list}
 use Rattle.rules.specs.Arguments.{opens, opened, arguments, named, importFrom, importType}
@@ -27,7 +27,7 @@ use Rattle.rules.specs.TypeParameters.{varies, typeParameter, typeParame
 use Rattle.rules.specs.Function.{ThisParameter, Parameters, parametersOf, thisType, modified, predicates, subject, freed, separated, reportThis, parameter, parametersFrom, thisFirst, parameters, returnType, functionNode, function}
 use Rattle.rules.specs.Union.{partsFrom, joined, intersection, union}
 use Rattle.rules.specs.Operator.{operators, operand, operatorFrom, operator}
-use Rattle.rules.specs.Infer.{Trial, none, constraintOf, trial, infer}
+use Rattle.rules.specs.Infer.{Trial, none, constraintOf, opened as openedTrial, trial, infer}
 use Rattle.rules.specs.Postfix.{suffixed, bracketed, suffix, postfixFrom, postfix}
 use Rattle.rules.specs.Primary.{keywords, literals, negated, isKeyword, isNegative, isAssertion, keyword, literal, negative, this, assertion, query, curly, brackets, reference, enclosed, worded, primary}
 use Rattle.rules.specs.Mapped.{modifier, mapped}
@@ -45,7 +45,7 @@ use Rattle.rules.specs.Told.{Told}
 use Rattle.rules.specs.Weight.{weight}
 use Rattle.rules.proofs.ToldLaws.{told-here, told-subject, told-literal, told-names, told-element}
 use Rattle.rules.proofs.PlaceLaws.{Spans, spans-le, spans-up, spans-flat, spans-element, spans-node}
-use Rattle.rules.proofs.Gives.{Gives, gives, stops, At, cursor, Has, Got, Good, Enough, Step, Past, sizeOf, weightOf, worth, itself, Reads, ReadsNames, ReadsOn, ReadsTree, ReadsBehind, ReadsIf, ReadsAbout, ReadsTypes, gives-then, gives-test, gives-must, gives-mark, gives-or, refusal, step, past-mark, past-more, past-whole, counted, weight-more, flat-has, front-has, join-has, _&_, regroup, drop-void, has-le, has-down, pick-has, has-on, has-next, has-more, gives-down, made-by, made, reported, reported-if, enough-more, list-is, names-are, if-list-is}
+use Rattle.rules.proofs.Gives.{Gives, gives, stops, At, cursor, Has, Got, Good, Enough, Step, Past, sizeOf, weightOf, worth, itself, Reads, ReadsNames, ReadsOn, ReadsTree, ReadsBehind, ReadsIf, ReadsAbout, ReadsTypes, gives-then, gives-test, gives-must, gives-mark, gives-or, refusal, step, past-mark, past-more, past-whole, counted, weight-more, flat-has, front-has, join-has, _&_, regroup, drop-void, has-le, has-down, pick-has, has-on, has-next, has-more, gives-down, made-by, made, reported, reported-if, enough-more, list-is, names-are, if-list-is, tallied-at}
 use Rattle.rules.proofs.PartLaws.{key-sort, names-size, names-weight, subject-size, subject-weight, element-size, as-under-name, pieces-more, keyword-below, literal-size, literal-weight, literal-fits, negative-fits, asserted}
 
 -- How parameters stand as values, where a constructor gave the nodes of its `this` back.
@@ -934,10 +934,17 @@ module _ (g : Given) (c : Checked g) where
     unfolding trial
     trial-gives on n lo s w l a =
         gives-test (not (stands g Extends s)) (λ _ _. gives (record { is = tt; has = flat-has (maybe absent) refl tt l a; whole = w; rise = omega arith; light = omega arith })) λ e _.
+        gives-test (on and leb mostTrials (s .tally .trials)) (refusal a tt) λ _ _.
         let u = step c (λ k. eqb k Extends) refl s (not-false (stands g Extends s) e) a in
-        gives-then (h false _ lo (next s) (omega arith) (u .at)) λ t q b.
-        gives-test (on and stands g Question q) (λ _ _. gives (record { is = tt; has = flat-has (maybe absent) refl tt l a; whole = w; rise = omega arith; light = omega arith })) λ _ _.
-        gives (record { is = b .is .is; has = pick-has 1 (b .has); whole = b .whole; rise = omega arith; light = omega arith })
+        gives-then (tried-gives on lo (next s) (omega arith) (u .at)) λ t q b.
+        gives-test (on and stands g Question q)
+        (λ _ _. gives (record { is = tt; has = flat-has (maybe absent) refl tt l (tallied-at _ _ a); whole = w; rise = omega arith; light = omega arith })) λ _ _.
+        gives (record { is = b .is .is; has = has-on (pick-has 1 (b .has)) (tallied-at _ _ (b .has .at)) (omega arith); whole = b .whole; rise = omega arith; light = omega arith })
+      where
+        -- With one more trial open or not.
+        tried-gives : (on : Bool) (lo : ℕ) (s : State) → lo ≤ first g s → At g n s → Gives g (Got g (Good type) itself 1 (worth g s) n lo) (T false (openedTrial on s))
+        tried-gives true lo s l a = h false n lo (openedTrial true s) l (tallied-at _ _ a)
+        tried-gives false lo s l a = h false n lo s l a
 
     infer-gives : (on : Bool) → ReadsIf g (stands g Infer) type (infer g T on)
     unfolding infer
@@ -1028,7 +1035,7 @@ module _ (g : Given) (c : Checked g) where
 types-read : (g : Given) → Checked g → (n : ℕ) → ReadsTypes g (readType g n)
 unfolding readType
 types-read g c zero = λ on m lo s l a. stops tt (cursor a)
-types-read g c (suc n) = λ on m lo s l a. type-gives g c (readType g n) (types-read g c n) on m lo s l a
+types-read g c (suc n) = λ on m lo s l a. type-gives g c (readType g n) (types-read g c n) on m lo (entering s) l (tallied-at _ _ a)
 
 begin-at : (g : Given) (c : Checked g) → At g 0 (begin (c .start))
 begin-at g c =

@@ -3,11 +3,13 @@ use mathlib.Core.Path.{_≡_, refl, sym, ap, _∙_}
 use mathlib.Core.Logic.{_↔_}
 use mathlib.Core.Bool.{Bool, true, false}
 use mathlib.Core.List.{List}
-use Prim.Native.Nat.{ℕ, _/_, _^_, _≤_, _<_}
+use Prim.Native.Nat.{ℕ, _*_, _/_, _^_, _≤_, _<_}
 use native.Mathlib.Omega.{arith}
 use lib.ListN.{length, take}
 use lib.Seq.{take-append-seam}
-use Rattle.words.specs.Limits.{tallest, mostNotes, mostKey}
+use borrow.Author.Tests.{le-leb}
+use Rattle.words.specs.Kind.{Extends}
+use Rattle.words.specs.Limits.{tallest, mostNotes, mostKey, mostTrials}
 use Rattle.words.specs.Check.{sound, check}
 use Rattle.keys.specs.Limits.{newest, recordWords}
 use Rattle.keys.specs.Table.{type}
@@ -19,11 +21,13 @@ use Rattle.keys.proofs.Theorems.{same-key, taken-back}
 use Rattle.keys.proofs.BitsLaws.{clash}
 use Rattle.keys.proofs.Fitting.{Each}
 use Rattle.rules.specs.Notes.{NoteStands}
-use Rattle.rules.specs.State.{Given, State, end, read as got}
+use Rattle.rules.specs.Refusal.{manyTrials}
+use Rattle.rules.specs.State.{Given, State, Reader, refused, stands, end, read as got}
+use Rattle.rules.specs.Infer.{trial}
 use Rattle.rules.specs.Reading.{reading}
-use Rattle.rules.specs.Read.{granted, denied, Outcome, outcome, refuses, written, read}
+use Rattle.rules.specs.Read.{given, granted, denied, Outcome, outcome, refuses, written, read}
 use Rattle.rules.specs.Places.{after, InOrder}
-use Rattle.rules.specs.Call.{Call, left, ruled, grants, keySize, keyLeft, Granted, Kept, AllZero, IsRefusal}
+use Rattle.rules.specs.Call.{Call, left, ruled, grants, keySize, enteredCount, keyLeft, Granted, Kept, AllZero, IsRefusal}
 use Rattle.rules.specs.Like.{Respaced, noteNumbers, withoutByte, SameReading, both-granted, both-refused}
 use Rattle.rules.proofs.TokenLaws.{Checked, taken-inside, text-few, words-few}
 use Rattle.rules.proofs.FewLaws.{nodes-most}
@@ -33,6 +37,8 @@ use Rattle.rules.proofs.Gives.{Got, Good, itself}
 use Rattle.rules.proofs.RuleLaws.{reading-gives}
 use Rattle.rules.proofs.CallLaws.{gave, facts, ruled-by, filled-zero, kept-granted, kept-refused, call-refusal}
 use Rattle.rules.proofs.SpaceLaws.{calls-alike}
+use Rattle.rules.proofs.KeysOnlyLaws.{keys-only}
+use Rattle.rules.proofs.EnteredLaws.{reading-few}
 
 -- ---- What the rules read: tree t and state s, from a text of bytes and a list that passed the check
 module _ (g : Given) (start : ℕ) {t : Placed} {s : State}
@@ -105,7 +111,7 @@ module _ (g : Given) (start : ℕ) {t : Placed} {s : State}
 -- ---- A granted call
 module _ {c : Call} {t : Placed} {s : State} (x : Granted c t s) where
   -- It leaves the rules' tree, its names, the diagnostics and its key, each with zeros behind it, and answers how much of each.
-  pub call-leaves : left c ≡ written (c .lent) (granted t (s .notes) (s .at) (s .half) (keyOf (bare t)))
+  pub call-leaves : left c ≡ written (c .lent) (granted t (s .notes) (s .at) (s .half) (keyOf (bare t)) (s .tally .entered))
   call-leaves = facts x .leaves
 
   -- Its tree is one of the node table within the limits of heights and of keys.
@@ -142,11 +148,26 @@ module _ {c : Call} {t : Placed} {s : State} (x : Granted c t s) where
   pub call-back : (a b d : ℕ) → HasRoom (a / recordWords) b d (bare t) → takeBack (keyLeft (left c)) a b d ≡ lent a b d (taken (bare t))
   call-back a b d room = ap (λ (key : List ℕ). takeBack key a b d) call-key ∙ ap (lent a b d) (taken-back newest call-tree room)
 
+-- A granted call entered sixteen type rules for each token at most (02, W4).
+pub entered-few : {c : Call} {t : Placed} {s : State} → Granted c t s → enteredCount (left c .answer) ≤ 16 * length (c .words)
+entered-few {c} x =
+    let f = facts x in
+    let g = given (c .text) (c .words) (c .parens) (c .lent) in
+    let inside = f .good .has .at .inside in
+    rw (f .leaves) (reading-few g (keys-only g) (c .start) (x .rules) (omega arith))
+
 -- Two granted calls, under either option, leave the same key exactly when the rules read the same tree.
 pub same-keys : {c d : Call} {t u : Placed} {p q : State} → Granted c t p → Granted d u q → (keyLeft (left c) ≡ keyLeft (left d)) ↔ (bare t ≡ bare u)
 same-keys x y =
     let same = same-key newest (call-tree x .fits) (call-tree y .fits) in
     (λ e. same .0 (sym (call-key x) ∙ e ∙ call-key y), λ e. call-key x ∙ same .1 e ∙ sym (call-key y))
+
+-- ---- Trials (02, W4)
+
+-- An `extends` that would open a fifth is refused there, whatever would read the type behind it: 28 comes before 5.
+pub fifth-trial : (g : Given) (T : Reader) (s : State) → stands g Extends s ≡ true → mostTrials ≤ s .tally .trials → trial g T true s ≡ refused manyTrials s
+unfolding trial
+fifth-trial g T s e many = rw (e, le-leb mostTrials (s .tally .trials) many)
 
 -- ---- Every call
 
@@ -160,7 +181,7 @@ unfolding read
 call-refused c e = by (outcome (c .text) (c .words) (c .start) (c .parens) (c .lent)) e
   where
     by : (o : Outcome) → grants (written (c .lent) o .answer) ≡ false → AllZero (c .lent) (written (c .lent) o)
-    by (granted t ns i h key) j = clash (cc)
+    by (granted t ns i h key entered) j = clash (cc)
     by (denied n p h b) j =
         let l = c .lent in
         record { nodesZero = filled-zero (l .nodes); namesZero = filled-zero (l .names); notesZero = filled-zero (l .notes); keyZero = filled-zero (l .key) }

@@ -32,13 +32,18 @@ ruled c = reading (given (c .text) (c .words) (c .parens) (c .lent)) (c .start)
 
 -- whether an answer grants a tree
 abbrev pub grants : Answer → Bool
-grants (reads nodes names notes at half key) = true
+grants (reads nodes names notes at half key entered) = true
 grants (refuses number token half byte) = false
 
 -- how many bytes of key it tells of
 abbrev pub keySize : Answer → ℕ
-keySize (reads nodes names notes at half key) = key
+keySize (reads nodes names notes at half key entered) = key
 keySize (refuses number token half byte) = 0
+
+-- how many type rules entered it tells of
+abbrev pub enteredCount : Answer → ℕ
+enteredCount (reads nodes names notes at half key entered) = entered
+enteredCount (refuses number token half byte) = 0
 
 -- the key that a call leaves: as many bytes of the lent ones as it tells of
 abbrev pub keyLeft : Called → List ℕ

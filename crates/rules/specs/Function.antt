@@ -52,7 +52,7 @@ subject g s = test (stands g This s) (λ _. absent) (λ _. present (spelling g s
 
 -- what a constructor's `this` took is free again, its diagnostics stay
 abbrev pub freed : Bool → State → State → State
-freed true s q = record { at = q .at; half = q .half; nodes = s .nodes; notes = q .notes }
+freed true s q = record { at = q .at; half = q .half; nodes = s .nodes; notes = q .notes; tally = q .tally }
 freed false s q = q
 
 -- after a parameter the list ends or goes on; a default, and a comma that follows a rest, are refused

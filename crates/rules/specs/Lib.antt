@@ -23,6 +23,7 @@ pub mod Read
 pub mod Rows
 pub mod FurtherRows
 pub mod ObjectRows
+pub mod TrialRows
 pub mod Places
 pub mod Told
 pub mod Weight

@@ -39,7 +39,7 @@ noteNumbers (n ∷ l) = n .number ∷ noteNumbers l
 
 -- an answer but for the byte of a refusal
 abbrev pub withoutByte : Answer → Answer
-withoutByte (reads nodes names notes at half key) = reads nodes names notes at half key
+withoutByte (reads nodes names notes at half key entered) = reads nodes names notes at half key entered
 withoutByte (refuses number token half byte) = refuses number token half 0
 
 -- Two granted calls read the same tree, positions aside: the same answer, so the same end cursor, the same key, and diagnostics of the same numbers.

@@ -27,9 +27,9 @@ pub record Lent : Type 0 where
 abbrev pub lend : ℕ → ℕ → ℕ → ℕ → Lent
 lend a b c d = record { nodes = a; names = b; notes = c; key = d }
 
--- what reading comes to: tree, diagnostics, end cursor and key; or a refusal: its number, its token, the half used there, and the byte
+-- what reading comes to: tree, diagnostics, end cursor, key and how many type rules were entered; or a refusal: its number, its token, the half used there, and the byte
 pub data Outcome : Type 0 where
-  granted : Placed → List Note → (at half : ℕ) → (key : List ℕ) → Outcome
+  granted : Placed → List Note → (at half : ℕ) → (key : List ℕ) → (entered : ℕ) → Outcome
   denied : (number token half byte : ℕ) → Outcome
 
 -- the key fits the bytes lent, the spellings fit the words lent; the key's limit is kept by every reading (`key-short`)
@@ -40,7 +40,7 @@ fits l t key = leb (length key) (l .key) and leb (length (namesOf t)) (l .names)
 abbrev pub withKey : Lent → Placed → State → Outcome
 withKey l t s =
     let key = keyOf (bare t) in
-    test (fits l t key) (λ _. granted t (s .notes) (s .at) (s .half) key) λ _.
+    test (fits l t key) (λ _. granted t (s .notes) (s .at) (s .half) key (s .tally .entered)) λ _.
     denied noSpace 0 0 0
 
 -- what the rules come to; a refusal's byte is the first that they did not use
@@ -64,19 +64,19 @@ outcome text words start parens l = checked (given text words parens l) start l 
 
 -- ---- What the caller sees
 
--- the answer: nodes used, of which the last is the root, names, diagnostics, end cursor and bytes of key; or the refusal
+-- the answer: nodes used, of which the last is the root, names, diagnostics, end cursor, bytes of key and type rules entered; or the refusal
 pub data Answer : Type 0 where
-  reads : (nodes names notes at half key : ℕ) → Answer
+  reads : (nodes names notes at half key entered : ℕ) → Answer
   refuses : (number token half byte : ℕ) → Answer
 
 -- 01's number of a refusal, 0 where there is none
 abbrev pub number : Answer → ℕ
-number (reads a b c i h d) = 0
+number (reads a b c i h d e) = 0
 number (refuses n i h b) = n
 
 -- its place
 abbrev pub token : Answer → ℕ
-token (reads a b c i h d) = 0
+token (reads a b c i h d e) = 0
 token (refuses n i h b) = i
 
 -- the answer and the final content of all that is lent
@@ -89,9 +89,9 @@ pub record Called : Type 0 where
 
 -- each slice lent holds its part and then zeros; after a refusal it holds nothing else
 abbrev pub written : Lent → Outcome → Called
-written l (granted t ns i h key) =
+written l (granted t ns i h key entered) =
     record {
-      answer = reads (nodes (bare t)) (length (namesOf t)) (length ns) i h (length key);
+      answer = reads (nodes (bare t)) (length (namesOf t)) (length ns) i h (length key) entered;
       nodeWords = filled (l .nodes) (nodesOf t);
       nameWords = filled (l .names) (namesOf t);
       noteWords = filled (l .notes) (noteWords ns);

@@ -54,6 +54,10 @@ importSource = 26
 abbrev pub importOptions : ℕ
 importOptions = 27
 
+-- a trial opens that is one too many
+abbrev pub manyTrials : ℕ
+manyTrials = 28
+
 -- a member with a computed name, an accessor, or a modifier other than readonly
 abbrev pub memberForm : ℕ
 memberForm = 31
@@ -66,4 +70,4 @@ isForm n = between prefixMark importOptions n or eqb n memberForm
 
 -- the numbers of the refusals that the reading rules meet
 abbrev pub isRule : ℕ → Bool
-isRule n = eqb n unexpected or between tooDeep manyNotes n or isForm n
+isRule n = eqb n unexpected or between tooDeep manyNotes n or eqb n manyTrials or isForm n

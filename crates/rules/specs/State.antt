@@ -4,7 +4,7 @@ use mathlib.Core.Bool.{Bool, false}
 use mathlib.Core.List.{List, [], _∷_, _++_}
 use lib.Dec.{eqb, leb, ltb}
 use lib.ListN.{length}
-use Rattle.words.specs.Limits.{tallest, longest, mostNotes}
+use Rattle.words.specs.Limits.{tallest, longest, mostNotes, mostEntered}
 use Rattle.words.specs.Test.{_or_, test}
 use Rattle.words.specs.Word.{start}
 use Rattle.words.specs.Check.{spelled}
@@ -23,12 +23,18 @@ pub record Given : Type 0 where
   pub room : ℕ
   pub records : ℕ
 
--- where it stands: the cursor, the nodes used, the diagnostics so far; all this a trial puts back
+-- what is counted: the type rules entered so far, and the trials that are open (02, W4)
+pub record Tally : Type 0 where
+  pub entered : ℕ
+  pub trials : ℕ
+
+-- where it stands: the cursor, the nodes used, the diagnostics so far, all of which a trial puts back, and the tally
 pub record State : Type 0 where
   pub at : ℕ
   pub half : ℕ
   pub nodes : ℕ
   pub notes : List Note
+  pub tally : Tally
 
 -- what a rule comes to: what it read and where it stands then, or a refusal's number with the cursor of that moment
 pub data Result (A : Type 0) : Type 0 where
@@ -52,15 +58,15 @@ then (refuse n i h) on = refuse n i h
 
 -- before the first token to be read
 abbrev pub begin : ℕ → State
-begin i = record { at = i; half = 0; nodes = 0; notes = [] }
+begin i = record { at = i; half = 0; nodes = 0; notes = []; tally = record { entered = 0; trials = 0 } }
 
 -- past the token, or past what is left of it
 abbrev pub next : State → State
-next s = record { at = s .at + 1; half = 0; nodes = s .nodes; notes = s .notes }
+next s = record { at = s .at + 1; half = 0; nodes = s .nodes; notes = s .notes; tally = s .tally }
 
 -- past the first half of the token
 abbrev pub halved : State → State
-halved s = record { at = s .at; half = 1; nodes = s .nodes; notes = s .notes }
+halved s = record { at = s .at; half = 1; nodes = s .nodes; notes = s .notes; tally = s .tally }
 
 -- the kind at the cursor
 abbrev pub kind : Given → State → ℕ
@@ -98,6 +104,20 @@ spelling g s = (start (wordAt (g .words) (s .at)), spelled (g .text) (wordAt (g 
 abbrev pub turns : Given → ℕ
 turns g = suc (length (g .words))
 
+-- ---- The tally
+
+-- where it stands, with another tally
+abbrev pub tallied : State → (entered trials : ℕ) → State
+tallied s n k = record { at = s .at; half = s .half; nodes = s .nodes; notes = s .notes; tally = record { entered = n; trials = k } }
+
+-- one more, but never more than the limit
+abbrev pub oneMore : ℕ → ℕ
+oneMore n = test (ltb n mostEntered) (λ _. n + 1) (λ _. n)
+
+-- one type rule more is entered
+abbrev pub entering : State → State
+entering s = tallied s (oneMore (s .tally .entered)) (s .tally .trials)
+
 -- ---- Taking a token
 
 -- past a mark, if it stands here
@@ -125,13 +145,13 @@ make g lengths t s =
     test (overlong lengths) (λ _. refused tooLong s) λ _.
     test (ltb tallest (height (bare t))) (λ _. refused tooTall s) λ _.
     test (leb (g .room) (s .nodes)) (λ _. refused noRoom s) λ _.
-    read t (record { at = s .at; half = s .half; nodes = s .nodes + 1; notes = s .notes })
+    read t (record { at = s .at; half = s .half; nodes = s .nodes + 1; notes = s .notes; tally = s .tally })
 
 -- a diagnostic, and what comes after it; 9 where it would be one too many or has no record
 abbrev pub report : {A : Type 0} → Given → Note → State → (State → Result A) → Result A
 report g n s on =
     test (leb mostNotes (length (s .notes)) or leb (g .records) (length (s .notes))) (λ _. refused manyNotes s) λ _.
-    on (record { at = s .at; half = s .half; nodes = s .nodes; notes = s .notes ++ (n ∷ []) })
+    on (record { at = s .at; half = s .half; nodes = s .nodes; notes = s .notes ++ (n ∷ []); tally = s .tally })
 
 -- a diagnostic where a test holds
 abbrev pub reportIf : {A : Type 0} → Bool → Given → Note → State → (State → Result A) → Result A

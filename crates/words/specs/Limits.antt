@@ -28,3 +28,11 @@ mostNotes = 32
 -- bytes of a key
 abbrev pub mostKey : ℕ
 mostKey = 262144
+
+-- trials open at once (02, W4)
+abbrev pub mostTrials : ℕ
+mostTrials = 4
+
+-- how far the type rules that were entered are counted
+abbrev pub mostEntered : ℕ
+mostEntered = 4294967295

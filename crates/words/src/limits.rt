@@ -1,6 +1,6 @@
 // The limits of document 01, each once, under the name of what it limits.
 ghost use mathlib.Core.Path.{_≡_};
-ghost use Rattle.words.specs.Limits.{mostText, mostTokens, mostOpen, tallest, longest, mostNotes, mostKey};
+ghost use Rattle.words.specs.Limits.{mostText, mostTokens, mostOpen, tallest, longest, mostNotes, mostKey, mostTrials, mostEntered};
 
 pub struct Text {}
 
@@ -46,6 +46,20 @@ impl Key {
     pub const MOST: usize = 262144;
 }
 
+// Constraints of infer that are tried at once.
+pub struct Trials {}
+
+impl Trials {
+    pub const MOST: usize = 4;
+}
+
+// How far the type rules that were entered are counted.
+pub struct Entered {}
+
+impl Entered {
+    pub const MOST: usize = 4294967295;
+}
+
 // All of them: what the code has is what the definitions have.
 pub struct Limits {
     pub text: usize,
@@ -55,11 +69,13 @@ pub struct Limits {
     pub list: usize,
     pub notes: usize,
     pub key: usize,
+    pub trials: usize,
+    pub entered: usize,
 }
 
 impl Limits {
     pub fn all() -> Limits
-        ensures { λ r. ⌜ (r .text ≡ mostText) × (r .tokens ≡ mostTokens) × (r .open ≡ mostOpen) × (r .tall ≡ tallest) × (r .list ≡ longest) × (r .notes ≡ mostNotes) × (r .key ≡ mostKey) ⌝ }
+        ensures { λ r. ⌜ (r .text ≡ mostText) × (r .tokens ≡ mostTokens) × (r .open ≡ mostOpen) × (r .tall ≡ tallest) × (r .list ≡ longest) × (r .notes ≡ mostNotes) × (r .key ≡ mostKey) × (r .trials ≡ mostTrials) × (r .entered ≡ mostEntered) ⌝ }
     {
         Limits {
             text: Text::MOST,
@@ -69,6 +85,8 @@ impl Limits {
             list: List::LONGEST,
             notes: Notes::MOST,
             key: Key::MOST,
+            trials: Trials::MOST,
+            entered: Entered::MOST,
         }
     }
 }
