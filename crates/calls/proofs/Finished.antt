@@ -19,7 +19,7 @@ use Rattle.keys.specs.Holds.{Stands}
 use Rattle.rules.specs.Notes.{noteWords}
 use Rattle.rules.specs.State.{State}
 use Rattle.rules.specs.Read.{Lent, lend, Answer, Called, reads, denied, fits, withKey, written}
-use Rattle.marks.specs.State.{notesOf, view}
+use Rattle.marks.specs.State.{notesOf, tallyOf, view}
 use Rattle.marks.proofs.LaidLaws.{length-notes}
 use Rattle.marks.specs.declared.state.Mark.{Mark}
 use Rattle.calls.specs.Reading.{seen, HeldIn, WroteIn, NoSpace}
@@ -79,15 +79,15 @@ module _ {X N M : List ℕ} {q : Mark} {t : Placed} (h : HeldIn X N M q t) where
     no-bytes c l = ap (λ (b : Bool). b and leb (length (namesOf t)) (length M)) (lt-leb (length key) d (omega (arith, size)))
 
     -- All fits.
-    pub finished : (c : ℕ) (O : List ℕ) {N' M' O' : List ℕ} → n ≤ d → N' ≡ filled (length N) (take (q .used * recordWords) N) → M' ≡ filled (length M) (take (q .named) M)
-        → O' ≡ filled c (noteWords (notesOf O (q .noted)))
-        → seen (Read (record { nodes = q .used; names = q .named; notes = q .noted; key = n; at = q .at; half = q .half })) N' M' O' K
+    pub finished : (c : ℕ) (O : List ℕ) {N' M' O' : List ℕ} {entered : ℕ} → n ≤ d → N' ≡ filled (length N) (take (q .used * recordWords) N) → M' ≡ filled (length M) (take (q .named) M)
+        → O' ≡ filled c (noteWords (notesOf O (q .noted))) → entered ≡ tallyOf O .entered
+        → seen (Read (record { nodes = q .used; names = q .named; notes = q .noted; key = n; at = q .at; half = q .half; entered = entered })) N' M' O' K
         ≡ written (lend (length N) (length M) c d) (withKey (lend (length N) (length M) c d) t (view q O))
-    finished c O fit as-nodes as-names as-notes =
+    finished c O fit as-nodes as-names as-notes counted =
         let long : n ≡ length key = omega (arith, size, h .short) in
         rw (
           le-leb (length key) d (omega arith),
           le-leb (length (namesOf t)) (length M) (omega (arith, h .named-is)),
         )
-        (called-is (rw (h .used-is, h .named-is, length-notes O (q .noted), long) refl) (as-nodes ∙ ap (filled (length N)) (h .nodes-are)) (as-names ∙ ap (filled (length M)) (h .names-are spaced))
+        (called-is (rw (h .used-is, h .named-is, length-notes O (q .noted), long, counted) refl) (as-nodes ∙ ap (filled (length N)) (h .nodes-are)) (as-names ∙ ap (filled (length M)) (h .names-are spaced))
         as-notes (w .is t (stands spaced) (e ∙ h .used-is) (h .low) (h .short) (omega arith)))

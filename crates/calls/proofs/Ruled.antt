@@ -23,6 +23,7 @@ use Rattle.rules.specs.Read.{Lent, lend, given, denied, withKey, Called, writte
 use Rattle.rules.proofs.TokenLaws.{text-few, words-few, word-inside, word-sized}
 use Rattle.rules.proofs.Theorems.{tree-fits, tree-low, nodes-used, nodes-few, notes-few, key-short, names-spelled}
 use Rattle.marks.specs.State.{notesOf, view, Sound, Spelt}
+use Rattle.marks.specs.Tally.{Untallied}
 use Rattle.marks.specs.Laid.{runIn, wasAt, Laid}
 use Rattle.marks.proofs.LaidLaws.{length-notes}
 use Rattle.marks.specs.declared.state.Mark.{Mark}
@@ -39,11 +40,11 @@ module _ (text W : List ℕ) (start : ℕ) (passed : check text W start ≡ soun
   pub spelt-list : Spelt text W
   spelt-list = record { sizes = word-sized text W start passed }
 
--- A reading begins at the first cursor, where nothing was read.
-pub reading-from : (g : rule.Given) (start : ℕ) (O : List ℕ) {i h : ℕ} → (i ≡ start) × (h ≡ 0)
+-- A reading begins at the first cursor, where nothing was read or counted.
+pub reading-from : (g : rule.Given) (start : ℕ) (O : List ℕ) {i h : ℕ} → Untallied O → (i ≡ start) × (h ≡ 0)
     → reading g start ≡ readType g mostOpen true (view (record { at = i; half = h; used = 0; named = 0; noted = 0 }) O)
 unfolding reading notesOf
-reading-from g start O e = rw (e .0, e .1) refl
+reading-from g start O u e = rw (e .0, e .1, u .none-entered, u .none-tried) refl
 
 -- The same is lent.
 pub same-lent : {a b c d a' b' : ℕ} → a' ≡ a → b' ≡ b → lend a' b' c d ≡ lend a b c d

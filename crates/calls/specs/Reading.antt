@@ -27,7 +27,7 @@ Slice = Both (RefT (List ℕ)) (RefT (List ℕ))
 
 -- The code's answer in the words of the definitions.
 abbrev pub answerOf : Reading → Answer
-answerOf (Read c) = reads (c .nodes) (c .names) (c .notes) (c .at) (c .half) (c .key)
+answerOf (Read c) = reads (c .nodes) (c .names) (c .notes) (c .at) (c .half) (c .key) (c .entered)
 answerOf (Refused r) = refuses (r .number) (r .token) (r .half) (r .byte)
 
 -- What the caller sees: the answer, and the final content of every slice.

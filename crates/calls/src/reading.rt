@@ -7,6 +7,7 @@ ghost use Rattle.words.specs.Check.{sound, check as checkOf};
 ghost use Rattle.keys.specs.Limits.{recordWords};
 ghost use Rattle.keys.specs.Placed.{Placed};
 ghost use Rattle.rules.specs.Notes.{noteWidth};
+ghost use Rattle.marks.specs.Tally.{Untallied};
 ghost use Rattle.calls.specs.Reading.{Reads, Refuses, NoSpace, Held, Finishes, Wrote};
 use key_out::out::put_key;
 use keys::store;
@@ -17,6 +18,7 @@ use marks::notes::copy_notes;
 use marks::refusal::Refusal;
 use marks::state::Given;
 use marks::state::Mark;
+use marks::tally::entered;
 use readers::ring::ty;
 use words::check::Checked;
 use words::check::check;
@@ -32,7 +34,7 @@ pub enum Reading {
     Refused(Refused),
 }
 
-// How much was used of each slice, where the last node is the root; and the end cursor.
+// How much was used of each slice, where the last node is the root; the end cursor; and how many type rules were entered.
 pub struct Counts {
     pub nodes: usize,
     pub names: usize,
@@ -40,6 +42,7 @@ pub struct Counts {
     pub key: usize,
     pub at: usize,
     pub half: usize,
+    pub entered: usize,
 }
 
 // A refusal's number; its token, the half used of it, and the first byte not used: all 0 where there is no such place.
@@ -122,11 +125,12 @@ fn finish(
         key: n,
         at: q.at,
         half: q.half,
+        entered: entered(noting),
     };
     Reading::Read(c)
 }
 
-// A sound list is read from a token on, conditionals on; its diagnostics are noted in words of the call's own.
+// A sound list is read from a token on, conditionals on; its diagnostics are noted, and its type rules counted, in words of the call's own.
 fn read_noting(
     text: &[u8],
     tokens: &[u64],
@@ -138,7 +142,7 @@ fn read_noting(
     notes: &mut [u64],
     key: &mut [u8],
 ) -> Reading
-    requires { ⌜ checkOf (now text) (now tokens) start ≡ sound ⌝ }
+    requires { ⌜ (checkOf (now text) (now tokens) start ≡ sound) × Untallied (now noting) ⌝ }
     ensures { λ r. ⌜ Reads nodes names notes key text tokens start «preserve_parens» r ⌝ }
 {
     let classes = class_words();

@@ -12,7 +12,7 @@ use Rattle.keys.specs.Store.{Run, done, name, under, called, firstKid, records,
 use Rattle.keys.proofs.StoreLaws.{under-join, called-join, records-join, namesIn-join}
 use Rattle.keys.specs.Words.{firstNodes, firstNames}
 use Rattle.rules.specs.Notes.{Note, noteBoth}
-use Rattle.marks.specs.State.{noteAt, noteFrom, notesOf}
+use Rattle.marks.specs.State.{tallies, noteAt, noteFrom, notesOf, tallyOf}
 use Rattle.marks.specs.Laid.{skeleton, namesRun, Was, wasAt, Laid}
 use Rattle.marks.proofs.RunLaws.{under-skeleton, called-skeleton, records-skeleton, namesIn-skeleton, under-names, records-names}
 
@@ -78,18 +78,22 @@ notes-same O O' n k h e = sym (notes-take O' n k h) ∙ ap (take k) e ∙ notes-
 pub notes-before : (O O' : List ℕ) (n : ℕ) (z : Note) → notesOf O' (n + 1) ≡ notesOf O n ++ (z ∷ []) → notesOf O' n ≡ notesOf O n
 notes-before O O' n z e = sym (notes-take O' (n + 1) n (omega arith)) ∙ ap (take n) e ∙ take-at (notesOf O n) (z ∷ []) n (length-notes O n)
 
-notes-set : (O : List ℕ) (n i v : ℕ) → noteAt n ≤ i → notesOf (set O i v) n ≡ notesOf O n
+-- A word that is none of theirs does not change diagnostics.
+pub notes-apart : (O : List ℕ) (n i v : ℕ) → ((k : ℕ) → tallies ≤ k → k < noteAt n → k ≡ i → ⊥) → notesOf (set O i v) n ≡ notesOf O n
 unfolding notesOf
-notes-set O zero i v h = refl
-notes-set O (suc n) i v h =
+notes-apart O zero i v h = refl
+notes-apart O (suc n) i v h =
     rw (
-      notes-set O n i v (omega arith),
-      getD-set-other O i (noteAt n) v 0 (λ e. omega arith),
-      getD-set-other O i (noteAt n + 1) v 0 (λ e. omega arith),
-      getD-set-other O i (noteAt n + 2) v 0 (λ e. omega arith),
-      getD-set-other O i (noteAt n + 3) v 0 (λ e. omega arith),
-      getD-set-other O i (noteAt n + 4) v 0 (λ e. omega arith),
+      notes-apart O n i v (λ k l b. h k l (omega arith)),
+      getD-set-other O i (noteAt n) v 0 (h (noteAt n) (omega arith) (omega arith)),
+      getD-set-other O i (noteAt n + 1) v 0 (h (noteAt n + 1) (omega arith) (omega arith)),
+      getD-set-other O i (noteAt n + 2) v 0 (h (noteAt n + 2) (omega arith) (omega arith)),
+      getD-set-other O i (noteAt n + 3) v 0 (h (noteAt n + 3) (omega arith) (omega arith)),
+      getD-set-other O i (noteAt n + 4) v 0 (h (noteAt n + 4) (omega arith) (omega arith)),
     )
+
+notes-set : (O : List ℕ) (n i v : ℕ) → noteAt n ≤ i → notesOf (set O i v) n ≡ notesOf O n
+notes-set O n i v h = notes-apart O n i v (λ k l b e. omega arith)
 
 -- The words of a record, stored from a word on.
 abbrev recorded : List ℕ → ℕ → Note → List ℕ
@@ -138,6 +142,21 @@ notes-recorded O n z h =
     ∙ notes-set s1 n (i + 1) (z .first) (omega arith) ∙ notes-set O n i (z .number) (omega arith) in
     ap (notesOf (recorded O i z)) (let e : n + 1 ≡ suc n = omega arith in e)
     ∙ ap₂ (λ (l : List Note) (y : Note). l ++ (y ∷ [])) before (note-recorded O i z (omega arith))
+
+-- A word behind the tally does not change it.
+tally-set : (O : List ℕ) (i v : ℕ) → tallies ≤ i → tallyOf (set O i v) ≡ tallyOf O
+tally-set O i v h = rw (getD-set-other O i 0 v 0 (λ e. omega arith), getD-set-other O i 1 v 0 (λ e. omega arith))
+
+-- Nor do the words of a record.
+pub tally-recorded : (O : List ℕ) (n : ℕ) (z : Note) → tallyOf (recorded O (noteAt n) z) ≡ tallyOf O
+tally-recorded O n z =
+    let i = noteAt n in
+    let s1 = set O i (z .number) in
+    let s2 = set s1 (i + 1) (z .first) in
+    let s3 = set s2 (i + 2) (z .end) in
+    let s4 = set s3 (i + 3) (z .otherFirst) in
+    tally-set s4 (i + 4) (z .otherEnd) (omega arith) ∙ tally-set s3 (i + 3) (z .otherFirst) (omega arith) ∙ tally-set s2 (i + 2) (z .end) (omega arith)
+    ∙ tally-set s1 (i + 1) (z .first) (omega arith) ∙ tally-set O i (z .number) (omega arith)
 
 -- ---- What is laid
 

@@ -1,5 +1,6 @@
 pub mod RunLaws
 pub mod LaidLaws
+pub mod TallyLaws
 pub mod BuiltLaws
 pub mod Answers
 pub mod ReportLaws

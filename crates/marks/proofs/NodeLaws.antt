@@ -32,7 +32,7 @@ use Rattle.marks.specs.declared.state.Kids.{Kids}
 
 -- One node more is in use.
 abbrev pub oneMore : State → State
-oneMore s = record { at = s .at; half = s .half; nodes = s .nodes + 1; notes = s .notes }
+oneMore s = record { at = s .at; half = s .half; nodes = s .nodes + 1; notes = s .notes; tally = s .tally }
 
 module _ (g : Given) (t : Placed) (s : State) where
   pub make-tall : tallest < height (bare t) → make g [] t s ≡ refuse tooTall (s .at) (s .half)

@@ -60,27 +60,27 @@ module _ {holds : Bool} {given : Given} {n : Note} {m : Mark} {O : List ℕ} {a 
   -- The answer has no height.
   pub reports-high : Reports holds given n m O a O' → a .high ≡ 0
   reports-high (silent h e o) = ap (λ (x : Answer). x .high) e
-  reports-high (noted h f e o) = ap (λ (x : Answer). x .high) e
+  reports-high (noted h f e o t) = ap (λ (x : Answer). x .high) e
   reports-high (full h f e o) = ap (λ (x : Answer). x .high) e
 
   -- The diagnostics before stand.
   pub reports-before : Reports holds given n m O a O' → notesOf O' (m .noted) ≡ notesOf O (m .noted)
   reports-before (silent h e o) = ap (λ (x : List ℕ). notesOf x (m .noted)) o
-  reports-before (noted h f e o) = notes-before O O' (m .noted) n o
+  reports-before (noted h f e o t) = notes-before O O' (m .noted) n o
   reports-before (full h f e o) = ap (λ (x : List ℕ). notesOf x (m .noted)) o
 
   -- Reading goes on where the answer stands.
   pub reports-done : {A : Type 0} (text W : List ℕ) (on : State → Result A) → Reports holds given n m O a O' → a .why ≡ 0
       → reportIf holds (givenOf text W given) n (view m O) on ≡ on (view (a .m) O')
   reports-done text W on (silent h e o) z = rw (h, e, o)
-  reports-done text W on (noted h f e o) z = rw (h, length-notes O (m .noted), f, e, o)
+  reports-done text W on (noted h f e o t) z = rw (h, length-notes O (m .noted), f, e, o, t)
   reports-done text W on (full h f e o) z = absurd (let i : manyNotes ≡ 0 = sym (ap (λ (x : Answer). x .why) e) ∙ z in omega arith)
 
   -- There is no record for it.
   pub reports-refused : {A : Type 0} (text W : List ℕ) (on : State → Result A) → Reports holds given n m O a O' → (a .why ≡ 0 → ⊥)
       → reportIf holds (givenOf text W given) n (view m O) on ≡ refuse (a .why) (a .m .at) (a .m .half)
   reports-refused text W on (silent h e o) z = absurd (z (ap (λ (x : Answer). x .why) e))
-  reports-refused text W on (noted h f e o) z = absurd (z (ap (λ (x : Answer). x .why) e))
+  reports-refused text W on (noted h f e o t) z = absurd (z (ap (λ (x : Answer). x .why) e))
   reports-refused text W on (full h f e o) z = rw (h, length-notes O (m .noted), f, e)
 
   -- What was laid before stands.

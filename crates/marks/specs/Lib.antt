@@ -1,5 +1,6 @@
 -- Where a reading stands, and what stands in the slices since.
 pub mod State
+pub mod Tally
 pub mod Laid
 pub mod Says
 pub mod Notes

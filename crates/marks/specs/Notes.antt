@@ -8,7 +8,7 @@ use Rattle.words.specs.Limits.{mostNotes}
 use Rattle.words.specs.Test.{_or_}
 use Rattle.rules.specs.Notes.{Note}
 use Rattle.rules.specs.Refusal.{manyNotes}
-use Rattle.marks.specs.State.{notedMark, notesOf}
+use Rattle.marks.specs.State.{notedMark, notesOf, tallyOf}
 use Rattle.marks.specs.declared.state.Given.{Given}
 use Rattle.marks.specs.declared.state.Mark.{Mark}
 use Rattle.marks.specs.declared.state.Answer.{Answer}
@@ -25,10 +25,10 @@ takenAt m = record { why = 0; high = 0; m = m }
 abbrev pub refusedAt : ℕ → Mark → Answer
 refusedAt why m = record { why = why; high = 0; m = m }
 
--- Nothing is reported; or one diagnostic more is in the words; or there is no record for it.
+-- Nothing is reported; or one diagnostic more is in the words, and the tally stays; or there is no record for it.
 pub data Reports (holds : Bool) (given : Given) (n : Note) (m : Mark) (O : List ℕ) (a : Answer) (O' : List ℕ) : Type 0 where
   silent : holds ≡ false → a ≡ takenAt m → O' ≡ O → Reports holds given n m O a O'
-  noted : holds ≡ true → isFull given m ≡ false → a ≡ takenAt (notedMark m) → notesOf O' (m .noted + 1) ≡ notesOf O (m .noted) ++ (n ∷ []) → Reports holds given n m O a O'
+  noted : holds ≡ true → isFull given m ≡ false → a ≡ takenAt (notedMark m) → notesOf O' (m .noted + 1) ≡ notesOf O (m .noted) ++ (n ∷ []) → tallyOf O' ≡ tallyOf O → Reports holds given n m O a O'
   full : holds ≡ true → isFull given m ≡ true → a ≡ refusedAt manyNotes m → O' ≡ O → Reports holds given n m O a O'
 
 -- Nothing but the number of diagnostics has changed, and it keeps its limit.

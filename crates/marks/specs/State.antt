@@ -12,7 +12,7 @@ use Rattle.words.specs.Check.{spelled}
 use Rattle.keys.specs.Limits.{recordWords}
 use Rattle.rules.specs.Notes.{Note, noteBoth, noteWidth}
 use Rattle.rules.specs.State as rule
-use Rattle.rules.specs.State.{State, Result, refuse}
+use Rattle.rules.specs.State.{Tally, State, Result, refuse}
 use Rattle.marks.specs.declared.state.Given.{Given}
 use Rattle.marks.specs.declared.state.Mark.{Mark}
 use Rattle.marks.specs.declared.state.Kids.{Kids}
@@ -37,13 +37,17 @@ unfoldable pub notesOf : List ℕ → ℕ → List Note
 notesOf s zero = []
 notesOf s (suc n) = notesOf s n ++ (noteFrom s (noteAt n) ∷ [])
 
+-- The tally that stands in the first of their words.
+abbrev pub tallyOf : List ℕ → Tally
+tallyOf s = record { entered = getD s 0 0; trials = getD s 1 0 }
+
 -- What the code is given, for contracts to speak of any.
 abbrev pub AnyGiven : Type 0
 AnyGiven = Given
 
 -- Where reading stands.
 abbrev pub view : Mark → List ℕ → State
-view m O = record { at = m .at; half = m .half; nodes = m .used; notes = notesOf O (m .noted) }
+view m O = record { at = m .at; half = m .half; nodes = m .used; notes = notesOf O (m .noted); tally = tallyOf O }
 
 -- What a reading is given, of a text.
 abbrev pub givenOf : List ℕ → List ℕ → Given → rule.Given

@@ -5,3 +5,4 @@ pub mod node;
 pub mod notes;
 pub mod refusal;
 pub mod state;
+pub mod tally;

@@ -7,7 +7,7 @@ ghost use lib.ListN.{length};
 ghost use Rattle.words.specs.Limits.{mostNotes};
 ghost use Rattle.keys.specs.Store.{filled};
 ghost use Rattle.rules.specs.Notes.{note, noteBoth, noteWidth, noteWords};
-ghost use Rattle.marks.specs.State.{noteAt, notesOf};
+ghost use Rattle.marks.specs.State.{noteAt, notesOf, tallyOf};
 ghost use Rattle.marks.specs.Notes.{Reports, Noted};
 use crate::refusal::Refusal;
 use crate::state::Answer;
@@ -54,6 +54,12 @@ pub struct Noting {}
 impl Noting {
     pub const TALLIES: usize = 8;
 
+    // Where the type rules that were entered are counted.
+    pub const ENTERED: usize = 0;
+
+    // Where the trials that are open are counted.
+    pub const TRIALS: usize = 1;
+
     pub const RECORD: usize = 5;
 
     // With as many records as there may be diagnostics.
@@ -64,6 +70,7 @@ impl Noting {
 fn append_note(notes: &mut [u64], at: usize, number: usize, place: Place, other: Place)
     requires { ⌜ noteAt (at + 1) ≤ length (now notes) ⌝ }
     ensures { λ _. ⌜ notesOf (now (notes .exit)) (at + 1) ≡ notesOf (now (notes .entry)) at ++ (noteBoth number (place .first) (place .end) (other .first) (other .end) ∷ []) ⌝ }
+    ensures { λ _. ⌜ tallyOf (now (notes .exit)) ≡ tallyOf (now (notes .entry)) ⌝ }
 {
     let to = Noting::TALLIES + at * Noting::RECORD;
     notes[to] = number as u64;

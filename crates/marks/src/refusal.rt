@@ -37,6 +37,8 @@ impl Refusal {
     pub const IMPORT_SOURCE: usize = 26;
     // a comma after an import's source
     pub const IMPORT_OPTIONS: usize = 27;
+    // a trial opens that is one too many
+    pub const MANY_TRIALS: usize = 28;
     // a member with a computed name, an accessor, or a modifier other than readonly
     pub const MEMBER_FORM: usize = 31;
 }

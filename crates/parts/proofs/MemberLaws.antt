@@ -49,7 +49,7 @@ pub stands-reported : {holds : Bool} {given : Given} {n : Note} {m : Mark} {O : 
     → Reports holds given n m O a O' → Stands c B e high m N M O → Stands c B e high (a .m) N M O'
 stands-reported {m = m} {O = O} {a = a} {O' = O'} {c = c} {B = B} {e = e} {high = high} {N = N} {M = M} (silent h i o) s =
     subst (λ (x : Answer). Stands c B e high (x .m) N M O') (sym i) (subst (λ (x : List ℕ). Stands c B e high m N M x) (sym o) s)
-stands-reported {n = n} {m = m} {O = O} {a = a} {O' = O'} {c = c} {B = B} {e = e} {high = high} {N = N} {M = M} (noted h f i o) s =
+stands-reported {n = n} {m = m} {O = O} {a = a} {O' = O'} {c = c} {B = B} {e = e} {high = high} {N = N} {M = M} (noted h f i o w) s =
     subst (λ (x : Answer). Stands c B e high (x .m) N M O') (sym i)
     (record { is-node = s .is-node; high-is = s .high-is; laid = laid-noted (m .noted + 1) O' (omega arith) (notes-before O O' (m .noted) n o) (s .laid) })
 stands-reported {m = m} {O = O} {a = a} {O' = O'} {c = c} {B = B} {e = e} {high = high} {N = N} {M = M} (full h f i o) s =
@@ -64,7 +64,7 @@ behind false n i h y e = e
 pub make-same : (g : rule.Given) (l : List ℕ) (t : Placed) (s : State) (u : Placed) (q : State) → make g l t s ≡ read u q → u ≡ t
 unfolding make
 make-same g l t s u q e =
-    let end : Result Placed = read t (record { at = s .at; half = s .half; nodes = s .nodes + 1; notes = s .notes }) in
+    let end : Result Placed = read t (record { at = s .at; half = s .half; nodes = s .nodes + 1; notes = s .notes; tally = s .tally }) in
     let room : Result Placed = test (leb (g .room) (s .nodes)) (λ _. refused noRoom s) (λ _. end) in
     let tall : Result Placed = test (ltb tallest (height (bare t))) (λ _. refused tooTall s) (λ _. room) in
     let one : tall ≡ read u q = behind (overlong l) tooLong (s .at) (s .half) tall e in

@@ -12,7 +12,7 @@ use Rattle.keys.specs.Placed as node
 use Rattle.keys.specs.Placed.{Placed, Spelling, Opt, absent, present}
 use Rattle.rules.specs.Refusal.{unexpected, tooDeep}
 use Rattle.rules.specs.Notes.{note, emptyTypeParameters, emptyArguments}
-use Rattle.rules.specs.State.{Given, State, Result, Reader, read, refused, then, next, kind, stands, onLine, first, end, spelling, turns, past, expect, optional, make, reportIf}
+use Rattle.rules.specs.State.{Given, State, Result, Reader, read, refused, then, next, kind, stands, onLine, first, end, spelling, turns, entering, past, expect, optional, make, reportIf}
 use Rattle.rules.specs.List.{noEntry, listFrom, list}
 use Rattle.rules.specs.Names as names
 use Rattle.rules.specs.TypeParameters as types
@@ -52,17 +52,18 @@ module _ (g : Given) where
   unfolding readType
   type-none n on s e = rw e
 
-  pub type-function : (n : ℕ) (on : Bool) (s : State) → (n ≡ 0 → ⊥) → type.begins (functionStart (g .words) (s .at) (s .half)) ≡ true
-      → readType g n on s ≡ function.function g (readType g (n - 1)) on s
+  -- Each is counted before its tests: p is where it stands then.
+  pub type-function : (n : ℕ) (on : Bool) (s : State) {p : State} → p ≡ entering s → (n ≡ 0 → ⊥) → type.begins (functionStart (g .words) (s .at) (s .half)) ≡ true
+      → readType g n on s ≡ function.function g (readType g (n - 1)) on p
   unfolding readType type.type
-  type-function zero on s h e = absurd (h refl)
-  type-function (suc n) on s h e = rw (e, (let z : suc n - 1 ≡ n = omega arith in z))
+  type-function zero on s w h e = absurd (h refl)
+  type-function (suc n) on s w h e = rw (e, (let z : suc n - 1 ≡ n = omega arith in z), w)
 
-  pub type-other : (n : ℕ) (on : Bool) (s : State) → (n ≡ 0 → ⊥) → type.begins (functionStart (g .words) (s .at) (s .half)) ≡ false
-      → readType g n on s ≡ type.unionOrConditional g (readType g (n - 1)) on s
+  pub type-other : (n : ℕ) (on : Bool) (s : State) {p : State} → p ≡ entering s → (n ≡ 0 → ⊥) → type.begins (functionStart (g .words) (s .at) (s .half)) ≡ false
+      → readType g n on s ≡ type.unionOrConditional g (readType g (n - 1)) on p
   unfolding readType type.type
-  type-other zero on s h e = absurd (h refl)
-  type-other (suc n) on s h e = rw (e, (let z : suc n - 1 ≡ n = omega arith in z))
+  type-other zero on s w h e = absurd (h refl)
+  type-other (suc n) on s w h e = rw (e, (let z : suc n - 1 ≡ n = omega arith in z), w)
 
   module _ (T : Reader) where
     -- Whether a union goes on as a conditional.

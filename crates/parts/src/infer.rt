@@ -1,9 +1,13 @@
 // Infer: its trial, without the constraint's type.
 ghost use mathlib.Core.Path.{_≡_};
+ghost use mathlib.Core.Bool.{false};
 ghost use Prim.Native.Nat.{_+_, _≤_, _<_};
 ghost use lib.ListN.{length};
 ghost use Rattle.words.specs.Kind as kind;
+ghost use lib.Dec.{leb};
+ghost use Rattle.words.specs.Limits.{mostTrials};
 ghost use Rattle.words.specs.Test.{_and_};
+ghost use Rattle.rules.specs.Infer.{withTrial};
 ghost use Rattle.marks.specs.State.{Stepped, Reached, placeOf, nextMark};
 ghost use Rattle.marks.specs.Names.{MayBind};
 ghost use Rattle.marks.specs.List.{here};
@@ -21,6 +25,7 @@ use marks::state::Mark;
 use marks::state::kind_at;
 use marks::state::next;
 use words::kind::Kind;
+use words::limits::Trials;
 
 // Past infer and the name that is bound.
 pub fn infer_head(
@@ -36,6 +41,27 @@ pub fn infer_head(
     ensures { λ r. ⌜ Stepped (length (now (words .entry))) given (nextMark m) r ⌝ }
 {
     bound(words, classes, names, notes, given, next(m))
+}
+
+// Whether a constraint would be one trial too many: it is a trial only where a conditional may stand.
+pub fn many_trials(on: bool, trials: usize) -> bool
+    ensures { λ r. ⌜ r ≡ (on and leb mostTrials trials) ⌝ }
+{
+    if !on {
+        return false;
+    }
+    Trials::MOST <= trials
+}
+
+// How many trials are open while a constraint is read.
+pub fn with_trial(on: bool, trials: usize) -> usize
+    requires { ⌜ (on and leb mostTrials trials) ≡ false ⌝ }
+    ensures { λ r. ⌜ r ≡ withTrial on trials ⌝ }
+{
+    if on {
+        return trials + 1;
+    }
+    trials
 }
 
 // Whether a constraint that was read up to q is put back: a `?` behind it, where a conditional may stand, undoes the trial.

@@ -48,7 +48,7 @@ report-then : {A C : Type 0} (b : Bool) (g : rule.Given) (n : Note) (q : State) 
 report-then {A} {C} b g n q K L on f = by b (leb mostNotes (length (q .notes)) or leb (g .records) (length (q .notes)))
   where
     more : State
-    more = record { at = q .at; half = q .half; nodes = q .nodes; notes = q .notes ++ (n ∷ []) }
+    more = record { at = q .at; half = q .half; nodes = q .nodes; notes = q .notes ++ (n ∷ []); tally = q .tally }
 
     by : (b full : Bool) → test b (λ _. test full (λ _. refused manyNotes q) (λ _. L more)) (λ _. L q)
         ≡ then (test b (λ _. test full (λ _. refused manyNotes q) (λ _. K more)) (λ _. K q)) on

@@ -46,6 +46,9 @@ use marks::state::first_byte;
 use marks::state::kind_at;
 use marks::state::on_line;
 use marks::state::past;
+use marks::tally::enter;
+use marks::tally::open_trials;
+use marks::tally::set_trials;
 use members::object::IndexParams;
 use members::object::Sort;
 use members::object::index_choices;
@@ -79,6 +82,8 @@ use parts::function::type_param_head;
 use parts::infer::dropped;
 use parts::infer::infer_head;
 use parts::infer::infer_node;
+use parts::infer::many_trials;
+use parts::infer::with_trial;
 use parts::mapped::mapped_choices;
 use parts::mapped::mapped_head;
 use parts::mapped::mapped_middle;
@@ -130,6 +135,7 @@ pub fn ty(
         parens: given.parens,
         left: given.left - 1,
     };
+    enter(notes);
     if begins(words, classes, m) {
         return function(text, words, classes, nodes, names, notes, below, on, m);
     }
@@ -874,6 +880,11 @@ fn infer(
     if kind_at(words, p) != Kind::EXTENDS {
         return put(words, nodes, given, b, Tag::INFER, Kids::none(), p);
     }
+    let trials = open_trials(notes);
+    if many_trials(on, trials) {
+        return Answer::refused(Refusal::MANY_TRIALS, p);
+    }
+    set_trials(notes, with_trial(on, trials));
     let s = Mark {
         at: p.at + 1,
         half: 0,
@@ -885,6 +896,7 @@ fn infer(
     if a.why != 0 {
         return a;
     }
+    set_trials(notes, trials);
     let q = a.m;
     let undone = dropped(words, on, q);
     infer_node(words, nodes, given, b, undone, a.high, p, q)

@@ -1,4 +1,4 @@
--- The three demands, sentence by sentence, of what a caller of the open calls sees, what W9 asks of the third, and W14's positions and spaces. A text or a key is a list of bytes; trees are compared as bare values, positions aside.
+-- The three demands, sentence by sentence, of what a caller of the open calls sees, what W9 asks of the third, W4's count, and W14's positions and spaces. A text or a key is a list of bytes; trees are compared as bare values, positions aside.
 -- That what is seen is `left c`, `takeBack` or `differ`, whatever is given and lent, is the promise of each call: `Reads` in `calls/specs/Reading`, `TakesBack` in Taking, `Differs` in `differs/specs/Call`.
 use mathlib.Core.Path.{_≡_, refl, sym, ap, _∙_, subst}
 use mathlib.Core.Logic.{_↔_}
@@ -24,7 +24,7 @@ use Rattle.keys.proofs.Theorems.{one-standing}
 use Rattle.rules.specs.Notes.{NoteStands}
 use Rattle.rules.specs.State.{State}
 use Rattle.rules.specs.Read.{granted, refuses, Called, written}
-use Rattle.rules.specs.Call.{Call, left, grants, keyLeft, Granted, Kept, AllZero, IsRefusal}
+use Rattle.rules.specs.Call.{Call, left, grants, enteredCount, keyLeft, Granted, Kept, AllZero, IsRefusal}
 use Rattle.rules.specs.Places.{after, InOrder}
 use Rattle.rules.specs.Like.{Respaced, noteNumbers, withoutByte}
 use Rattle.rules.proofs.Theorems as rules
@@ -68,8 +68,8 @@ module _ (c : Call) (bytes : Bytes (c .text)) {z : Called} (seen : z ≡ left c)
       (x .0, x .1, record { bytes = bytes; grant = g; rules = x .2 })
 
   module _ {t : Placed} {s : State} (x : Granted c t s) where
-    -- .. and tree, names, diagnostics, end and key are those of that reading, each with zeros behind it.
-    pub granted-leaves : z ≡ written (c .lent) (granted t (s .notes) (s .at) (s .half) (keyOf (bare t)))
+    -- .. and tree, names, diagnostics, end, key and count of type rules are those of that reading, each with zeros behind it.
+    pub granted-leaves : z ≡ written (c .lent) (granted t (s .notes) (s .at) (s .half) (keyOf (bare t)) (s .tally .entered))
     granted-leaves = seen ∙ rules.call-leaves x
 
     -- The tree stands in the words, its names pointing at its spellings in the text in the key's order; no other tree does (`one-standing`).
@@ -86,6 +86,10 @@ module _ (c : Call) (bytes : Bytes (c .text)) {z : Called} (seen : z ≡ left c)
     -- W6: of its diagnostics a 4 has a second place, which ends no later than the first begins, both in the text; the others have none.
     pub granted-notes : Each (NoteStands (length (c .text))) (s .notes)
     granted-notes = rules.call-notes x
+
+    -- W4: it entered sixteen type rules for each token at most.
+    pub granted-few : enteredCount (z .answer) ≤ 16 * length (c .words)
+    granted-few = rw seen (rules.entered-few x)
 
     -- W14: a node's first byte is below its end byte, a child's bytes lie inside its parent's, entries of a list come in order without overlap, and all end inside the text.
     pub granted-in-order : InOrder 0 t × (after 0 t ≤ length (c .text))
@@ -221,7 +225,8 @@ same-reading (Read c) (Read d) e =
     let e3 : c .key ≡ d .key = cc in
     let e4 : c .at ≡ d .at = cc in
     let e5 : c .half ≡ d .half = cc in
-    λ i. Read (record { nodes = e0 i; names = e1 i; notes = e2 i; key = e3 i; at = e4 i; half = e5 i })
+    let e6 : c .entered ≡ d .entered = cc in
+    λ i. Read (record { nodes = e0 i; names = e1 i; notes = e2 i; key = e3 i; at = e4 i; half = e5 i; entered = e6 i })
 same-reading (Read c) (reads.Refused d) e = clash (cc)
 same-reading (reads.Refused c) (Read d) e = clash (cc)
 same-reading (reads.Refused c) (reads.Refused d) e =

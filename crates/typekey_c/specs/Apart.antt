@@ -40,11 +40,11 @@ above-zero call.is-noSpace = omega arith
 
 apart : (a b : rules.Answer) → Numbered a → Numbered b → told a ≡ told b → a ≡ b
 unfolding Numbered
-apart (reads n m o i h k) (reads n' m' o' i' h' k') p q e = cc
-apart (reads n m o i h k) (refuses n' i' h' b') p q e =
+apart (reads n m o i h k c) (reads n' m' o' i' h' k' c') p q e = cc
+apart (reads n m o i h k c) (refuses n' i' h' b') p q e =
     let z : n' ≡ 0 = cc in
     let l = q n' i' h' b' refl in clash (omega arith)
-apart (refuses n i h b) (reads n' m' o' i' h' k') p q e =
+apart (refuses n i h b) (reads n' m' o' i' h' k' c') p q e =
     let z : n ≡ 0 = cc in
     let l = p n i h b refl in clash (omega arith)
 apart (refuses n i h b) (refuses n' i' h' b') p q e = cc

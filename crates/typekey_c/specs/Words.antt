@@ -15,9 +15,9 @@ use Rattle.differs.specs.Differ.{Differed, differ}
 
 -- ---- Reading
 
--- 0, nodes, names, diagnostics, bytes of key, the end's token and half; or a refusal's number, token, half and byte. Then zeros.
+-- 0, nodes, names, diagnostics, bytes of key, the end's token and half, and type rules entered; or a refusal's number, token, half and byte. Then zeros.
 abbrev pub told : rules.Answer → List ℕ
-told (rules.reads nodes names notes at half key) = 0 ∷ nodes ∷ names ∷ notes ∷ key ∷ at ∷ half ∷ 0 ∷ []
+told (rules.reads nodes names notes at half key entered) = 0 ∷ nodes ∷ names ∷ notes ∷ key ∷ at ∷ half ∷ entered ∷ []
 told (rules.refuses number token half byte) = number ∷ token ∷ half ∷ byte ∷ 0 ∷ 0 ∷ 0 ∷ 0 ∷ []
 
 -- The lowest bit of the options is preserve_parens; the others say nothing.

@@ -7,7 +7,7 @@ use typekey::reading::read;
 use typekey::taking::Taking;
 use typekey::taking::take_back;
 
-// Reads a type; options: 1 for preserve_parens. The answer is 0, then nodes, names, notes, bytes of key, the end's token and half; or the refusal's number,
+// Reads a type; options: 1 for preserve_parens. The answer is 0, then nodes, names, notes, bytes of key, the end's token and half, and type rules entered; or the refusal's number,
 // token, half and byte. The other words are 0.
 #[no_mangle]
 pub extern "C" fn typekey_read(
@@ -43,7 +43,7 @@ pub extern "C" fn typekey_read(
                 c.key as u64,
                 c.at as u64,
                 c.half as u64,
-                0,
+                c.entered as u64,
             ];
         }
         Reading::Refused(x) => {

@@ -81,6 +81,9 @@ clear-words-requires-2 c κs = search needs
 copy-notes-requires : tie.Need-copy-notes-requires
 copy-notes-requires c κs = search needs
 
+entered-requires : tie.Need-entered-requires
+entered-requires c κs = search needs
+
 same-length-9 : tie.Need-same-length-9
 same-length-9 c = search needs
 
@@ -95,15 +98,16 @@ same-length-12 c = search needs
 
 returns-3 : tie.Need-returns-3
 returns-3 c =
-    let pre = c .before .before .before .before .before .before .before .before .before .before .before .before .before .before .before .before .before .before .before .before .before .before .before .before .before .before .before .before .pre in
-    let args = c .before .before .before .before .before .before .before .before .before .before .before .before .before .before .before .before .before .before .before .before .before .before .before .before .before .before .before .before .args in
-    let if1 = c .before .before .before .before .before .before .before .before .before .before .before .before .before .before .before .before .before .before .before .before .before .if1 in
-    let put = c .before .before .before .before .before .before .before .before .before .before .before .before .before .before .before .before .put in
-    let if2 = c .before .before .before .before .before .before .before .before .before .before .before .before .before .if2 in
-    let clear-words = c .before .before .before .before .before .before .before .before .before .before .clear-words in
-    let clear-words2 = c .before .before .before .before .before .before .clear-words2 in
-    let copy-notes = c .before .before .copy-notes in
-    λ t h. finished h (put .ensures) (omega (arith, pre)) (omega (arith, if1 .left)) _ (args .noting .now) (omega (arith, if2 .left, put .kept)) (clear-words .ensures) (clear-words2 .ensures) (copy-notes .ensures)
+    let pre = c .before .before .before .before .before .before .before .before .before .before .before .before .before .before .before .before .before .before .before .before .before .before .before .before .before .before .before .before .before .pre in
+    let args = c .before .before .before .before .before .before .before .before .before .before .before .before .before .before .before .before .before .before .before .before .before .before .before .before .before .before .before .before .before .args in
+    let if1 = c .before .before .before .before .before .before .before .before .before .before .before .before .before .before .before .before .before .before .before .before .before .before .if1 in
+    let put = c .before .before .before .before .before .before .before .before .before .before .before .before .before .before .before .before .before .put in
+    let if2 = c .before .before .before .before .before .before .before .before .before .before .before .before .before .before .if2 in
+    let clear-words = c .before .before .before .before .before .before .before .before .before .before .before .clear-words in
+    let clear-words2 = c .before .before .before .before .before .before .before .clear-words2 in
+    let copy-notes = c .before .before .before .copy-notes in
+    let entered = c .entered in
+    λ t h. finished h (put .ensures) (omega (arith, pre)) (omega (arith, if1 .left)) _ (args .noting .now) (omega (arith, if2 .left, put .kept)) (clear-words .ensures) (clear-words2 .ensures) (copy-notes .ensures) (entered .ensures)
 
 pub finish-spec : {M : Type 1} → statement M
 finish-spec =
@@ -129,6 +133,7 @@ finish-spec =
     clear-words-requires
     clear-words-requires-2
     copy-notes-requires
+    entered-requires
     same-length-9
     same-length-10
     same-length-11

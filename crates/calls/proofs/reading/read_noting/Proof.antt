@@ -25,10 +25,10 @@ ty-requires c κs =
     let start = c .before .before .before .before .start in
     record {
       classes-are = class-words .ensures;
-      sound = sound-list (args .text .now) (args .tokens .now) (args .start) pre;
-      spelt = spelt-list (args .text .now) (args .tokens .now) (args .start) pre;
+      sound = sound-list (args .text .now) (args .tokens .now) (args .start) (pre .0);
+      spelt = spelt-list (args .text .now) (args .tokens .now) (args .start) (pre .0);
       room = omega (arith, good);
-      fine = omega (arith, start .ensures, start-there (args .text .now) (args .tokens .now) (args .start) pre, good);
+      fine = omega (arith, start .ensures, start-there (args .text .now) (args .tokens .now) (args .start) (pre .0), good);
     }
 
 first-byte-requires : tie.Need-first-byte-requires
@@ -58,7 +58,7 @@ returns c =
     let if1 = c .before .before .before .before .before .before .before .before .before .before .before .before .before .before .if1 in
     let first-byte = c .before .before .before .before .before .before .before .before .before .before .before .before .before .first-byte in
     let refuse = c .before .before .before .before .before .before .before .before .refuse in
-    reads-refused (args .text .now) (args .tokens .now) (args .start) (args .preserve-parens) (lend (length (args .nodes .now)) (length (args .names .now)) (length (args .notes .now)) (length (args .key .now))) pre (reading-from _ _ (args .noting .now) (start .ensures) ∙ ty .ensures .0 .refused (if1 .taken)) (first-byte .ensures) (refuse .ensures) (same-lent (ty .kept .1 .1 .1 .0) (ty .kept .1 .1 .1 .1 .0))
+    reads-refused (args .text .now) (args .tokens .now) (args .start) (args .preserve-parens) (lend (length (args .nodes .now)) (length (args .names .now)) (length (args .notes .now)) (length (args .key .now))) (pre .0) (reading-from _ _ (args .noting .now) (pre .1) (start .ensures) ∙ ty .ensures .0 .refused (if1 .taken)) (first-byte .ensures) (refuse .ensures) (same-lent (ty .kept .1 .1 .1 .0) (ty .kept .1 .1 .1 .1 .0))
 
 finish-requires : tie.Need-finish-requires
 finish-requires c κs =
@@ -68,7 +68,7 @@ finish-requires c κs =
     let start = c .before .before .before .before .before .before .before .before .before .before .before .before .before .before .before .before .before .start in
     let ty = c .before .before .before .before .before .before .before .before .before .before .before .before .ty in
     let if1 = c .before .before .before .before .before .if1 in
-    (omega (arith, ty .ensures .1 .1 (if1 .left)), few-used (args .text .now) (args .tokens .now) (args .start) (args .preserve-parens) (lend (length (args .nodes .now)) (length (args .names .now)) (length (args .notes .now)) (length (args .key .now))) pre (bytes-of (args .text .now) (λ i. omega (arith, shared-slice-known .given i))) (ty .result .m) _ (reading-from _ _ (args .noting .now) (start .ensures) ∙ (ty .ensures .0 .done (if1 .left)) .is), omega (arith, ty .ensures .1 .0 .0, ty .kept), few-noted (args .text .now) (args .tokens .now) (args .start) (args .preserve-parens) (lend (length (args .nodes .now)) (length (args .names .now)) (length (args .notes .now)) (length (args .key .now))) pre (bytes-of (args .text .now) (λ i. omega (arith, shared-slice-known .given i))) (ty .result .m) _ (reading-from _ _ (args .noting .now) (start .ensures) ∙ (ty .ensures .0 .done (if1 .left)) .is), omega (arith, ty .ensures .1 .0 .0))
+    (omega (arith, ty .ensures .1 .1 (if1 .left)), few-used (args .text .now) (args .tokens .now) (args .start) (args .preserve-parens) (lend (length (args .nodes .now)) (length (args .names .now)) (length (args .notes .now)) (length (args .key .now))) (pre .0) (bytes-of (args .text .now) (λ i. omega (arith, shared-slice-known .given i))) (ty .result .m) _ (reading-from _ _ (args .noting .now) (pre .1) (start .ensures) ∙ (ty .ensures .0 .done (if1 .left)) .is), omega (arith, ty .ensures .1 .0 .0, ty .kept), few-noted (args .text .now) (args .tokens .now) (args .start) (args .preserve-parens) (lend (length (args .nodes .now)) (length (args .names .now)) (length (args .notes .now)) (length (args .key .now))) (pre .0) (bytes-of (args .text .now) (λ i. omega (arith, shared-slice-known .given i))) (ty .result .m) _ (reading-from _ _ (args .noting .now) (pre .1) (start .ensures) ∙ (ty .ensures .0 .done (if1 .left)) .is), omega (arith, ty .ensures .1 .0 .0))
 
 same-length-5 : tie.Need-same-length-5
 same-length-5 c = search needs
@@ -91,7 +91,7 @@ returns-2 c =
     let ty = c .before .before .before .before .before .before .before .before .before .before .before .before .before .before .before .before .before .before .before .before .before .ty in
     let if1 = c .before .before .before .before .before .before .before .before .before .before .before .before .before .before .if1 in
     let finish = c .before .before .before .before .before .before .before .before .finish in
-    reads-read (args .text .now) (args .tokens .now) (args .start) (args .preserve-parens) (lend (length (args .nodes .now)) (length (args .names .now)) (length (args .notes .now)) (length (args .key .now))) pre (reading-from _ _ (args .noting .now) (start .ensures) ∙ (ty .ensures .0 .done (if1 .left)) .is) (finish .ensures ((ty .ensures .0 .done (if1 .left)) .tree) (held (args .text .now) (args .tokens .now) (args .start) (args .preserve-parens) (lend (length (args .nodes .now)) (length (args .names .now)) (length (args .notes .now)) (length (args .key .now))) pre (bytes-of (args .text .now) (λ i. omega (arith, shared-slice-known .given i))) (ty .result .m) _ (reading-from _ _ (args .noting .now) (start .ensures) ∙ (ty .ensures .0 .done (if1 .left)) .is) (args .nodes .now) (args .names .now) (args .noting .now) (omega (arith, ty .kept)) ((ty .ensures .0 .done (if1 .left)) .stands .laid))) (same-lent (ty .kept .1 .1 .1 .0) (ty .kept .1 .1 .1 .1 .0))
+    reads-read (args .text .now) (args .tokens .now) (args .start) (args .preserve-parens) (lend (length (args .nodes .now)) (length (args .names .now)) (length (args .notes .now)) (length (args .key .now))) (pre .0) (reading-from _ _ (args .noting .now) (pre .1) (start .ensures) ∙ (ty .ensures .0 .done (if1 .left)) .is) (finish .ensures ((ty .ensures .0 .done (if1 .left)) .tree) (held (args .text .now) (args .tokens .now) (args .start) (args .preserve-parens) (lend (length (args .nodes .now)) (length (args .names .now)) (length (args .notes .now)) (length (args .key .now))) (pre .0) (bytes-of (args .text .now) (λ i. omega (arith, shared-slice-known .given i))) (ty .result .m) _ (reading-from _ _ (args .noting .now) (pre .1) (start .ensures) ∙ (ty .ensures .0 .done (if1 .left)) .is) (args .nodes .now) (args .names .now) (args .noting .now) (omega (arith, ty .kept)) ((ty .ensures .0 .done (if1 .left)) .stands .laid))) (same-lent (ty .kept .1 .1 .1 .0) (ty .kept .1 .1 .1 .1 .0))
 
 pub read-noting-spec : {M : Type 1} → statement M
 read-noting-spec =

@@ -2,7 +2,7 @@
 use native.Mathlib.Omega.{arith}
 use lib.ListN.{length-set}
 use Rattle.rules.specs.Notes.{noteBoth}
-use Rattle.marks.proofs.LaidLaws.{notes-recorded}
+use Rattle.marks.proofs.LaidLaws.{notes-recorded, tally-recorded}
 use borrow.Author.Needs.{needs}
 use Rattle.marks.proofs.notes.append_note.Statement.{statement}
 use Rattle.marks.proofs.notes.append_note.Tie as tie
@@ -62,7 +62,8 @@ returns : tie.Need-returns
 returns c =
     let pre = c .pre in
     let args = c .args in
-    notes-recorded (args .notes .now) (args .at) (noteBoth (args .number) (args .place .first) (args .place .end) (args .other .first) (args .other .end)) pre
+    let z = noteBoth (args .number) (args .place .first) (args .place .end) (args .other .first) (args .other .end) in
+    (notes-recorded (args .notes .now) (args .at) z pre, tally-recorded (args .notes .now) (args .at) z)
 
 pub append-note-spec : {M : Type 1} → statement M
 append-note-spec =

@@ -43,7 +43,7 @@ returns-3 c =
     let args = c .before .before .before .before .before .before .before .before .before .args in
     let append-note = c .before .before .append-note in
     let taken = c .taken in
-    (noted refl (full-not (args .given) (args .m) (omega arith) (omega arith)) (taken .ensures) (append-note .ensures), noted-one (taken .ensures) (omega arith))
+    (noted refl (full-not (args .given) (args .m) (omega arith) (omega arith)) (taken .ensures) (append-note .ensures .0) (append-note .ensures .1), noted-one (taken .ensures) (omega arith))
 
 pub report-both-spec : {M : Type 1} → statement M
 report-both-spec =
