@@ -4,14 +4,17 @@ that is lent.
 
     compare_rules.py [--count N] [--seed S] [--build O3|O0|checked] [--sorts SORTS] [--no-build]
         SORTS: stored, limits, orders, short, generated (N texts), objects (the rows of W1 and N texts with object types),
-        forms (N texts with forms that are not read and reserved names), tuples (N tuples), keys (N keys, as compare_keys.py makes them)
+        forms (N texts with forms that are not read and reserved names), tuples (N tuples),
+        trials (N texts rich in constraints of infer), infers (every text up to six tokens of `infer U extends A ( ) ? :`),
+        keys (N keys, as compare_keys.py makes them)
     compare_rules.py --stack [--build B]       the least stack that the program needs for each of the largest readings
 
 It runs in the folder that holds crates.txt. The program crate `rows` is compiled unproved by tools/unproved.sh. What is
 compared: the refusal with its place, or the counts and the end cursor; and every word and byte of the lent slices, which
-are filled with something else before the call. A record holds its eleven numbers by the model, the last four of them sums
+are filled with something else before the call. A record holds its twelve numbers by the model, the last four of them sums
 over the slices; where the program comes to others, the record runs once more and all is shown. The program also takes the
-key of each granted reading back and writes it again, and tells a key that does not come out the same.
+key of each granted reading back and writes it again, and tells a key that does not come out the same. A granted reading that
+enters over 16 type rules a token ends the run; the most that one of the texts enters is told.
 
 --stack finds by halving, in KiB, the least `ulimit -s` under which the program gives the right answer, and prints it less
 that of a text of one token: the whole call with its key, and that key taken back. The program's own arrays are in both;
@@ -28,7 +31,7 @@ import model as m
 import rules_vectors as v
 from compare import answers
 from compare_keys import keys
-from rules_model import TAGS, WIDE, Cases, FormMaker, ObjectMaker, TupleMaker, called, expected, keyofs, read, record
+from rules_model import TAGS, WIDE, Cases, FormMaker, ObjectMaker, TrialMaker, TupleMaker, called, expected, keyofs, read, record
 from words_vectors import root
 
 # ---- texts
@@ -37,13 +40,17 @@ ALPHABETS = ("A ( ) [ ] ? | < > , => keyof infer extends this ...".split(), "{ [
              "{ a [ ] ( : ? , } get readonly new public".split())
 
 
+def up_to(most, alphabet):
+    """Every text up to so many tokens over an alphabet."""
+    row = ['']
+    for _ in range(most):
+        row = [t + x + ' ' for t in row for x in alphabet]
+        yield from row
+
+
 def short():
     """Every text up to four tokens over some small alphabets."""
-    for alphabet in ALPHABETS:
-        row = ['']
-        for _ in range(4):
-            row = [t + x + ' ' for t in row for x in alphabet]
-            for t in row: yield t
+    for alphabet in ALPHABETS: yield from up_to(4, alphabet)
 
 
 def limits(c):
@@ -89,6 +96,9 @@ def cases(seed, count, sorts):
     if has('objects'): yield from objects(seed, count)
     if has('forms'): yield from Cases(seed, FormMaker).generated(count)
     if has('tuples'): yield from Cases(seed, TupleMaker).generated(count)
+    if has('trials'): yield from Cases(seed, TrialMaker).generated(count)
+    if has('infers'):
+        for t in up_to(6, 'infer U extends A ( ) ? :'.split()): yield c.case('infers', t, None, 0, False, (64, 16, 160, 200))
     if has('keys'):
         for op, key, rooms in keys(count, seed): yield 'keys', key, tuple(rooms[:3])
 
@@ -122,11 +132,16 @@ def differs(which, c, want, got):
 
 
 def compare(args):
-    figures, answered, different, began, batch = collections.Counter(), collections.Counter(), 0, time.time(), []
+    figures, answered, different, began, batch, most = collections.Counter(), collections.Counter(), 0, time.time(), [], (0, 0, 1, b'')
 
     def flush():
-        nonlocal different
+        nonlocal different, most
         want = [expected(c) for c in batch]
+        for c, w in zip(batch, want):
+            if len(c) > 3 and w[0] == 0:
+                entered, tokens = w[7], len(c[2])
+                assert 0 < entered <= 16 * tokens, (c, w)
+                most = max(most, (entered / tokens, entered, tokens, c[1]))
         got = run(args.build, [record(c, w) for c, w in zip(batch, want)])
         if got is None: sys.exit('the program failed')
         figures.update(c[0] for c in batch)
@@ -143,6 +158,7 @@ def compare(args):
     print('%s, seed %d: %d texts and keys, %d different, %.0f s' % (args.build, args.seed, sum(figures.values()), different, time.time() - began))
     print('sorts: ' + ', '.join('%s %d' % x for x in figures.items()))
     print('answers: ' + ', '.join('%s %d' % ('refusal %d' % k if k else 'granted', n) for k, n in sorted(answered.items())))
+    print('type rules entered: at most %.2f a token, %d of %d: %r' % (most[:3] + (most[3][:200],)))
     if TAGS: print('nodes by tag: ' + ', '.join('%s %d' % x for x in sorted(TAGS.items(), key=str)))
     return different
 
@@ -153,7 +169,7 @@ def largest():
         for t in v.nested(n): yield '%d type rules inside the first, %s' % (n, t[:18]), t, None
     yield '31 function types in parameters and returns', '(a: ' * 31 + '() => ' * 31 + 'A' + ') => B' * 31, None
     yield '31 function types in arguments', 'A<<T>() => ' * 31 + 'A' + '>' * 31, None
-    yield '31 trials', '(infer U extends ' * 31 + 'A' + ')' * 31, None
+    yield '4 trials', '(infer U extends ' * 4 + '(' * 55 + 'A' + ')' * 59, None
     yield '4,095 union parts', '|'.join('A' * 4095), None
     yield '4,096 union parts', '|'.join('A' * 4096), None
     yield '5,000 dotted names', '.'.join('A' * 5000), None

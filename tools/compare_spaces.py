@@ -37,7 +37,7 @@ sys.path.insert(0, os.path.join(HERE, "..", "bindings", "python"))
 import model as m
 import typekey
 from compare_typescript import files
-from rules_model import Cases, FormMaker, Maker, ObjectMaker, damaged
+from rules_model import Cases, FormMaker, Maker, ObjectMaker, TrialMaker, damaged
 
 # ---- the same tokens with other spaces
 SPACES = " ", " ", " ", "  ", "\t", "    ", " \t ", "/**/", "/* a */", "/* | } ' \" ` */", "/* ${ */ "
@@ -159,8 +159,8 @@ def of_real(seed, texts):
 def pairs(args):
     """N cases past refusals 1 and 2, each with its second text and words."""
     texts = real(args.folders)
-    sources = [Cases(args.seed + i, maker).generated(1 << 40) for i, maker in enumerate((Maker, ObjectMaker, FormMaker))]
-    if texts: sources.append(of_real(args.seed + 3, texts))
+    sources = [Cases(args.seed + i, maker).generated(1 << 40) for i, maker in enumerate((Maker, ObjectMaker, FormMaker, TrialMaker))]
+    if texts: sources.append(of_real(args.seed + len(sources), texts))
     r, done = random.Random(args.seed), 0
     for case in itertools.chain.from_iterable(zip(*sources)):
         sort, text, words, start, *_ = case

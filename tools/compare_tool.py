@@ -1,7 +1,7 @@
 #!/usr/bin/env python3
 """Runs the tool (target/bin/typekey) on each stored text that model.py cuts as it is stored, and on texts with object types
 that rules_model.py makes and damages, and compares what it prints as JSON with model.py: key, tree, bytes, members' fields,
-diagnostics and end, or the refusal with its token, half and byte; brackets dropped and kept.
+diagnostics, end and type rules entered, or the refusal with its token, half and byte; brackets dropped and kept.
 
     compare_tool.py [TOOL]           the last lines say how many texts there were and how many differ
     compare_tool.py --diff [COUNT [TOOL]]   only pairs, so many: the bits that --diff-types and --diff give, against differ_model.py
@@ -29,7 +29,7 @@ PAIRS = 300
 OBJECTS = 20000                                                    # texts made with object types
 REFUSALS = {first + n: name for first, names in (
     (1, "BadList BadToken Unexpected"), (5, "TooDeep TooTall TooLong NoRoom ManyNotes BadKey NoSpace"),
-    (20, "PrefixMark ParameterModifier DefaultValue MisplacedThis RestNotLast TypeParameterModifier ImportSource ImportOptions"),
+    (20, "PrefixMark ParameterModifier DefaultValue MisplacedThis RestNotLast TypeParameterModifier ImportSource ImportOptions ManyTrials"),
     (31, "MemberForm")) for n, name in enumerate(names.split())}
 TAGS = ("- reference keyword literal parens union intersection array indexed conditional infer operator function constructor mapped "
         "template predicate typeof import tuple optional rest named non-null nullable object").split()
@@ -42,7 +42,7 @@ def stored():
     data, i = open(os.path.join(ROOT, "crates/rows/data/vectors"), "rb").read(), 0
     while i < len(data):
         start, size, words, _, _, _, key = struct.unpack("<7I", data[i + 1:i + 29])
-        op, i = data[i], i + 77
+        op, i = data[i], i + 81
         if op >= 4:
             i += key
             continue
@@ -94,7 +94,7 @@ def wanted(text, words, parens):
         number, token, half, byte = placed(text, words, 0, parens, WIDE)[0]
         assert (number, token) == r[1:3]
         return False, number, REFUSALS[number], token, half, model.unpack(words[token])[4] if number == 2 else byte   # the tool points at a bad token
-    return True, r[4].hex(), r[2], r[3], tree(r[1])
+    return True, r[4].hex(), r[2], r[3], tree(r[1]), placed(text, words, 0, parens, WIDE)[0][7]
 
 
 def got(line):
@@ -104,7 +104,7 @@ def got(line):
         return False, r["number"], r["name"], r["token"], r["half"], r["byte"]
     pair = lambda p: (p["first"], p["end"]) if p else (0, 0)        # the second place, or none
     notes = [(d["number"], d["first"], d["end"]) + pair(d["other"]) for d in o["diagnostics"]]
-    return True, o["key"], notes, (o["end"]["token"], o["end"]["half"]), o["tree"]
+    return True, o["key"], notes, (o["end"]["token"], o["end"]["half"]), o["tree"], o["entered"]
 
 
 # ---- pairs: a type and a change of it

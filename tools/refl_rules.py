@@ -33,8 +33,8 @@ def read(text, words, start, parens, lent):
     """The answer in the definitions' order, and all that is lent."""
     x = rules_model.read(text, words, start, parens, lent)
     n, *rest = x[0]
-    if n == 0: *rest, key, at, half = rest
-    return (('refuses', n, *rest) if n else ('reads', *rest, at, half, key),) + tuple(fill(k, list(u)) for u, k in zip(x[1:], lent))
+    if n == 0: *rest, key, at, half, entered = rest
+    return (('refuses', n, *rest) if n else ('reads', *rest, at, half, key, entered),) + tuple(fill(k, list(u)) for u, k in zip(x[1:], lent))
 
 # ---- inputs
 rng = random.Random(args.seed)
@@ -49,9 +49,9 @@ def add(sort, text, words=None, start=0, parens=False, lent=None):
         x = read(t, words, start, parens, (4 * 400, 400, 120, 2000))
         lent = wide
         if x[0][0] == 'reads':                             # near what is needed, so that contents stay short
-            n, k, c, _, _, d = x[0][1:]
-            lent = (4 * n + rng.randrange(9), k + rng.randrange(3), 3 * c + rng.randrange(5), d + rng.randrange(4))
-            if rng.random() < 0.5 and n < 12: lent = (4 * 12 + rng.randrange(4), lent[1], 9 + 3 * c, lent[3])
+            n, k, c, _, _, d, _ = x[0][1:]
+            lent = (4 * n + rng.randrange(9), k + rng.randrange(3), 5 * c + rng.randrange(7), d + rng.randrange(4))
+            if rng.random() < 0.5 and n < 12: lent = (4 * 12 + rng.randrange(4), lent[1], 15 + 5 * c, lent[3])
     key = (t, tuple(words), start, parens, lent)
     if key in seen: return
     seen.add(key)
@@ -167,7 +167,7 @@ def rooms(t, p):
     w = m.cut(t)
     x = read(t.encode(), w, 0, p, (4 * 400, 400, 120, 2000))
     if x[0][0] != 'reads': return
-    n, k, c, _, _, d = x[0][1:]
+    n, k, c, _, _, d, _ = x[0][1:]
     full = [4 * n, k, 3 * c, d]
     add('rooms', t, w, 0, p, tuple(full))
     for j, step in ((0, 1), (0, 4), (1, 1), (2, 1), (3, 1)):
@@ -185,7 +185,7 @@ def orders():
             except IndexError: continue
             x = read(t.encode(), w, 0, False, (4 * 400, 400, 120, 2000))
             if x[0][0] != 'reads' or x[0][3] == 0: continue
-            n, k, c, _, _, d = x[0][1:]
+            n, k, c, _, _, d, _ = x[0][1:]
             for a in range(max(0, n - 3), n + 2):
                 for b in range(max(0, c - 2), c + 1): add('orders', t, w, 0, False, (4 * a, k, 3 * b, d))
 
@@ -341,7 +341,7 @@ g : ℕ → Given
 g n = record { text = []; words = []; parens = false; room = n; records = 0 }
 
 s : State
-s = record { at = 5; half = 0; nodes = 3; notes = [] }
+s = record { at = 5; half = 0; nodes = 3; notes = []; tally = record { entered = 0; trials = 0 } }
 
 long-first : make (g 3) (1 ∷ 4096 ∷ []) (tower 257) s ≡ refuse 7 5 0
 unfolding rules tower g s
@@ -355,7 +355,7 @@ room-last : make (g 3) (4095 ∷ []) (tower 256) s ≡ refuse 8 5 0
 unfolding rules tower g s
 room-last = refl
 
-made : make (g 4) (4095 ∷ []) (tower 256) s ≡ read (tower 256) (record { at = 5; half = 0; nodes = 4; notes = [] })
+made : make (g 4) (4095 ∷ []) (tower 256) s ≡ read (tower 256) (record { at = 5; half = 0; nodes = 4; notes = []; tally = record { entered = 0; trials = 0 } })
 unfolding rules tower g s
 made = refl
 ''')

@@ -1,15 +1,15 @@
-"""What rules_vectors.py and compare_rules.py share: what the two open calls come to by model.py, as eleven numbers; a
+"""What rules_vectors.py and compare_rules.py share: what the two open calls come to by model.py, as twelve numbers; a
 record of the program rows; and generated texts.
 
 A case is a sort, a text, its token words, a start, preserve_parens and what is lent: words for nodes, names and
 diagnostics, and bytes for the key. Or it is a sort, a key and what is lent: words for nodes and names, bytes for letters.
 
-The eleven numbers: 0, the counts of nodes, names, diagnostics and bytes of key, the end's token and half; or a refusal's
-number, token, half and byte, and three zeros; then a sum over each of the four lent slices, whole. For a key: 0 and the
-counts of nodes, names and letters, or a refusal's number and bit; zeros up to seven numbers; then a sum over each of the
+The twelve numbers: 0, the counts of nodes, names, diagnostics and bytes of key, the end's token and half, and the type rules entered; or a refusal's
+number, token, half and byte, and four zeros; then a sum over each of the four lent slices, whole. For a key: 0 and the
+counts of nodes, names and letters, or a refusal's number and bit; zeros up to eight numbers; then a sum over each of the
 three lent slices, and 0. A record: one byte, 4 for a key or 1 for preserve_parens, plus 2 to see all that is lent where
 it differs; the start, the lengths of text and token words, the words lent for nodes, names and diagnostics, the bytes
-lent for the key or its length, the bytes lent for letters, the eleven numbers; the text and the token words, or the key.
+lent for the key or its length, the bytes lent for letters, the twelve numbers; the text and the token words, or the key.
 """
 import collections
 import random
@@ -135,7 +135,7 @@ def read(text, words, start, parens, lent):
     key = m.key_of(t)
     assert len(nodes) == 4 * r.live
     if len(names) > lent[1] or len(key) > lent[3] or len(key) > m.KEY: return no(11, 0, 0, 0)
-    return (0, r.live, len(names), len(r.notes), len(key), r.i, r.half), nodes, names, [w for n in r.notes for w in n], key
+    return (0, r.live, len(names), len(r.notes), len(key), r.i, r.half, r.entered), nodes, names, [w for n in r.notes for w in n], key
 
 
 def take_back(key, lent):
@@ -152,18 +152,18 @@ def called(case):
 
 
 def expected(case):
-    """The eleven numbers: the answer, filled with zeros, and a sum over each lent slice."""
+    """The twelve numbers: the answer, filled with zeros, and a sum over each lent slice."""
     x, lent = called(case), case[-1]
     sums = [sum_words(u, n, 1) for u, n in zip(x[1:-1], lent)] + [sum_bytes(x[-1], lent[-1], 1)]
-    return x[0] + (0,) * (7 - len(x[0])) + tuple(sums) + (0,) * (4 - len(sums))
+    return x[0] + (0,) * (8 - len(x[0])) + tuple(sums) + (0,) * (4 - len(sums))
 
 
 def record(case, want, all_words=False):
     if len(case) == 3:
         sort, key, (nodes, names, letters) = case
-        return struct.pack('<B19I', 4 + 2 * all_words, 0, 0, 0, nodes, names, 0, len(key), letters, *want) + key
+        return struct.pack('<B20I', 4 + 2 * all_words, 0, 0, 0, nodes, names, 0, len(key), letters, *want) + key
     sort, text, words, start, parens, lent = case
-    return (struct.pack('<B19I', parens + 2 * all_words, start, len(text), len(words), *lent, len(text), *want)
+    return (struct.pack('<B20I', parens + 2 * all_words, start, len(text), len(words), *lent, len(text), *want)
             + text + struct.pack('<%dQ' % len(words), *words))
 
 
@@ -291,6 +291,28 @@ class TupleMaker(ObjectMaker):
         while True:
             t = g.tuple(g.pick(1, 2, 2, 3))
             if len(t) <= most: return t
+
+
+class TrialMaker(ObjectMaker):
+    """Constraints of infer, one in the other and side by side: in brackets, tuples, arguments, templates and members, with line
+    breaks where they tell; kept, or dropped at a `?`."""
+    def gap(g): return g.pick(' ', ' ', ' ', ' ', '\n')
+    def bound(g, d): return 'infer ' + g.pick('U', 'V', 'any') + (g.gap() if g.r.random() < 0.3 else ' ') + 'extends' + g.gap() + g.inner(d)
+    def inner(g, d): return g.one(*(lambda: g.around(d),) * 8, lambda: g.bound(d - 1), lambda: g.type(1), 'B') if d > 0 else g.pick('A', 'B', 'number')
+    def branches(g, d): return g.gap() + '?' + g.gap() + g.part(d) + g.gap() + ':' + g.gap() + g.part(d)
+    def part(g, d): return g.pick('X', 'Y', 'Z') if d <= 0 or g.r.random() < 0.7 else g.tried(d - 2)
+    def tried(g, d): return g.bound(d) + g.one('', '', *(lambda: g.branches(d),) * 3) if g.r.random() < 0.85 else g.one('infer U', lambda: g.inner(d))
+    def some(g, d): return ', '.join(g.tried(d - (0 if i == 0 else 2)) for i in range(g.pick(1, 1, 1, 2, 3)))
+    def keys(g): return ''.join(g.gap() + g.pick('extends', 'B', 'infer', 'V', 'keyof', "'k'", '1', '?', ':', '()', '[', ']', ';') for _ in range(g.r.randint(1, 7)))
+    def around(g, d):
+        return g.one(
+            *(lambda: '(' + g.tried(d - 1) + ')',) * 3, lambda: '[' + g.some(d - 1) + ']', lambda: 'A<' + g.some(d - 1) + '>', lambda: '`a${' + g.tried(d - 1) + '}b`', lambda: 'A[' + g.tried(d - 1) + ']',
+            lambda: '{ a: ' + g.tried(d - 1) + g.pick('', ';', '\nb: C') + ' }', lambda: '{ m(x: ' + g.tried(d - 1) + '): B }', lambda: '{ [K in A]: ' + g.tried(d - 1) + ' }',
+            lambda: '((a: ' + g.tried(d - 1) + ') => B)', lambda: '{ a: infer U' + g.gap() + 'extends' + g.keys() + ' }')
+    def sound(g, most):
+        while True:
+            t = g.one(*(lambda: g.around(g.pick(2, 4, 6, 8)),) * 2, lambda: g.tried(g.pick(2, 4, 6, 8)))
+            if len(t) <= 3 * most: return t
 
 
 TOKENS = "A B x string null this 1 2n 's' `t` `h${ }m${ }t` { } [ ] ( ) < > << <= <<= | & ? : , ; . ... => = ! - + * @ any abstract as asserts infer is keyof out readonly unique public extends false import in new true typeof void const class".split()

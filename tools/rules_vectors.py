@@ -9,7 +9,7 @@ print, from the answers of model.py. The same bytes each time.
 
 First document 01's twelve rows, then texts, then the keys of keys_vectors.py. Items are those of the checklist: R1 to R41
 are the reading rules of document 01 in its order, N1 to N10 its diagnostics, X1 to X23 its refusals. Each has a record
-here; a row has the item `row`, a key X15. The answer is the eleven numbers of rules_model.py.
+here; a row has the item `row`, a key X15. The answer is the twelve numbers of rules_model.py.
 """
 import re
 import sys
@@ -272,6 +272,19 @@ new (this: A) => B |  | 3 on 5 to 12; end 8
 """
 
 
+# Rows for trials and the type rules that are entered (02, W4): a text, and the count or the refusal.
+def tried(n, inner="A"): return "(infer A extends " * n + inner + " ? X : Y)" * n
+def bound(n, inner="A"): return "(infer A extends " * n + inner + ")" * n
+
+
+TRIALS = ([("A", 1), ("(infer U extends number ? X : Y)", 6)] + [(tried(n), 5 * 2 ** n - 4) for n in range(5)] + [(tried(5), (28, 19)), (bound(4), 9), (bound(5), (28, 19)),
+    ("infer U\nextends A ? X : Y", 2), ("infer U\nextends A<B, C, D> ? X : Y", 5), ("(" * 53 + bound(5) + ")" * 53, (28, 72)), ("(" * 54 + bound(5) + ")" * 54, (28, 73)),
+    ("(" * 55 + bound(5) + ")" * 55, (5, 72)), ("T extends " + "infer A extends " * 6 + "B ? X : Y", 10),
+    (tried(4, "A<" + ", ".join("B" * 3000) + ">"), 48076), (tried(4, "`" + "${B}" * 3000 + "`"), 48076), ("T extends U ? : V", (3, 4)),
+    ("{ a: infer U\nextends\nB\n?: C }", 4), ("{ a: infer U\nextends\nB?(): C }", 4), ("{ a: infer U\nextends\ninfer\nV\nextends\nW\n?: C }", 5), ("{ a: infer U\nextends: V }", (3, 6)),
+    ("[" + ", ".join(["infer A extends B"] * 5) + "]", 11), (bound(4, "[" + ", ".join(["infer A extends B"] * 2) + "]"), (28, 19))])
+
+
 def objects(rows=OBJECTS):
     """Text, lent words, preserve_parens and the numbers that it comes to, of each row."""
     for line in rows.strip().split("\n"):
@@ -303,6 +316,14 @@ def object_rows(v, rows=OBJECTS, item="W1"):
 def reserved_rows(v):
     """The rows for reserved names."""
     object_rows(v, RESERVED, "W3")
+
+
+def trial_rows(v):
+    """The rows for trials."""
+    for t, says in TRIALS:
+        x = read(t.encode(), m.cut(t), 0, False, WIDE)[0]
+        assert says == (x[7] if x[0] == 0 else x[:2]), (t[:200], says, x)
+        v.add("W4", t, WIDE)
 
 
 def both_rows(v):
@@ -661,7 +682,7 @@ def taken(v):
 def stored():
     v = Vectors()
     for part in (rows, by_example, by_kind, mapped, elements, deep, high, long, short_of_room, many_notes, in_a_trial, orders, bad_lists, bad_words,
-                 generated, object_rows, object_texts, place_rows, reserved_rows, both_rows, short_of_key, taken):
+                 generated, object_rows, object_texts, place_rows, reserved_rows, both_rows, trial_rows, short_of_key, taken):
         part(v)
     missing = set(ITEMS) - set(i for c in v for i in c[0].split())
     assert not missing, missing

@@ -34,6 +34,7 @@ LINES = model.ROWS + [
     "? A", "A[*]", "(readonly a: B) => C", "(a = 1) => A",          # 20, 21, 22
     "(a, this: B) => C", "(...this) => A", "(...a, b) => C",        # 23, 24
     "<const T>() => A", "import(A)", 'import("a", {})',             # 25, 26, 27
+    "(infer A extends " * 5 + "B" + ")" * 5,                        # 28
     "{ [a]: B }", "{ get a(): B }", "{ static a: B }",              # 31
     "<>() => A", "A<>", "new (this) => A", "[A?, B]", "[a: ...B]", "[a: B?]", "[...a?: B]",
     "(infer U extends A<> ? X : Y)",                                # a trial that is undone reports once

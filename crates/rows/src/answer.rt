@@ -1,4 +1,4 @@
-// An answer as eleven numbers, whether it is another, and the line that says so.
+// An answer as twelve numbers, whether it is another, and the line that says so.
 ghost use mathlib.Core.Path.{_≡_};
 ghost use Prim.Native.Nat.{_<_};
 ghost use lib.ListN.{length};
@@ -10,15 +10,15 @@ use lines::sum::of_words;
 use typekey::reading::Reading;
 use typekey::taking::Taking;
 
-// 0, the counts of nodes, names, diagnostics and bytes of key, the end's token and half; or the refusal's number, token,
-// half and byte, and three zeros. Then a sum over each of the lent slices.
+// 0, the counts of nodes, names, diagnostics and bytes of key, the end's token and half, and the type rules entered; or the
+// refusal's number, token, half and byte, and four zeros. Then a sum over each of the lent slices.
 pub fn of_reading(
     r: Reading,
     nodes: &[u64],
     names: &[u64],
     notes: &[u64],
     key: &[u8],
-) -> [u64; 11] {
+) -> [u64; 12] {
     let a = of_words(nodes, 1);
     let b = of_words(names, 1);
     let d = of_words(notes, 1);
@@ -32,6 +32,7 @@ pub fn of_reading(
             c.key as u64,
             c.at as u64,
             c.half as u64,
+            c.entered as u64,
             a,
             b,
             d,
@@ -45,6 +46,7 @@ pub fn of_reading(
             0,
             0,
             0,
+            0,
             a,
             b,
             d,
@@ -55,7 +57,7 @@ pub fn of_reading(
 
 // 0, the counts of nodes, names and letters; or the refusal's number and bit; zeros. Then a sum over each of the lent
 // slices, and a zero.
-pub fn of_taking(r: Taking, nodes: &[u64], names: &[u64], letters: &[u8]) -> [u64; 11] {
+pub fn of_taking(r: Taking, nodes: &[u64], names: &[u64], letters: &[u8]) -> [u64; 12] {
     let a = of_words(nodes, 1);
     let b = of_words(names, 1);
     let d = of_bytes(letters, 1);
@@ -68,19 +70,20 @@ pub fn of_taking(r: Taking, nodes: &[u64], names: &[u64], letters: &[u8]) -> [u6
             0,
             0,
             0,
+            0,
             a,
             b,
             d,
             0,
         ],
-        Taking::Refused(n) => [n.number as u64, n.bit as u64, 0, 0, 0, 0, 0, a, b, d, 0],
+        Taking::Refused(n) => [n.number as u64, n.bit as u64, 0, 0, 0, 0, 0, 0, a, b, d, 0],
     }
 }
 
 // Whether two answers are one.
-pub fn same(got: &[u64; 11], want: &[u64; 11]) -> bool {
+pub fn same(got: &[u64; 12], want: &[u64; 12]) -> bool {
     let mut i: usize = 0;
-    while i < 11 {
+    while i < 12 {
         if got[i] != want[i] {
             return false;
         }
@@ -169,7 +172,7 @@ pub fn told(
     at: usize,
     run: usize,
     op: u8,
-    got: &[u64; 11],
+    got: &[u64; 12],
     nodes: &[u64],
     names: &[u64],
     notes: &[u64],

@@ -3,7 +3,7 @@
 // A record begins with one byte: 4 if it takes a key back, else it reads, with 1 for preserve_parens; plus 2 to see all
 // that is lent where it differs. Then, in 4 bytes each, lowest first: the start, the text's length, the number of token
 // words, how many words are lent for nodes, names and diagnostics, the bytes lent for the key, or the key's length, and
-// those lent for letters; and the eleven numbers of the answer. Then the text and the words (8 bytes each, lowest first),
+// those lent for letters; and the twelve numbers of the answer. Then the text and the words (8 bytes each, lowest first),
 // or the key. A length for which there is no room counts as the room there is. The key of a granted reading is taken back
 // too, into what the record lends, and written again from there: it must be the same. All that is lent is dirty before
 // each call. A record that the file cuts short prints `cut` and ends the run.
@@ -54,7 +54,7 @@ fn answered(
     names: &mut [u64],
     notes: &mut [u64],
     key: &mut [u8],
-) -> [u64; 11] {
+) -> [u64; 12] {
     dirty(nodes, names, notes, key);
     let r = read(
         text,
@@ -78,7 +78,7 @@ fn read_by(
     names: &mut [u64],
     notes: &mut [u64],
     key: &mut [u8],
-) -> [u64; 11]
+) -> [u64; 12]
     requires { ⌜ (a .text ≤ length (now text)) × (a .words ≤ length (now words)) × (a .nodes ≤ length (now nodes)) × (a .names ≤ length (now names)) × (a .notes ≤ length (now notes)) × (a .key ≤ length (now key)) ⌝ }
 {
     let i = a.text;
@@ -100,7 +100,7 @@ fn read_by(
 }
 
 // What the call that takes back answers and leaves, after dirt.
-fn returned(key: &[u8], nodes: &mut [u64], names: &mut [u64], letters: &mut [u8]) -> [u64; 11] {
+fn returned(key: &[u8], nodes: &mut [u64], names: &mut [u64], letters: &mut [u8]) -> [u64; 12] {
     dirty_words(nodes);
     dirty_words(names);
     dirty_bytes(letters);
@@ -115,7 +115,7 @@ fn taken_by(
     nodes: &mut [u64],
     names: &mut [u64],
     letters: &mut [u8],
-) -> [u64; 11]
+) -> [u64; 12]
     requires { ⌜ (a .nodes ≤ length (now nodes)) × (a .names ≤ length (now names)) × (a .key ≤ length (now key)) × (a .letters ≤ length (now letters)) ⌝ }
 {
     let k = a.nodes;
@@ -135,8 +135,8 @@ fn compared(
     out: &mut [u8; 65536],
     at: usize,
     run: usize,
-    head: &[u8; 77],
-    got: &[u64; 11],
+    head: &[u8; 81],
+    got: &[u64; 12],
     nodes: &[u64],
     names: &[u64],
     notes: &[u64],
@@ -166,9 +166,9 @@ fn beside(
     out: &mut [u8; 65536],
     at: usize,
     run: usize,
-    head: &[u8; 77],
+    head: &[u8; 81],
     a: Asked,
-    got: &[u64; 11],
+    got: &[u64; 12],
     nodes: &[u64],
     names: &[u64],
     notes: &[u64],
@@ -215,7 +215,7 @@ fn back_or_lost(out: &mut [u8; 65536], at: usize, run: usize, is_back: bool) -> 
 }
 
 // Whether a key was read, and as the record says.
-fn is_granted(t: After, got: &[u64; 11]) -> bool {
+fn is_granted(t: After, got: &[u64; 12]) -> bool {
     if t.different != 0 {
         return false;
     }
@@ -227,9 +227,9 @@ fn judged(
     out: &mut [u8; 65536],
     at: usize,
     run: usize,
-    head: &[u8; 77],
+    head: &[u8; 81],
     a: Asked,
-    got: &[u64; 11],
+    got: &[u64; 12],
     nodes: &mut [u64; 838860],
     names: &mut [u64; 16385],
     notes: &[u64; 212],
@@ -253,7 +253,7 @@ fn reads(
     out: &mut [u8; 65536],
     at: usize,
     run: usize,
-    head: &[u8; 77],
+    head: &[u8; 81],
     a: Asked,
     text: &[u8; 65536],
     words: &[u64; 16385],
@@ -289,7 +289,7 @@ fn takes(
     out: &mut [u8; 65536],
     at: usize,
     run: usize,
-    head: &[u8; 77],
+    head: &[u8; 81],
     a: Asked,
     nodes: &mut [u64; 838860],
     names: &mut [u64; 16385],
@@ -321,7 +321,7 @@ fn called(
     out: &mut [u8; 65536],
     at: usize,
     run: usize,
-    head: &[u8; 77],
+    head: &[u8; 81],
     a: Asked,
     text: &[u8; 65536],
     words: &[u64; 16385],
@@ -426,7 +426,7 @@ fn taken(
     out: &mut [u8; 65536],
     at: usize,
     run: usize,
-    head: &[u8; 77],
+    head: &[u8; 81],
     text: &mut [u8; 65536],
     words: &mut [u64; 16385],
     nodes: &mut [u64; 838860],
@@ -478,9 +478,9 @@ fn turn(
     requires { ⌜ at < 65536 ⌝ }
     ensures { λ r. ⌜ (r .at < 65536) × (r .different ≤ 1) ⌝ }
 {
-    let mut head = [0u8; 77];
+    let mut head = [0u8; 81];
     let got = io::read_full(fd, &mut head);
-    if got < 77 {
+    if got < 81 {
         return stopped(out, at, got);
     }
     taken(

@@ -26,7 +26,7 @@ pub struct Asked {
 }
 
 // The head's first byte and eight numbers.
-pub fn asked_by(head: &[u8; 77]) -> Asked
+pub fn asked_by(head: &[u8; 81]) -> Asked
     ensures { λ r. ⌜ (r .text ≤ 65536) × (r .words ≤ 16385) × (r .nodes ≤ 838860) × (r .names ≤ 16385) × (r .notes ≤ 212) × (r .key ≤ 262146) × (r .letters ≤ 131072) ⌝ }
 {
     Asked {
@@ -42,8 +42,8 @@ pub fn asked_by(head: &[u8; 77]) -> Asked
     }
 }
 
-// The eleven numbers of the answer that the head holds.
-pub fn wanted(head: &[u8; 77]) -> [u64; 11] {
+// The twelve numbers of the answer that the head holds.
+pub fn wanted(head: &[u8; 81]) -> [u64; 12] {
     [
         four(head, 33) as u64,
         four(head, 37) as u64,
@@ -56,5 +56,6 @@ pub fn wanted(head: &[u8; 77]) -> [u64; 11] {
         four(head, 65) as u64,
         four(head, 69) as u64,
         four(head, 73) as u64,
+        four(head, 77) as u64,
     ]
 }

@@ -6,10 +6,10 @@ use Rattle.rows.proofs.answer.same.Tie as tie
 
 abbrev Inv-loop : tie.InvT-loop
 Inv-loop got want i₀ i =
-    i ≤ 11
+    i ≤ 12
 
 abbrev μ-loop : tie.MeasureT-loop
-μ-loop got want i₀ i = 11 - i
+μ-loop got want i₀ i = 12 - i
 
 loop-holds : tie.Need-loop-holds Inv-loop μ-loop
 loop-holds c = search needs
