@@ -432,9 +432,9 @@ fn agree(name: &str, lent: &mut Lent) {
     // texts and keys: all, ours as stored, the baseline as stored or as ours with more room, and how many of those are read or taken
     let mut figures = [[0usize; 5]; 2];
     while at < data.len() {
-        let head: Vec<usize> = (0..19).map(|i| number(&data, at + 1 + 4 * i)).collect();
+        let head: Vec<usize> = (0..20).map(|i| number(&data, at + 1 + 4 * i)).collect();
         let (op, stored) = (data[at], head[8..].iter().map(|&n| n as u64).collect::<Vec<u64>>());
-        at += 77;
+        at += 81;
         if op & 4 != 0 {
             let key = &data[at..at + head[6]];
             at += key.len();
@@ -449,7 +449,7 @@ fn agree(name: &str, lent: &mut Lent) {
             let good = plain == (want[0], if want[0] == 0 { 0 } else { want[1] }, true);
             let f = &mut figures[1];
             f[0] += 1;
-            f[1] += (ours[..7] == stored[..7]) as usize;
+            f[1] += (ours == stored[..8]) as usize;
             f[2] += asks_room(stored[0]) as usize;
             f[3] += good as usize;
             f[4] += (good && want[0] == 0) as usize;
@@ -471,11 +471,11 @@ fn agree(name: &str, lent: &mut Lent) {
         let good = if asks_room(stored[0]) {
             answer == alike(&wide) && written == key
         } else {
-            answer == alike(&stored) && sum(&written, head[6]) == stored[10]
+            answer == alike(&stored) && sum(&written, head[6]) == stored[11]
         };
         let f = &mut figures[0];
         f[0] += 1;
-        f[1] += (ours[..7] == stored[..7]) as usize;
+        f[1] += (ours == stored[..8]) as usize;
         f[2] += asks_room(stored[0]) as usize;
         f[3] += good as usize;
         f[4] += (good && answer[0] == 0) as usize;

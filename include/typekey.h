@@ -9,7 +9,8 @@
    A call allocates nothing, keeps nothing and ends on every input; threads may call at the same time with slices of their own. The
    deepest types took some 245 KiB of stack on x86-64: give a thread that calls 512.
    Of each slice that is written, all past the part used is zero; after a refusal all of it is zero. So a call's time grows with
-   what it is lent: lend by need (see "How much to lend").
+   what it is lent: lend by need (see "How much to lend"). Beside that a read that is granted takes time by its tokens: it enters at
+   most TYPEKEY_MOST_ENTERED type rules a token, however types are nested, and its answer says how many it entered.
 
    Tokens, nodes, names, bytes and bits count from 0. A span has a first byte and an end byte, which is the one behind its last. */
 #ifndef TYPEKEY_H
@@ -22,10 +23,11 @@ extern "C" {
 /* ---- The calls ---- */
 
 /* Reads the type that begins at token `start`. options: TYPEKEY_PRESERVE_PARENS or 0; other bits are ignored.
-   answer, read:     0, nodes, names, notes, bytes of key, end token, end half, 0
-   answer, refused:  number (1 to 3, 5 to 9, 11, 20 to 27 or 31), token, half, byte, 0, 0, 0, 0
+   answer, read:     0, nodes, names, notes, bytes of key, end token, end half, type rules entered
+   answer, refused:  number (1 to 3, 5 to 9, 11, 20 to 28 or 31), token, half, byte, 0, 0, 0, 0
    The type ends before the end token; what follows it is not looked at. A refusal's half is 1 where the first half of its token is
-   used, as the `<` of `<=`, and its byte is the first one not used: the place to point at. 1, 2 and 11 have no half and no byte. */
+   used, as the `<` of `<=`, and its byte is the first one not used: the place to point at. 1, 2 and 11 have no half and no byte.
+   Type rules entered: how many types were begun, those inside a constraint of infer each time that it is read. */
 void typekey_read(const uint8_t *text, uint64_t text_len, const uint64_t *tokens, uint64_t token_count, uint64_t start, uint64_t options,
                   uint64_t *nodes, uint64_t node_words, uint64_t *names, uint64_t name_words, uint64_t *notes, uint64_t note_words,
                   uint8_t *key, uint64_t key_bytes, uint64_t answer[8]);
@@ -59,6 +61,7 @@ void typekey_differ(const uint8_t *left, uint64_t left_len, const uint8_t *right
 #define TYPEKEY_MANY_NOTES 9    /* more than 32 diagnostics, or `notes` is too short */
 #define TYPEKEY_BAD_KEY 10      /* not a key, or too long for one; at the first bit of the wrong field */
 #define TYPEKEY_NO_SPACE 11     /* `names`, `key` or `text` is too short; place 0 */
+#define TYPEKEY_MANY_TRIALS 28      /* an extends behind infer that would open a fifth trial (see TYPEKEY_MOST_TRIALS) */
 #define TYPEKEY_MANY_DIFFERENCES 29 /* `list` is too short; side 0, bit 0 */
 /* Forms that are known and not read, each at the token that its line names first. */
 #define TYPEKEY_PREFIX_MARK 20              /* ?, ! or * before a type: ?A */
@@ -84,6 +87,8 @@ void typekey_differ(const uint8_t *left, uint64_t left_len, const uint8_t *right
 #define TYPEKEY_LONGEST_LIST 4095   /* entries of a list */
 #define TYPEKEY_MOST_NOTES 32       /* diagnostics of a reading */
 #define TYPEKEY_MOST_KEY 262144     /* bytes of a key */
+#define TYPEKEY_MOST_TRIALS 4       /* trials open at once: constraints of infer that are read where a conditional type may stand */
+#define TYPEKEY_MOST_ENTERED 16     /* type rules entered in a read that is granted, for each token word */
 
 /* ---- How much to lend ----
    With these a read is never refused for want of room (8, 11, or 9 below 33 diagnostics), and taking back neither (8, 11), nor

@@ -70,6 +70,9 @@ const checks = {
     type('(a = 1) => A');
     same('a form', texts('.message'), ['Refused: DefaultValue (22)A default value is not supported here. A ? behind the name is.(a = 1) => A\n   ^']);
     same('marked', texts('.editor .refused'), ['=']);
+    type('(infer A extends '.repeat(5) + 'B' + ')'.repeat(5));
+    same('a fifth trial', texts('.message'), [`Refused: ManyTrials (28)More than four constraints of infer would be tried at once.nds (infer A extends (infer A extends B)))))\n${' '.repeat(30)}^`]);
+    same('marked', texts('.editor .refused'), ['e']);
     type('(😀');
     same('marked', texts('.editor .refused'), ['😀']);
     type('`a');

@@ -6,6 +6,7 @@ use crate::tree::{
 
 const MOST_OPEN: u32 = 64;
 const MOST_NOTES: usize = 32;
+const MOST_TRIALS: u32 = 4;
 
 #[derive(Clone, Copy, PartialEq, Debug)]
 pub struct Refusal {
@@ -28,7 +29,7 @@ type Read<T> = Result<T, Refusal>;
 type Tall = (Node, u16);
 
 pub fn read(words: &[u64], start: usize, preserve_parens: bool) -> Read<(Node, Vec<Note>, usize)> {
-    let mut r = Reader { words, at: start, half: false, preserve_parens, open: 0, notes: Vec::new() };
+    let mut r = Reader { words, at: start, half: false, preserve_parens, open: 0, trials: 0, notes: Vec::new() };
     let (root, _) = r.ty(true)?;
     Ok((root, r.notes, r.at))
 }
@@ -40,6 +41,8 @@ struct Reader<'a> {
     half: bool,
     preserve_parens: bool,
     open: u32,
+    /// Constraints of infer that are tried now.
+    trials: u32,
     notes: Vec<Note>,
 }
 
@@ -339,7 +342,12 @@ impl Reader<'_> {
         self.step();
         let name = self.bound()?;
         let (before, noted) = (self.at, self.notes.len());
+        if conditionals && self.trials == MOST_TRIALS && self.is_at(EXTENDS) {
+            return self.refuse(28);
+        }
+        self.trials += conditionals as u32;
         let (mut constraint, mut height) = self.optional_type(EXTENDS, false)?;
+        self.trials -= conditionals as u32;
         if constraint.is_some() && conditionals && self.is_at(QUESTION) {
             (self.at, self.half) = (before, false);
             self.notes.truncate(noted);

@@ -14,7 +14,7 @@ import model
 data, at, seen = open(sys.argv[1] + "/crates/rows/data/vectors", "rb").read(), 0, set()
 while at < len(data):
     _, text, words, _, _, _, key, _ = struct.unpack_from("<8I", data, at + 1)
-    body = at + 77
+    body = at + 81
     at = body + (key if data[at] & 4 else text + 8 * words)
     t = data[body:body + text]
     if not text or t in seen or not t.isascii():

@@ -127,6 +127,17 @@ test('forms that are not read', () => {
   assert.deepEqual([name, token, half, byte], ['TooDeep', 64, 1, 65]);
 });
 
+test('trials', () => {
+  const tried = (n) => '(infer A extends '.repeat(n) + 'A' + ' ? X : Y)'.repeat(n), kept = (n) => '(infer A extends '.repeat(n) + 'A' + ')'.repeat(n);
+  assert.deepEqual([0, 1, 2, 3, 4].map((n) => read(tried(n)).entered), [1, 6, 16, 36, 76]);
+  assert.deepEqual([0, 1, 2, 3, 4].map((n) => read(kept(n)).entered), [1, 3, 5, 7, 9]);
+  assert.equal(read(`[${Array(5).fill('infer A extends B').join(', ')}]`).entered, 11);
+  for (const text of [tried(5), kept(5), tried(31)]) {
+    const { number, name, token, half, byte, sentence } = read(text);
+    assert.deepEqual([number, name, token, half, byte, sentence], [28, 'ManyTrials', 19, 0, 77, 'More than four constraints of `infer` would be tried at once.']);
+  }
+});
+
 test('keys come back, and what is none is refused', () => {
   const back = (hex) => { const { name, bit, sentence } = keys.takeBack(fromHex(hex)); return [name, bit, sentence]; };
   assert.equal(said(keys.takeBack(fromHex('11C270')).tree.root), 'array(keyword string)');

@@ -27,6 +27,8 @@ export interface Reading {
   diagnostics: Diagnostic[];
   /** Where reading stopped: a token, and 1 if the first half of it was used. */
   end: { token: number; half: number };
+  /** How many type rules were entered: the types that were begun, those in a constraint of infer each time that it is read. At most 16 times the number of tokens. */
+  entered: number;
 }
 
 export interface Taken {
@@ -36,7 +38,7 @@ export interface Taken {
 
 export interface ReadRefusal {
   ok: false;
-  number: 1 | 2 | 3 | 5 | 6 | 7 | 8 | 9 | 11 | 20 | 21 | 22 | 23 | 24 | 25 | 26 | 27 | 31;
+  number: 1 | 2 | 3 | 5 | 6 | 7 | 8 | 9 | 11 | 20 | 21 | 22 | 23 | 24 | 25 | 26 | 27 | 28 | 31;
   name: RefusalName;
   /** The token's index; 0 for BadList and NoSpace, which have no place. */
   token: number;
@@ -79,7 +81,7 @@ export interface DifferRefusal {
 }
 
 export type RefusalName =
-  | 'BadList' | 'BadToken' | 'Unexpected' | 'TooDeep' | 'TooTall' | 'TooLong' | 'NoRoom' | 'ManyNotes' | 'BadKey' | 'NoSpace' | 'ManyDifferences' | FormName;
+  | 'BadList' | 'BadToken' | 'Unexpected' | 'TooDeep' | 'TooTall' | 'TooLong' | 'NoRoom' | 'ManyNotes' | 'BadKey' | 'NoSpace' | 'ManyTrials' | 'ManyDifferences' | FormName;
 
 /** Of a form that is known and not read: 20 to 27 and 31. */
 export type FormName =

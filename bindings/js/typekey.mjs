@@ -157,7 +157,7 @@ const DIAGNOSTICS = [
 const REFUSALS = {
   1: 'BadList', 2: 'BadToken', 3: 'Unexpected', 5: 'TooDeep', 6: 'TooTall', 7: 'TooLong', 8: 'NoRoom', 9: 'ManyNotes', 10: 'BadKey', 11: 'NoSpace',
   20: 'PrefixMark', 21: 'ParameterModifier', 22: 'DefaultValue', 23: 'MisplacedThis', 24: 'RestNotLast', 25: 'TypeParameterModifier',
-  26: 'ImportSource', 27: 'ImportOptions', 29: 'ManyDifferences', 31: 'MemberForm',
+  26: 'ImportSource', 27: 'ImportOptions', 28: 'ManyTrials', 29: 'ManyDifferences', 31: 'MemberForm',
 };
 const SIDES = ['neither', 'left', 'right'];
 
@@ -184,6 +184,7 @@ const TOO_MUCH = {
   8: 'No room is left for another node.',
   9: 'There are more than 32 diagnostics, or no room for another.',
   11: 'The key or the names do not fit.',
+  28: 'More than four constraints of `infer` would be tried at once.',
 };
 
 function readSentence(number, token, half, { bytes, words, start }) {
@@ -259,13 +260,14 @@ export class TypeKey {
       const [token, half, byte] = rest;
       return { ok: false, number, name: REFUSALS[number], token, half, byte, sentence: readSentence(number, token, half, { bytes, words, start }) };
     }
-    const [nodes, names, notes, key, token, half] = rest;
+    const [nodes, names, notes, key, token, half, entered] = rest;
     return {
       ok: true,
       key: left.key.slice(0, key),
       tree: new Tree(bytes.slice(), left.nodes.slice(0, 8 * nodes), left.names.slice(0, 2 * names)),
       diagnostics: Array.from({ length: notes }, (_, i) => diagnostic(left.notes, 10 * i, bytes)),
       end: { token, half },
+      entered,
     };
   }
 

@@ -6,12 +6,13 @@ const keys = await load(new Uint8Array());
 const text = 'A | B & C', a = keys.read(text, cut(text), { preserveParens: true });
 if (a.ok) {
   const key: string = toHex(a.key), notes: Diagnostic[] = a.diagnostics, tags: string[] = [...a.tree].map((n: Node) => n.tag);
-  console.log(key, notes, tags, a.end.token, notes.map((n) => n.other?.first ?? n.first));
+  console.log(key, notes, tags, a.end.token, a.entered <= 16 * cut(text).length, notes.map((n) => n.other?.first ?? n.first));
   // @ts-expect-error: not every diagnostic has a second place
   console.log(notes.map((n) => n.other.first));
 } else {
   const form: FormName = 'DefaultValue', half: 0 | 1 = a.half;
   console.log(a.number === 22, a.name === form, a.token, half, a.byte, a.sentence);
+  console.log(a.number === 28, a.name === 'ManyTrials');
   // @ts-expect-error: 4 is no refusal
   console.log(a.number === 4);
 }

@@ -13,12 +13,12 @@ function sum(numbers) {
   return s;
 }
 
-// The records of a file: what each asks for, and the eleven numbers that the answer must have.
+// The records of a file: what each asks for, and the twelve numbers that the answer must have.
 export function* records(data) {
   const view = new DataView(data.buffer, data.byteOffset, data.byteLength);
   for (let at = 0; at < data.length; ) {
-    const head = Array.from({ length: 19 }, (_, i) => view.getUint32(at + 1 + 4 * i, true)), want = head.slice(8);
-    const [start, text, tokens, nodes, names, notes, key, letters] = head, options = data[at] & 1, taken = data[at] & 4, body = at + 77;
+    const head = Array.from({ length: 20 }, (_, i) => view.getUint32(at + 1 + 4 * i, true)), want = head.slice(8);
+    const [start, text, tokens, nodes, names, notes, key, letters] = head, options = data[at] & 1, taken = data[at] & 4, body = at + 81;
     const middle = body + (taken ? key : text), end = middle + 8 * tokens;
     if (taken) yield { key: data.subarray(body, middle), room: { nodes, names, text: letters }, want };
     else {
@@ -29,11 +29,11 @@ export function* records(data) {
   }
 }
 
-// The eleven numbers that a record's call comes to: seven of the answer, and a sum over each part lent.
+// The twelve numbers that a record's call comes to: eight of the answer, and a sum over each part lent.
 function numbers(keys, r) {
   const left = r.key ? keys.takeBackInto(r.key, r.room) : keys.readInto(r.text, r.tokens, r.start, r.options, r.room);
   const parts = r.key ? [left.nodes, left.names, left.text] : [left.nodes, left.names, left.notes, left.key];
-  const all = [...left.answer.slice(0, 7), ...parts.map(sum)];
+  const all = [...left.answer, ...parts.map(sum)];
   return r.key ? [...all, 0] : all;
 }
 

@@ -178,7 +178,16 @@ class Refusals(unittest.TestCase):
         for text, (number, name, at, byte) in forms.items():
             with self.assertRaises(Refused) as x: read(text)
             self.assertEqual((x.exception.number, x.exception.why.name, x.exception.token, x.exception.half, x.exception.byte), (number, name, at, 0, byte), text)
-        self.assertEqual(sorted(typekey._WHY), [*range(1, 4), *range(5, 12), *range(20, 28), 29, 31])
+        self.assertEqual(sorted(typekey._WHY), [*range(1, 4), *range(5, 12), *range(20, 30), 31])
+
+    def test_trials(self):
+        def tried(n): return "(infer A extends " * n + "A" + " ? X : Y)" * n
+        def kept(n): return "(infer A extends " * n + "A" + ")" * n
+        self.assertEqual([read(tried(n)).entered for n in range(5)], [1, 6, 16, 36, 76])
+        self.assertEqual([read(kept(n)).entered for n in range(5)], [1, 3, 5, 7, 9])
+        self.assertEqual(read("[" + ", ".join(["infer A extends B"] * 5) + "]").entered, 11)
+        for text in (tried(5), kept(5), tried(31)):
+            self.sentence("refusal 28 (ManyTrials): more than four constraints of `infer` would be tried at once, at token 19, byte 77", read, text)
 
     def test_rooms(self):
         text, no_space = "A<B, C>", "refusal 11 (NoSpace): no space for the names, the key or the letters"
@@ -254,21 +263,22 @@ def sums(b):
 
 class Vectors(unittest.TestCase):
     def reads(self, text, tokens, start, parens, lent):
-        """The eleven numbers of a reading, and its key where there is one."""
+        """The twelve numbers of a reading, and its key where there is one."""
         b = dirty(*lent)
         try: r = typekey.read(text, tokens, start=start, preserve_parens=parens, buffers=b)
-        except Refused as x: return (x.number, x.token, x.half, x.byte, 0, 0, 0) + sums(b), None
+        except Refused as x: return (x.number, x.token, x.half, x.byte, 0, 0, 0, 0) + sums(b), None
         self.assertEqual(written(r.tree), r.key)
-        return (0, r.tree.size, len(r.tree.name_words), len(r.notes), len(r.key), *r.end) + sums(b), r.key
+        self.assertLessEqual(r.entered, 16 * len(tokens))
+        return (0, r.tree.size, len(r.tree.name_words), len(r.notes), len(r.key), *r.end, r.entered) + sums(b), r.key
 
     def takes(self, key, lent):
-        """The eleven numbers of a key that is taken back."""
+        """The twelve numbers of a key that is taken back."""
         b = dirty(lent[0], lent[1], 0, lent[2])
         try: t = typekey.take_back(key, buffers=b)
-        except Refused as x: answer = x.number, x.bit, 0, 0, 0, 0, 0
+        except Refused as x: answer = x.number, x.bit, 0, 0, 0, 0, 0, 0
         else:
             self.assertEqual(written(t), key)
-            answer = 0, t.size, len(t.name_words), len(t.text), 0, 0, 0
+            answer = 0, t.size, len(t.name_words), len(t.text), 0, 0, 0, 0
         a, c, _, d = sums(b)
         return answer + (a, c, d, 0)
 
@@ -277,8 +287,8 @@ class Vectors(unittest.TestCase):
         data = (ROOT / "crates" / "rows" / "data" / "vectors").read_bytes()
         at = run = different = 0
         while at < len(data):
-            op, start, text, words, nodes, names, notes, key, letters, *want = struct.unpack_from("<B19I", data, at)
-            at += 77
+            op, start, text, words, nodes, names, notes, key, letters, *want = struct.unpack_from("<B20I", data, at)
+            at += 81
             if op < 4:
                 t, w = data[at:at + text], struct.unpack_from("<%dQ" % words, data, at + text)
                 at += text + 8 * words
@@ -296,7 +306,7 @@ class Vectors(unittest.TestCase):
 
     def test_beside_the_model(self):
         """Texts of a grammar, sound and damaged, and keys, sound and damaged: answers and all that is lent."""
-        cases = [c for maker in (rules_model.Maker, rules_model.ObjectMaker) for c in rules_model.Cases(20260, maker).generated(1500) if c]
+        cases = [c for maker in (rules_model.Maker, rules_model.ObjectMaker, rules_model.TrialMaker) for c in rules_model.Cases(20260, maker).generated(1500) if c]
         for sort, text, words, start, parens, lent in cases:
             got, key = self.reads(text, words, start, parens, lent)
             self.assertEqual(got, rules_model.expected((sort, text, words, start, parens, lent)), text)

@@ -82,7 +82,7 @@ class Why(enum.IntEnum):
     BadList, BadToken, Unexpected = range(1, 4)
     TooDeep, TooTall, TooLong, NoRoom, ManyNotes, BadKey, NoSpace = range(5, 12)
     PrefixMark, ParameterModifier, DefaultValue, MisplacedThis, RestNotLast, TypeParameterModifier, ImportSource, ImportOptions = range(20, 28)
-    ManyDifferences, MemberForm = 29, 31
+    ManyTrials, ManyDifferences, MemberForm = 28, 29, 31
 
 
 _WHY = dict(zip(Why, ("no tokens or too many, too long a text, or a start that is no token", "a word that is no good token", "a token that no rule takes",
@@ -92,6 +92,7 @@ _WHY = dict(zip(Why, ("no tokens or too many, too long a text, or a start that i
         "a modifier before a parameter is not supported", "a default value is not supported", "`this` has to be the first parameter, and not a rest",
         "nothing may follow a rest parameter", "`const`, `in` or `out` before a type parameter is not supported",
         "the source of an import has to be a string", "options of an import are not supported",
+        "more than four constraints of `infer` would be tried at once",
         "more differences than the list has room for", "a computed name, an accessor or a modifier other than `readonly` is not supported")))
 
 
@@ -360,11 +361,16 @@ class Buffers:
 
 
 class Reading(NamedTuple):
-    """A type that was read. Tokens may be left behind its end; it is for the caller to say whether that is good."""
+    """A type that was read. Tokens may be left behind its end; it is for the caller to say whether that is good.
+
+    entered is how many type rules were entered: the types that were begun, those in a constraint of infer each time that it is
+    read. It is what reading cost, and at most 16 times the number of tokens.
+    """
     tree: Tree
     key: bytes
     notes: List[Note]
     end: End
+    entered: int
 
 
 def read(text: bytes, tokens: Iterable[int], *, start: int = 0, preserve_parens: bool = False, buffers: Optional[Buffers] = None) -> Reading:
@@ -377,11 +383,11 @@ def read(text: bytes, tokens: Iterable[int], *, start: int = 0, preserve_parens:
     answer = _Answer()
     _library.typekey_read(text, len(text), listed, len(listed), start if 0 <= start < 1 << 64 else (1 << 64) - 1, bool(preserve_parens),
                           b.nodes, len(b.nodes), b.names, len(b.names), b.notes, len(b.notes), b.letters, len(b.letters), answer)
-    refused, nodes, names, notes, key, token_, half, _ = answer
+    refused, nodes, names, notes, key, token_, half, entered = answer
     if refused: raise Refused(*answer[:4])
     said = b.notes[:5 * notes]
     return Reading(Tree(text, b.nodes[:4 * nodes], b.names[:names]), bytes(b.letters[:key]),
-                   [_note(*said[i:i + 5]) for i in range(0, 5 * notes, 5)], End(token_, half))
+                   [_note(*said[i:i + 5]) for i in range(0, 5 * notes, 5)], End(token_, half), entered)
 
 
 def take_back(key: bytes, *, buffers: Optional[Buffers] = None) -> Tree:

@@ -19,9 +19,10 @@ def expected():
     for number, name in re.findall(r"^\| (\d+) \| (\w+) \| .* \| .* \|$", SCOPE.split("## Refusal numbers")[1].split("##")[0], re.M):
         yield re.sub(r"(?<=[a-z])(?=[A-Z])", "_", name).upper(), int(number)
     limits = dict(re.findall(r"^\| `(\w+::\w+)` \| ([\d,]+) \|", SCOPE, re.M))
-    for macro, name in zip("MOST_TEXT MOST_TOKENS MOST_OPEN TALLEST LONGEST_LIST MOST_NOTES MOST_KEY".split(),
-                           "Text::MOST Tokens::MOST OpenRules::MOST Tree::TALLEST List::LONGEST Notes::MOST Key::MOST".split()):
+    for macro, name in zip("MOST_TEXT MOST_TOKENS MOST_OPEN TALLEST LONGEST_LIST MOST_NOTES MOST_KEY MOST_TRIALS".split(),
+                           "Text::MOST Tokens::MOST OpenRules::MOST Tree::TALLEST List::LONGEST Notes::MOST Key::MOST Trials::MOST".split()):
         yield macro, int(limits[name].replace(",", ""))
+    yield "MOST_ENTERED", int(re.search(r"at most (\d+) times the number of tokens", SCOPE)[1])
     tags, sorts = SCOPE.split("## The key")[1].split("##")[0].split("| Sort | Member |")
     for number, name in re.findall(r"^\| ([\d, ]+) \| ([a-z, ]+) \| .* \|$", tags, re.M):
         for k, s in zip(number.split(", "), name.split(", ")):

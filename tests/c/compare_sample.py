@@ -12,11 +12,11 @@ from keys_vectors import sum_words
 
 
 def records(data):
-    """Each record's case, as rules_model has it, and the eleven numbers that the library came to."""
+    """Each record's case, as rules_model has it, and the twelve numbers that the library came to."""
     at = 0
     while at < len(data):
-        op, *n = struct.unpack_from("<B19I", data, at)
-        at += 77
+        op, *n = struct.unpack_from("<B20I", data, at)
+        at += 81
         start, text, tokens, nodes, names, notes, key, letters = n[:8]
         if op == 4:
             yield ("key", data[at:at + key], (nodes, names, letters)), tuple(n[8:])
@@ -32,10 +32,10 @@ def records(data):
 
 
 def expected(case):
-    """The eleven numbers. Of two keys: the answer, filled with zeros, and a sum over the list."""
+    """The twelve numbers. Of two keys: the answer, filled with zeros, and a sum over the list."""
     if case[0] != "pair": return rules_model.expected(case)
     answer, said = differ_model.differ(*case[1:])
-    return answer + (0,) * 4 + (sum_words(said, len(said), 1), 0, 0, 0)
+    return answer + (0,) * 5 + (sum_words(said, len(said), 1), 0, 0, 0)
 
 
 def main():

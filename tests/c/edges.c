@@ -1,5 +1,5 @@
 /* edges: what C can get wrong of lengths: empty and null slices in every combination, starts past the end, lengths over the limits,
-   bits of options that say nothing. */
+   bits of options that say nothing; how many trials may be open, and how many type rules are entered. */
 #include "lent.h"
 
 static unsigned run;
@@ -39,7 +39,7 @@ static void empty_slices(void) {
             else if (none & 1) EXPECT("no text", 2);
             else if (none & 4) EXPECT("no nodes", 8, 1, 0, 2);
             else if (none & (8 | 32)) EXPECT("no names or no key", 11);
-            else EXPECT("all", 0, 5, 3, 0, key_size, 5);
+            else EXPECT("all", 0, 5, 3, 0, key_size, 5, 0, 1);
         }
         for (int none = 0; none < 16; none++) {
             take_without(none);
@@ -67,7 +67,7 @@ static void starts_and_options(void) {
         for (uint64_t parens = 0; parens < 2; parens++) {
             give(&text, "(A)", 3), give(&tokens, tokens_of, 4), lend(&nodes, 8), lend(&names, 1), lend(&notes, 0), lend(&key, 64);
             read_lent(0, others[i] | parens);
-            EXPECT("the bits of options that say nothing", 0, 1 + parens, 1, 0, answer[4], 3);
+            EXPECT("the bits of options that say nothing", 0, 1 + parens, 1, 0, answer[4], 3, 0, 2);
         }
 }
 
@@ -82,8 +82,31 @@ static void records(void) {
         read_lent(0, 0);
         if (n < 5) EXPECT("no record", 9, 5, 0, 6);
         else if (n < 10) EXPECT("one record", 9, 7, 0, 9);
-        else EXPECT("two records", 0, 5, 3, 2, answer[4], 8), must(memcmp(notes.at, want, sizeof want) == 0, "the words of two records");
+        else EXPECT("two records", 0, 5, 3, 2, answer[4], 8, 0, 4), must(memcmp(notes.at, want, sizeof want) == 0, "the words of two records");
     }
+}
+
+/* Constraints of infer, one in the other, each in brackets: `(infer A extends` so often, A, and the ends. With branches, a
+   trial is dropped and its tokens are read again, so each level doubles what is entered; without, each is kept. */
+static void trials(void) {
+    for (int branches = 0; branches < 2; branches++)
+        for (uint64_t n = 0; n <= 31; n++) {
+            char said[1024];
+            uint64_t listed[320], count = 0, at = 0, entered = branches ? 5 * ((uint64_t)1 << n) - 4 : 2 * n + 1;
+#define SAY(kind, spelled) (listed[count++] = typekey_token(kind, 0, at, sizeof spelled - 1), memcpy(said + at, spelled " ", sizeof spelled), at += sizeof spelled)
+            for (uint64_t i = 0; i < n; i++) SAY(TYPEKEY_LEFT_PAREN, "("), SAY(TYPEKEY_WORD_INFER, "infer"), SAY(TYPEKEY_WORD, "A"), SAY(TYPEKEY_WORD_EXTENDS, "extends");
+            SAY(TYPEKEY_WORD, "A");
+            for (uint64_t i = 0; i < n; i++) {
+                if (branches) SAY(TYPEKEY_QUESTION, "?"), SAY(TYPEKEY_WORD, "X"), SAY(TYPEKEY_COLON, ":"), SAY(TYPEKEY_WORD, "Y");
+                SAY(TYPEKEY_RIGHT_PAREN, ")");
+            }
+#undef SAY
+            listed[count++] = typekey_token(TYPEKEY_EOF, 0, at, 0);
+            give(&text, said, at), give(&tokens, listed, count), lend(&nodes, TYPEKEY_READ_NODE_WORDS(count)), lend(&names, count), lend(&notes, 0), lend(&key, TYPEKEY_READ_KEY_BYTES(at, count));
+            read_lent(0, 0);
+            if (n <= TYPEKEY_MOST_TRIALS) EXPECT("nested trials", 0, branches ? 4 * n + 1 : n + 1, answer[2], 0, answer[4], count - 1, 0, entered);
+            else EXPECT("a fifth trial", TYPEKEY_MANY_TRIALS, 19, 0, listed[19] & 0xffffffff);
+        }
 }
 
 /* Lengths at the limits and over them. */
@@ -95,7 +118,7 @@ static void long_inputs(void) {
         const uint64_t two[] = {typekey_token(TYPEKEY_STRING, 0, 0, TYPEKEY_MOST_TEXT), typekey_token(0, 0, n, 0)};
         give(&text, bytes, n), give(&tokens, two, 2), lend(&nodes, 4), lend(&names, 1), lend(&notes, 0), lend(&key, TYPEKEY_READ_KEY_BYTES(n, 2));
         read_lent(0, 0);
-        if (n == TYPEKEY_MOST_TEXT) EXPECT("the longest text", 0, 1, 1, 0, TYPEKEY_MOST_TEXT + 4, 1);
+        if (n == TYPEKEY_MOST_TEXT) EXPECT("the longest text", 0, 1, 1, 0, TYPEKEY_MOST_TEXT + 4, 1, 0, 1);
         else EXPECT("a text that is too long", 1);
     }
     for (uint64_t n = TYPEKEY_MOST_TOKENS; n <= TYPEKEY_MOST_TOKENS + 1; n++) {
@@ -213,7 +236,7 @@ int main(void) {
     must(answer[0] == 0, "A | B & C");
     key_size = answer[4];
     memcpy(read_key, key.at, key_size);
-    empty_slices(), starts_and_options(), records(), long_inputs(), differ_rows(), differ_edges();
+    empty_slices(), starts_and_options(), records(), trials(), long_inputs(), differ_rows(), differ_edges();
     printf("%u calls at the edges, 0 different\n", run);
     return 0;
 }

@@ -195,7 +195,7 @@ static void type(int d) {
 /* Shapes at the limits. */
 static void large(void) {
     int n = 60 + (int)below(8), i;
-    switch (below(11)) {
+    switch (below(12)) {
     case 0: for (i = 0; i < n; i++) fix(20); word(); for (i = 0; i < n; i++) fix(21); break;
     case 1: for (i = 0; i < n; i++) word(), fix(22); word(); for (i = 0; i < n; i++) fix(23); break;
     case 2: n = 250 + (int)below(10); for (i = 0; i < n; i++) fix(79); word(); break;
@@ -206,6 +206,12 @@ static void large(void) {
     case 7: for (i = 0; i < n; i++) fix(16), word(), fix(30); word(); for (i = 0; i < n; i++) fix(17); break;
     case 8: for (i = 0; i < n; i++) fix(16), word(), fix(20), fix(21), fix(30); word(); for (i = 0; i < n; i++) fix(17); break;
     case 9: n = 4090 + (int)below(10); fix(16); for (i = 0; i < n; i++) word(), fix(32); fix(17); break;
+    case 10: /* trials in brackets, kept or dropped */
+        n = 2 + (int)below(5);
+        for (i = 0; i < n; i++) fix(20), fix(77), word(), fix(96);
+        type(1);
+        for (i = 0; i < n; i++) { if (!one_in(3)) fix(29), type(0), fix(30), type(0); fix(21); }
+        break;
     default: n = TYPEKEY_MOST_TOKENS - 4 + (int)below(6); word(); for (i = 1; i < n; i++) fix(i % 2 ? 27 : 64 + i % 10);
     }
 }
@@ -262,7 +268,7 @@ static void record(int op, uint64_t start, const Slice *last) {
     uint64_t head[8] = {start, back ? 0 : text.count, back ? 0 : tokens.count, nodes.count, names.count, back ? 0 : notes.count, key.count, back ? letters.count : text.count};
     fputc(op, sample);
     for (int i = 0; i < 8; i++) four_out(head[i]);
-    for (int i = 0; i < 7; i++) four_out(answer[i]);
+    for (int i = 0; i < 8; i++) four_out(answer[i]);
     four_out(sum(&nodes)), four_out(sum(&names)), four_out(sum(back ? last : &notes)), four_out(back ? 0 : sum(last));
     if (back) fwrite(key.at, 1, key.count, sample);
     else fwrite(text.at, 1, text.count, sample), fwrite(tokens.at, 8, tokens.count, sample);
@@ -274,7 +280,7 @@ static void record_pair(void) {
     uint64_t head[8] = {0, 0, 0, pairs.count, 0, 0, key.count, other.count};
     fputc(8, sample);
     for (int i = 0; i < 8; i++) four_out(head[i]);
-    for (int i = 0; i < 7; i++) four_out(answer[i]);
+    for (int i = 0; i < 8; i++) four_out(answer[i]);
     four_out(sum(&pairs)), four_out(0), four_out(0), four_out(0);
     fwrite(key.at, 1, key.count, sample), fwrite(other.at, 1, other.count, sample);
     written++;

@@ -108,18 +108,19 @@ static void read_lent(uint64_t start, uint64_t options) {
                  words_mut(&notes), notes.count, key.at, key.count, answer);
     watch(&text), watch(&tokens), watch(&nodes), watch(&names), watch(&notes), watch(&key);
     if (answer[0] == 0) {
-        watch_answer(7);
+        watch_answer(8);
         zero_from(&nodes, 4 * answer[1], "nodes past the last are not 0");
         zero_from(&names, answer[2], "names past the last are not 0");
         zero_from(&notes, 5 * answer[3], "notes past the last are not 0");
         for (uint64_t i = 0; i < answer[3]; i++) note_lent(i);
         zero_from(&key, answer[4], "bytes past the key are not 0");
         must(answer[1] > 0 && answer[4] > 0 && answer[5] > start && answer[5] < tokens.count && answer[6] == 0, "counts or end of a reading");
+        must(answer[7] > 0 && answer[7] <= TYPEKEY_MOST_ENTERED * tokens.count, "type rules entered");
         return;
     }
     watch_answer(4);
     int form = (answer[0] >= TYPEKEY_PREFIX_MARK && answer[0] <= TYPEKEY_IMPORT_OPTIONS) || answer[0] == TYPEKEY_MEMBER_FORM;
-    must((answer[0] <= 9 && answer[0] != 4) || answer[0] == 11 || form, "no refusal of a read");
+    must((answer[0] <= 9 && answer[0] != 4) || answer[0] == 11 || answer[0] == TYPEKEY_MANY_TRIALS || form, "no refusal of a read");
     must(answer[0] == 1 || answer[0] == 11 ? answer[1] + answer[2] + answer[3] == 0 : answer[1] < tokens.count, "place of a refusal");
     must(answer[0] != 2 || answer[2] + answer[3] == 0, "half or byte of a bad token");
     must(answer[2] <= 1 && answer[3] <= text.count, "half or byte of a refusal");

@@ -16,31 +16,31 @@ int main(int argc, char **argv) {
     make_slices();
     unsigned run = 0, different = 0, back = 0;
     for (long p = 0; p < size; run++) {
-        const uint8_t *h = data + p, *rest = h + 77;
-        if (size - p < 77) return printf("cut\n"), 1;
-        uint64_t a[8], got[11] = {0};
+        const uint8_t *h = data + p, *rest = h + 81;
+        if (size - p < 81) return printf("cut\n"), 1;
+        uint64_t a[8], got[12] = {0};
         for (int i = 0; i < 8; i++) a[i] = four(h + 1 + 4 * i);
         lend(&nodes, least(a[3], 838860)), lend(&names, least(a[4], 16385));
         if (h[0] < 4) {
-            p += 77 + a[1] + 8 * a[2];
+            p += 81 + a[1] + 8 * a[2];
             if (p > size) return printf("cut\n"), 1;
             give(&text, rest, a[1]), give(&tokens, rest + a[1], a[2]), lend(&notes, least(a[5], 212)), lend(&key, least(a[6], 262146));
             read_lent(a[0], h[0] & 1);
             must(a[1] == 0 || memcmp(text.at, rest, a[1]) == 0, "the text was written");
             must(a[2] == 0 || memcmp(tokens.at, rest + a[1], 8 * a[2]) == 0, "the tokens were written");
-            memcpy(got, answer, 7 * 8);
-            got[7] = sum(&nodes), got[8] = sum(&names), got[9] = sum(&notes), got[10] = sum(&key);
+            memcpy(got, answer, 8 * 8);
+            got[8] = sum(&nodes), got[9] = sum(&names), got[10] = sum(&notes), got[11] = sum(&key);
         } else {
-            p += 77 + a[6];
+            p += 81 + a[6];
             if (p > size) return printf("cut\n"), 1;
             give(&key, rest, a[6]), lend(&letters, least(a[7], 131072));
             take_back_lent();
             must(a[6] == 0 || memcmp(key.at, rest, a[6]) == 0, "the key was written");
-            memcpy(got, answer, 7 * 8);
-            got[7] = sum(&nodes), got[8] = sum(&names), got[9] = sum(&letters);
+            memcpy(got, answer, 8 * 8);
+            got[8] = sum(&nodes), got[9] = sum(&names), got[10] = sum(&letters);
             back++;
         }
-        for (int i = 0; i < 11; i++)
+        for (int i = 0; i < 12; i++)
             if (got[i] != four(h + 33 + 4 * i)) {
                 printf("different %u: number %d is %llu, not %llu\n", run, i, (unsigned long long)got[i], (unsigned long long)four(h + 33 + 4 * i));
                 different++;

@@ -27,6 +27,8 @@
 //! - **Tokens come from your lexer.** There is no lexer here: [`token`] packs a token's kind, place and line break into a
 //!   word, [`kind_of`] has the kind of a word or a mark. The library checks each word before it reads.
 //! - **Any input is fine.** Bad input is a [`Refusal`], which says what is wrong and where. Nothing panics.
+//! - **Time is by tokens.** A type that is read enters at most 16 type rules a token, however it is nested;
+//!   [`Reading::entered`] has how many.
 //! - **Room is lent by need.** A call clears all that it is lent, so [`Need`] has just what is enough. [`Buffers`] grow to
 //!   it and can be used again. Without the feature `alloc` lend slices by [`read_into`], [`take_back_into`] and
 //!   [`differ_into`].
@@ -191,6 +193,9 @@ pub struct Reading<'a> {
     pub key: &'a [u8],
     /// Where the reading ended. Tokens may be left; it is for the caller to say whether that is good.
     pub end: End,
+    /// How many type rules were entered: the types that were begun, those in a constraint of `infer` each time that it is
+    /// read. It is what reading cost, and at most 16 times the number of tokens.
+    pub entered: usize,
     notes: &'a [u64],
 }
 
@@ -276,12 +281,12 @@ pub fn read_into<'a>(text: &'a [u8], tokens: &[u64], options: Options, lent: Len
             &mut answer,
         )
     }
-    let [refused, a, b, c, key, token, half, _] = answer.map(|w| w as usize);
+    let [refused, a, b, c, key, token, half, entered] = answer.map(|w| w as usize);
     if refused != 0 {
         return Err(Refusal { why: Why::of(refused), place: Place::Token { token: a, half: b == 1, byte: c } });
     }
     let tree = Tree::new(text, &nodes[..4 * a], &names[..b]);
-    Ok(Reading { tree, key: &bytes[..key], end: End { token, half: half == 1 }, notes: &notes[..5 * c] })
+    Ok(Reading { tree, key: &bytes[..key], end: End { token, half: half == 1 }, entered, notes: &notes[..5 * c] })
 }
 
 /// Takes a key back, in slices that are lent. Spans of the tree are all `0..0`.

@@ -42,15 +42,17 @@ pub enum Why {
     ImportSource,
     /// A comma behind the source of an import.
     ImportOptions,
+    /// More than four constraints of `infer` would be tried at once, at the `extends` of the fifth.
+    ManyTrials,
     /// There are more differences than the list has room for.
-    ManyDifferences = 29,
+    ManyDifferences,
     /// A member with a computed name, an accessor, or a modifier other than `readonly`.
     MemberForm = 31,
 }
 
 use Why::*;
 
-const WHY: [(Why, &str); 20] = [
+const WHY: [(Why, &str); 21] = [
     (BadList, "no tokens or too many, too long a text, or a start that is no token"),
     (BadToken, "a word that is no good token"),
     (Unexpected, "a token that no rule takes"),
@@ -69,6 +71,7 @@ const WHY: [(Why, &str); 20] = [
     (TypeParameterModifier, "`const`, `in` or `out` before a type parameter is not supported"),
     (ImportSource, "the source of an import has to be a string"),
     (ImportOptions, "options of an import are not supported"),
+    (ManyTrials, "more than four constraints of `infer` would be tried at once"),
     (ManyDifferences, "more differences than the list has room for"),
     (MemberForm, "a computed name, an accessor or a modifier other than `readonly` is not supported"),
 ];

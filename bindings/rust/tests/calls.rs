@@ -306,6 +306,27 @@ fn forms_that_are_not_read() {
 }
 
 #[test]
+fn trials() {
+    let mut buffers = Buffers::default();
+    let mut entered =
+        |text: &str| read(text.as_bytes(), &cut(text), Options::default(), &mut buffers).map(|r| r.entered);
+    let tried = |n| "(infer A extends ".repeat(n) + "A" + &" ? X : Y)".repeat(n);
+    let kept = |n| "(infer A extends ".repeat(n) + "A" + &")".repeat(n);
+    assert_eq!([0, 1, 2, 3, 4].map(|n| entered(&tried(n)).unwrap()), [1, 6, 16, 36, 76]);
+    assert_eq!(entered(&kept(4)), Ok(9));
+    assert_eq!(
+        entered("[infer A extends B, infer A extends B, infer A extends B, infer A extends B, infer A extends B]"),
+        Ok(11)
+    );
+    for text in [tried(5), kept(5), tried(31)] {
+        let refusal = entered(&text).unwrap_err();
+        assert_eq!(refusal, Refusal { why: Why::ManyTrials, place: Place::Token { token: 19, half: false, byte: 77 } });
+        let sentence = "refusal 28 (ManyTrials): more than four constraints of `infer` would be tried at once, at token 19, byte 77";
+        assert_eq!(refusal.to_string(), sentence);
+    }
+}
+
+#[test]
 fn less_than_is_needed() {
     let (text, tokens) = (b"A<B, C>", cut("A<B, C>"));
     let none = |why, place| Some(Refusal { why, place });

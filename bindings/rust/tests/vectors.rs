@@ -1,5 +1,5 @@
 //! Every stored vector of crates/rows/data/vectors through this crate (tools/rules_model.py says how a record is laid out).
-//! An answer is eleven numbers, with a sum over all that was lent, used or not. Beside that each tree that comes out is
+//! An answer is twelve numbers, with a sum over all that was lent, used or not. Beside that each tree that comes out is
 //! walked and its key written from what the walk meets: it must be the key. And buffers by need are always enough.
 use typekey::*;
 
@@ -70,19 +70,19 @@ fn walks(tree: Tree) -> bool {
     all.len() == tree.size() && tree.walk().map(|(depth, n)| (depth, n.tag)).eq(all)
 }
 
-fn told(refusal: Refusal) -> [u64; 7] {
+fn told(refusal: Refusal) -> [u64; 8] {
     let number = refusal.why.number() as u64;
     match refusal.place {
-        Place::Token { token, half, byte } => [number, token as u64, half as u64, byte as u64, 0, 0, 0],
-        Place::Bit(bit) => [number, bit as u64, 0, 0, 0, 0, 0],
-        Place::Key { side, bit } => [number, side as u64, bit as u64, 0, 0, 0, 0],
+        Place::Token { token, half, byte } => [number, token as u64, half as u64, byte as u64, 0, 0, 0, 0],
+        Place::Bit(bit) => [number, bit as u64, 0, 0, 0, 0, 0, 0],
+        Place::Key { side, bit } => [number, side as u64, bit as u64, 0, 0, 0, 0, 0],
     }
 }
 
 /// A record's numbers and the bytes after them.
 struct Record<'a> {
     op: u8,
-    n: [usize; 19],
+    n: [usize; 20],
     rest: &'a [u8],
 }
 
@@ -114,8 +114,8 @@ impl Room {
         [of(0), of(1), of(2), of_bytes(&self.bytes[..bytes])]
     }
 
-    /// The eleven numbers of a record that reads, and whether the tree has the key, as read and as taken back, by need too.
-    fn reads(&mut self, r: &Record) -> ([u64; 11], bool) {
+    /// The twelve numbers of a record that reads, and whether the tree has the key, as read and as taken back, by need too.
+    fn reads(&mut self, r: &Record) -> ([u64; 12], bool) {
         let [start, text, count, nodes, names, notes, key, ..] = r.n;
         let (text, tokens) = r.rest.split_at(text);
         let tokens: Vec<u64> = tokens.chunks_exact(8).map(|b| u64::from_le_bytes(b.try_into().unwrap())).collect();
@@ -127,31 +127,32 @@ impl Room {
             Err(refusal) => (told(refusal), enough),
             Ok(r) => {
                 let (end, key) = (r.end, r.key.to_vec());
-                let counts =
-                    [0, r.tree.size(), r.tree.names(), r.notes().len(), key.len(), end.token, end.half as usize];
+                let (nodes, names, notes) = (r.tree.size(), r.tree.names(), r.notes().len());
+                let counts = [0, nodes, names, notes, key.len(), end.token, end.half as usize, r.entered];
                 let good = written(r.tree) == key && walks(r.tree) && r.tree.root().span().end <= text.len();
+                let good = good && r.entered <= 16 * count;
                 let back = take_back(&key, &mut self.others).unwrap();
                 (counts.map(|n| n as u64), enough && good && written(back) == key)
             }
         };
-        let [a, b, c, d, e, f, g] = answer;
-        let [h, i, j, k] = self.sums([nodes, names, notes], key);
-        ([a, b, c, d, e, f, g, h, i, j, k], good)
+        let [a, b, c, d, e, f, g, h] = answer;
+        let [i, j, k, l] = self.sums([nodes, names, notes], key);
+        ([a, b, c, d, e, f, g, h, i, j, k, l], good)
     }
 
     /// The same of a record that takes a key back.
-    fn takes(&mut self, r: &Record) -> ([u64; 11], bool) {
+    fn takes(&mut self, r: &Record) -> ([u64; 12], bool) {
         let [_, _, _, nodes, names, _, _, letters, ..] = r.n;
         let (answer, good) = match take_back_into(r.rest, self.lent([nodes, names, 0], letters)) {
             Err(refusal) => (told(refusal), true),
             Ok(tree) => {
-                let counts = [0, tree.size(), tree.names(), tree.text().len(), 0, 0, 0].map(|n| n as u64);
+                let counts = [0, tree.size(), tree.names(), tree.text().len(), 0, 0, 0, 0].map(|n| n as u64);
                 (counts, written(tree) == r.rest && walks(tree))
             }
         };
-        let [a, b, c, d, e, f, g] = answer;
-        let [h, i, _, j] = self.sums([nodes, names, 0], letters);
-        ([a, b, c, d, e, f, g, h, i, j, 0], good)
+        let [a, b, c, d, e, f, g, h] = answer;
+        let [i, j, _, k] = self.sums([nodes, names, 0], letters);
+        ([a, b, c, d, e, f, g, h, i, j, k, 0], good)
     }
 }
 
@@ -168,18 +169,18 @@ fn stored_vectors() {
     while !rest.is_empty() {
         let (op, n): (u8, Vec<usize>) = (
             rest[0],
-            rest[1..77].chunks_exact(4).map(|b| u32::from_le_bytes(b.try_into().unwrap()) as usize).collect(),
+            rest[1..81].chunks_exact(4).map(|b| u32::from_le_bytes(b.try_into().unwrap()) as usize).collect(),
         );
-        let n: [usize; 19] = n.try_into().unwrap();
+        let n: [usize; 20] = n.try_into().unwrap();
         let length = if op < 4 { n[1] + 8 * n[2] } else { n[6] };
-        let record = Record { op, n, rest: &rest[77..77 + length] };
+        let record = Record { op, n, rest: &rest[81..81 + length] };
         let (got, good) = if op < 4 { room.reads(&record) } else { room.takes(&record) };
         if got[..] != n[8..].iter().map(|n| *n as u64).collect::<Vec<_>>() || !good {
             println!("record {run}: {got:?}, wanted {:?}, trees and room: {good}", &n[8..]);
             different += 1;
         }
         run += 1;
-        rest = &rest[77 + length..];
+        rest = &rest[81 + length..];
     }
     println!("{run} vectors, {different} different");
     assert!(run > 0 && different == 0);

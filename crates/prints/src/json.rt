@@ -1,4 +1,4 @@
-// One JSON object for a reading: what it came to, its place or its key, end, diagnostics and tree.
+// One JSON object for a reading: what it came to, its place or its key, end, type rules entered, diagnostics and tree.
 ghost use Prim.Native.Nat.{_<_};
 ghost use lib.ListN.{length};
 use crate::tree::Tag;

@@ -22,7 +22,8 @@ use words::cursor::word_at;
 use words::limits::Tree;
 use words::token;
 
-// How much a reading used of what it was lent, and its end: a token and how many bytes of that one are used.
+// How much a reading used of what it was lent; its end: a token and how many bytes of that one are used; and how many type rules
+// it entered.
 pub struct Extent {
     pub nodes: usize,
     pub names: usize,
@@ -30,6 +31,7 @@ pub struct Extent {
     pub key: usize,
     pub at: usize,
     pub half: usize,
+    pub entered: usize,
 }
 
 // A refusal: its number, and the token, the half and the byte that it is at.
@@ -239,9 +241,10 @@ fn in_json(
         text,
         line,
     );
-    let r = json::diagnostics(out, q, notes, c.notes, text, line);
-    let s = json::tree(out, r, nodes, names, text, visits, size, false);
-    bytes(out, s, b"}\n")
+    let r = numbered(out, q, b",\"entered\":", c.entered);
+    let s = json::diagnostics(out, r, notes, c.notes, text, line);
+    let t = json::tree(out, s, nodes, names, text, visits, size, false);
+    bytes(out, t, b"}\n")
 }
 
 // How many words the visits of so many nodes and names have at most: ten visits a node, which a method has, one a name.

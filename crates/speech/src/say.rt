@@ -17,7 +17,7 @@ pub fn side(out: &mut [u8; 65536], at: usize, number: usize) -> usize
     pick(out, at, b"|left: |right: |", number)
 }
 
-// The name of a form that is not read, from 20 on.
+// The name of a refusal from 20 on: a form that is not read, or a trial too many.
 fn form(out: &mut [u8; 65536], at: usize, number: usize) -> usize
     requires { ⌜ at < 65536 ⌝ }
     ensures { λ r. ⌜ r < 65536 ⌝ }
@@ -25,12 +25,12 @@ fn form(out: &mut [u8; 65536], at: usize, number: usize) -> usize
     pick(
         out,
         at,
-        b"PrefixMark|ParameterModifier|DefaultValue|MisplacedThis|RestNotLast|TypeParameterModifier|ImportSource|ImportOptions||||MemberForm|",
+        b"PrefixMark|ParameterModifier|DefaultValue|MisplacedThis|RestNotLast|TypeParameterModifier|ImportSource|ImportOptions|ManyTrials|||MemberForm|",
         number,
     )
 }
 
-// The name of a refusal; 4 and 28 to 30 have none.
+// The name of a refusal; 4, 29 and 30 have none.
 pub fn refusal(out: &mut [u8; 65536], at: usize, number: usize) -> usize
     requires { ⌜ at < 65536 ⌝ }
     ensures { λ r. ⌜ r < 65536 ⌝ }
@@ -72,7 +72,7 @@ fn late(out: &mut [u8; 65536], at: usize, number: usize) -> usize
     )
 }
 
-// Why a form is not read, from 20 on.
+// What the refusals from 20 on mean.
 fn unread(out: &mut [u8; 65536], at: usize, number: usize) -> usize
     requires { ⌜ at < 65536 ⌝ }
     ensures { λ r. ⌜ r < 65536 ⌝ }
@@ -80,7 +80,7 @@ fn unread(out: &mut [u8; 65536], at: usize, number: usize) -> usize
     pick(
         out,
         at,
-        b"a ?, ! or * before a type is not supported; ? and ! may stand behind it|a modifier before a parameter is not supported|a default value is not supported here; a ? behind the name is|this has to be the first parameter, and not a rest|nothing may follow a rest parameter, not even a comma|const, in or out before a type parameter is not supported|the source of an import has to be a string|options of an import are not supported; only its source is read||||a computed name, an accessor or a modifier other than readonly is not supported|",
+        b"a ?, ! or * before a type is not supported; ? and ! may stand behind it|a modifier before a parameter is not supported|a default value is not supported here; a ? behind the name is|this has to be the first parameter, and not a rest|nothing may follow a rest parameter, not even a comma|const, in or out before a type parameter is not supported|the source of an import has to be a string|options of an import are not supported; only its source is read|more than four constraints of infer would be tried at once|||a computed name, an accessor or a modifier other than readonly is not supported|",
         number,
     )
 }

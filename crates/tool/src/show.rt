@@ -25,6 +25,7 @@ pub fn extent(c: Counts) -> Extent {
         key: c.key,
         at: c.at,
         half: c.half,
+        entered: c.entered,
     }
 }
 
