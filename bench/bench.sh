@@ -32,7 +32,8 @@ export NODE_PATH="$modules"
 
 rustc() { command rustc --edition 2024 -C opt-level=3 -C codegen-units=1 "$@"; }
 rustc --crate-type rlib --crate-name baseline "$here/baseline/lib.rs" -o "$out/libbaseline.rlib"
-rustc -L native="$lib" --extern baseline="$out/libbaseline.rlib" "$here/measure.rs" -o "$out/measure"
+sh "$here/parts.sh" "$out"
+rustc -L native="$lib" -L native="$out" --extern baseline="$out/libbaseline.rlib" "$here/measure.rs" -o "$out/measure"
 gcc -O2 -Wall -Wextra -I"$root/include" "$here/stack.c" "$lib/libtypekey.a" -lpthread -o "$out/stack"
 python3 "$here/types.py" "$out/lists" "$@"
 python3 "$here/report.py" "$out" "$lib" $write

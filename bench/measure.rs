@@ -1,9 +1,12 @@
-//! Measures the library's two calls beside the plain Rust of baseline/, in processor time.
+//! Measures two calls of the library, and the parts of one, beside the plain Rust of baseline/, in processor time.
 //!
 //!     measure agree VECTORS       both beside the stored answers of the program rows
-//!     measure read FILE..         ns a token: check, read and key
+//!     measure parts FILE..        ns a token: check; check and read; the whole call that reads. ns a byte of key: key out; take back
+//!     measure read FILE..         ns a token: the whole call that reads
 //!     measure take FILE..         ns a byte of key: take back
 //!     measure lend FILE..         ns a call, by how much is lent
+//!     measure once PART SIDE FILE runs a part once, within the function `counted`, for a counter of instructions; SIDE is 0 for
+//!                                 the library, 1 for Rust
 //!
 //! A file is token lists one after the other: the text's length and the number of words (4 bytes each, lowest first), the
 //! text, the words (8 bytes each, lowest first). In memory the texts of a file stand side by side in one array and the words
@@ -20,6 +23,37 @@ use std::hint::black_box;
 static ALLOCATOR: arena::Allocator = arena::Allocator;
 
 // ---- the library ----
+
+// The parts of the call that reads: parts.sh makes them.
+#[link(name = "parts", kind = "static")]
+unsafe extern "C" {
+    fn part_check(text: *const u8, text_len: u64, tokens: *const u64, token_count: u64, answer: *mut [u64; 8]);
+    fn part_read(
+        text: *const u8,
+        text_len: u64,
+        tokens: *const u64,
+        token_count: u64,
+        nodes: *mut u64,
+        node_words: u64,
+        names: *mut u64,
+        name_words: u64,
+        notes: *mut u64,
+        note_words: u64,
+        answer: *mut [u64; 8],
+    );
+    fn part_key(
+        nodes: *const u64,
+        node_words: u64,
+        names: *const u64,
+        name_words: u64,
+        text: *const u8,
+        text_len: u64,
+        root: u64,
+        key: *mut u8,
+        key_bytes: u64,
+        answer: *mut [u64; 8],
+    );
+}
 
 #[link(name = "typekey", kind = "static")]
 unsafe extern "C" {
@@ -137,6 +171,55 @@ impl Lent {
         }
         answer
     }
+
+    /// Check and read, to the tree.
+    fn tree(&mut self, text: &[u8], words: &[u64], r: Rooms) -> [u64; 8] {
+        let mut answer = [0; 8];
+        let (nodes, names, notes) = (&mut self.nodes[..r.nodes], &mut self.names[..r.names], &mut self.notes[..r.notes]);
+        unsafe {
+            part_read(
+                text.as_ptr(),
+                text.len() as u64,
+                words.as_ptr(),
+                words.len() as u64,
+                nodes.as_mut_ptr(),
+                r.nodes as u64,
+                names.as_mut_ptr(),
+                r.names as u64,
+                notes.as_mut_ptr(),
+                r.notes as u64,
+                &mut answer,
+            );
+        }
+        answer
+    }
+
+    /// Key out: how long the key is that was written.
+    fn key(&mut self, nodes: &[u64], names: &[u64], text: &[u8], bytes: usize) -> usize {
+        let (mut answer, key) = ([0; 8], &mut self.bytes[..bytes]);
+        unsafe {
+            part_key(
+                nodes.as_ptr(),
+                nodes.len() as u64,
+                names.as_ptr(),
+                names.len() as u64,
+                text.as_ptr(),
+                text.len() as u64,
+                nodes.len() as u64 / 4 - 1,
+                key.as_mut_ptr(),
+                bytes as u64,
+                &mut answer,
+            );
+        }
+        answer[0] as usize
+    }
+}
+
+/// The check alone.
+fn check(text: &[u8], words: &[u64]) -> [u64; 8] {
+    let mut answer = [0; 8];
+    unsafe { part_check(text.as_ptr(), text.len() as u64, words.as_ptr(), words.len() as u64, &mut answer) };
+    answer
 }
 
 // ---- files ----
@@ -216,6 +299,38 @@ impl Keys {
     }
 }
 
+/// The trees of the lists, in the library's words, side by side, and in the baseline's form.
+struct Trees {
+    nodes: Vec<u64>,
+    names: Vec<u64>,
+    begins: Vec<(usize, usize)>,
+    plain: Vec<baseline::tree::Node>,
+}
+
+impl Trees {
+    fn of(lists: &Lists, keys: &Keys, lent: &mut Lent) -> Trees {
+        let mut all = Trees { nodes: Vec::new(), names: Vec::new(), begins: vec![(0, 0)], plain: Vec::new() };
+        for ((text, words), (key, _)) in lists.each().zip(keys.each()) {
+            let r = Rooms::to_read(text.len(), words.len());
+            let a = lent.tree(text, words, r);
+            assert!(check(text, words)[0] == 0 && a[0] == 0, "not read");
+            let (nodes, names) = (lent.nodes[..4 * a[1] as usize].to_vec(), lent.names[..a[2] as usize].to_vec());
+            let n = lent.key(&nodes, &names, text, r.bytes);
+            let Ok((root, _, _)) = baseline::tree(text, words, 0, false) else { panic!("not read") };
+            assert!(&lent.bytes[..n] == key && baseline::key(&root, text) == key, "another key");
+            all.nodes.extend(nodes);
+            all.names.extend(names);
+            all.begins.push((all.nodes.len(), all.names.len()));
+            all.plain.push(root);
+        }
+        all
+    }
+
+    fn each(&self) -> impl Iterator<Item = (&[u64], &[u64])> {
+        self.begins.windows(2).map(|b| (&self.nodes[b[0].0..b[1].0], &self.names[b[0].1..b[1].1]))
+    }
+}
+
 // ---- time ----
 
 #[repr(C)]
@@ -259,7 +374,14 @@ struct Group<'a> {
 /// begins in each with another job than the round before. Two rounds are not counted. Of the times it is the lower quartile,
 /// since other work on the machine can only add to them; of the ratios it is the median.
 fn compare(groups: &mut [Group]) -> Vec<Vec<(f64, f64)>> {
-    let rounds: usize = std::env::var("ROUNDS").ok().and_then(|n| n.parse().ok()).unwrap_or(41);
+    compare_in(rounds(), groups)
+}
+
+fn rounds() -> usize {
+    std::env::var("ROUNDS").ok().and_then(|n| n.parse().ok()).unwrap_or(41)
+}
+
+fn compare_in(rounds: usize, groups: &mut [Group]) -> Vec<Vec<(f64, f64)>> {
     let mut times: Vec<Vec<Vec<f64>>> = groups.iter().map(|g| vec![Vec::new(); g.jobs.len()]).collect();
     for round in 0..rounds + 2 {
         for (group, times) in groups.iter_mut().zip(&mut times) {
@@ -350,6 +472,75 @@ fn take(sets: &[Set], lent: &RefCell<Lent>) {
     }
 }
 
+/// The parts in the order of PARTS, each on all lists: ours, Rust, Rust with an arena.
+const PARTS: [&str; 5] = ["check", "tree", "key", "take", "read"];
+
+fn part<'a>(name: &str, set: &'a Set, trees: &'a Trees, lent: &'a RefCell<Lent>) -> Group<'a> {
+    let lists = &set.lists;
+    let plain_tree = |text: &[u8], words: &[u64]| drop(black_box(baseline::tree(black_box(text), black_box(words), 0, false)));
+    let plain_check = |text: &[u8], words: &[u64]| {
+        let _ = black_box(baseline::check(black_box(text), black_box(words), 0));
+    };
+    let plain_key = |root: &baseline::tree::Node, text: &[u8]| drop(black_box(baseline::key(black_box(root), black_box(text))));
+    let jobs: Vec<Box<dyn FnMut() + 'a>> = match name {
+        "check" => vec![
+            Box::new(|| {
+                for (text, words) in lists.each() {
+                    black_box(check(black_box(text), black_box(words)));
+                }
+            }),
+            Box::new(move || lists.each().for_each(|(text, words)| plain_check(text, words))),
+            Box::new(move || lists.each().for_each(|(text, words)| arena::within(|| plain_check(text, words)))),
+        ],
+        "tree" => vec![
+            Box::new(|| {
+                let mut lent = lent.borrow_mut();
+                for (text, words) in lists.each() {
+                    black_box(lent.tree(black_box(text), black_box(words), Rooms::to_read(text.len(), words.len())));
+                }
+            }),
+            Box::new(move || lists.each().for_each(|(text, words)| plain_tree(text, words))),
+            Box::new(move || lists.each().for_each(|(text, words)| arena::within(|| plain_tree(text, words)))),
+        ],
+        "key" => vec![
+            Box::new(|| {
+                let mut lent = lent.borrow_mut();
+                for ((text, words), (nodes, names)) in lists.each().zip(trees.each()) {
+                    let bytes = Rooms::to_read(text.len(), words.len()).bytes;
+                    black_box(lent.key(black_box(nodes), black_box(names), black_box(text), bytes));
+                }
+            }),
+            Box::new(move || lists.each().zip(&trees.plain).for_each(|((text, _), root)| plain_key(root, text))),
+            Box::new(move || {
+                lists.each().zip(&trees.plain).for_each(|((text, _), root)| arena::within(|| plain_key(root, text)))
+            }),
+        ],
+        "take" => takes(&set.keys, lent).jobs,
+        "read" => reads(lists, lent).jobs,
+        _ => panic!("no part {name}"),
+    };
+    Group { turns: turns(40_000, lists.tokens()), jobs }
+}
+
+/// Rounds are short here, and five times as many.
+fn parts(sets: &[Set], trees: &[Trees], lent: &RefCell<Lent>) {
+    let each = || PARTS.iter().flat_map(|p| sets.iter().zip(trees).map(move |(set, trees)| (*p, set, trees)));
+    let times = compare_in(5 * rounds(), &mut each().map(|(p, set, trees)| part(p, set, trees, lent)).collect::<Vec<_>>());
+    for ((p, set, _), times) in each().zip(times) {
+        let (tokens, bytes) = (set.lists.tokens(), set.keys.keys.len());
+        let units = if matches!(p, "key" | "take") { bytes } else { tokens };
+        let count = set.lists.count();
+        println!("{p} {} {} lists {count} tokens {tokens} bytes {bytes}", set.name, figures(units, &times));
+    }
+}
+
+/// The job, under a name that a counter of instructions can be told.
+#[unsafe(no_mangle)]
+#[inline(never)]
+extern "C" fn counted(job: &mut Box<dyn FnMut() + '_>) {
+    job();
+}
+
 /// What a call takes if it is lent just what it uses, what the header says, and all that any call can use, over the first
 /// 300 lists; and what writing zeros to all that is lent takes alone.
 fn lend(set: &Set, lent: &RefCell<Lent>) {
@@ -429,8 +620,9 @@ fn asks_room(number: u64) -> bool {
 fn agree(name: &str, lent: &mut Lent) {
     let data = std::fs::read(name).unwrap_or_else(|e| panic!("{name}: {e}"));
     let mut at = 0;
-    // texts and keys: all, ours as stored, the baseline as stored or as ours with more room, and how many of those are read or taken
-    let mut figures = [[0usize; 5]; 2];
+    // texts and keys: all, ours as stored, of those with no object type the baseline as stored or as ours with more room, how many
+    // of those are read or taken; and how many hold an object type
+    let mut figures = [[0usize; 6]; 2];
     while at < data.len() {
         let head: Vec<usize> = (0..20).map(|i| number(&data, at + 1 + 4 * i)).collect();
         let (op, stored) = (data[at], head[8..].iter().map(|&n| n as u64).collect::<Vec<u64>>());
@@ -450,6 +642,10 @@ fn agree(name: &str, lent: &mut Lent) {
             let f = &mut figures[1];
             f[0] += 1;
             f[1] += (ours == stored[..8]) as usize;
+            if plain.0 == baseline::OBJECT {
+                f[5] += 1;
+                continue;
+            }
             f[2] += asks_room(stored[0]) as usize;
             f[3] += good as usize;
             f[4] += (good && want[0] == 0) as usize;
@@ -476,6 +672,10 @@ fn agree(name: &str, lent: &mut Lent) {
         let f = &mut figures[0];
         f[0] += 1;
         f[1] += (ours == stored[..8]) as usize;
+        if answer[0] == baseline::OBJECT {
+            f[5] += 1;
+            continue;
+        }
         f[2] += asks_room(stored[0]) as usize;
         f[3] += good as usize;
         f[4] += (good && answer[0] == 0) as usize;
@@ -486,8 +686,8 @@ fn agree(name: &str, lent: &mut Lent) {
             );
         }
     }
-    for (what, [all, ours, room, good, read]) in ["texts", "keys"].iter().zip(figures) {
-        println!("agree {what} {all} ours {ours} room {room} baseline {good} read {read}");
+    for (what, [all, ours, room, good, read, objects]) in ["texts", "keys"].iter().zip(figures) {
+        println!("agree {what} {all} ours {ours} room {room} baseline {good} read {read} objects {objects}");
     }
 }
 
@@ -503,12 +703,22 @@ fn main() {
         let keys = Keys::of(&lists, &mut lent);
         Set { name: short(&name).to_string(), lists, keys }
     };
+    if job == "once" {
+        let (name, side) = (args.next().unwrap(), args.next().unwrap().parse::<usize>().unwrap());
+        let set = set(args.next().unwrap());
+        let trees = Trees::of(&set.lists, &set.keys, &mut lent);
+        let lent = RefCell::new(lent);
+        counted(&mut part(&name, &set, &trees, &lent).jobs[side]);
+        return println!("once {name} {} tokens {} bytes {}", set.name, set.lists.tokens(), set.keys.keys.len());
+    }
     let sets: Vec<Set> = args.map(&mut set).collect();
+    let trees: Vec<Trees> = sets.iter().filter(|_| job == "parts").map(|s| Trees::of(&s.lists, &s.keys, &mut lent)).collect();
     let lent = RefCell::new(lent);
     match job.as_str() {
+        "parts" => parts(&sets, &trees, &lent),
         "read" => read(&sets, &lent),
         "take" => take(&sets, &lent),
         "lend" => sets.iter().for_each(|set| lend(set, &lent)),
-        _ => panic!("agree, read, take or lend"),
+        _ => panic!("agree, parts, read, take, lend or once"),
     }
 }

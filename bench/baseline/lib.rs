@@ -1,6 +1,6 @@
 //! The same job as the library's two calls, in ordinary Rust: a checked token list is read by recursive descent into a tree
 //! of enums, vectors and boxes, and the tree is written as a key; a key is read into a tree again. The rules are those of
-//! docs/SCOPE.md. Nothing is lent here, so there is no refusal for want of room (8 and 11).
+//! docs/SCOPE.md. Nothing is lent here, so there is no refusal for want of room (8 and 11). Object types are not read.
 pub mod read;
 pub mod take;
 pub mod token;
@@ -10,6 +10,9 @@ pub mod write;
 use read::{Note, Refusal};
 use tree::Node;
 
+/// The number with which an object type is refused, which is no refusal of the library's.
+pub const OBJECT: u64 = 100;
+
 /// A reading with its key. The names of the tree are places in the text that was read.
 pub struct Reading {
     pub root: Node,
@@ -18,12 +21,19 @@ pub struct Reading {
     pub key: Vec<u8>,
 }
 
-/// Checks the tokens, reads a type from the token `start` on, and writes its key.
-pub fn read(text: &[u8], words: &[u64], start: usize, preserve_parens: bool) -> Result<Reading, Refusal> {
+/// Checks the tokens and reads a type from the token `start` on; its tree, its diagnostics and where it ends.
+pub fn tree(text: &[u8], words: &[u64], start: usize, preserve_parens: bool) -> Result<(Node, Vec<Note>, usize), Refusal> {
     token::check(text, words, start)?;
-    let (root, notes, end) = read::read(words, start, preserve_parens)?;
+    read::read(words, start, preserve_parens)
+}
+
+/// The same, with its key.
+pub fn read(text: &[u8], words: &[u64], start: usize, preserve_parens: bool) -> Result<Reading, Refusal> {
+    let (root, notes, end) = tree(text, words, start, preserve_parens)?;
     let key = write::key(&root, text);
     Ok(Reading { root, notes, end, key })
 }
 
 pub use take::take_back;
+pub use token::check;
+pub use write::key;

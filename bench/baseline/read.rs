@@ -542,7 +542,7 @@ impl Reader<'_> {
 
     fn mapped(&mut self) -> Read<Tall> {
         if !self.is_mapped_start() {
-            return self.refuse(31);
+            return self.refuse(crate::OBJECT);
         }
         let first = self.first();
         self.step();

@@ -45,7 +45,7 @@ enum Place {
 impl Place {
     fn allows(self, tag: u32) -> bool {
         match tag {
-            1..=19 | 23 | 24 => true,
+            1..=19 | 23..=25 => true,
             20 => matches!(self, Place::Element | Place::UnderName),
             21 => matches!(self, Place::Element | Place::UnderName),
             22 => matches!(self, Place::Element | Place::UnderRest),
@@ -229,7 +229,8 @@ impl Reader<'_> {
             21 => Form::Rest(self.boxed(Place::UnderRest, above)?),
             22 => Form::Named(self.name()?, self.flag()?, self.boxed(Place::UnderName, above)?),
             23 => Form::NonNull(self.boxed(Place::Type, above)?),
-            _ => Form::Question(self.boxed(Place::Type, above)?),
+            24 => Form::Question(self.boxed(Place::Type, above)?),
+            _ => return Err(BadKey { number: crate::OBJECT, bit }),
         };
         Ok(Node { span: Span::default(), form })
     }
