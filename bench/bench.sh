@@ -1,9 +1,10 @@
 #!/bin/sh
-# bench.sh [--write] [FOLDER ..]: measures the two open calls, through the C interface, beside plain Rust of the same job
-# (baseline/), beside TypeScript's own parser, and native code beside WebAssembly; on the types in the folders' .d.ts files.
-# It prints tables; --write puts them into docs/SPEED.md and draws docs/pictures/speed.svg.
+# bench.sh [--write] [FOLDER ..]: measures the calls that read and take back, through the C interface, and the parts of the
+# first (parts.sh), beside plain Rust of the same job (baseline/), beside TypeScript's own parser, and native code beside
+# WebAssembly; on the types in the folders' .d.ts files. It prints tables; --write puts them into docs/SPEED.md and draws
+# docs/pictures/speed.svg. Instructions are counted where valgrind is found.
 #
-# Needed: the library (libtypekey.a and typekey.wasm in target/lib, or in the folder that TYPEKEY_LIB names), rustc,
+# Needed: the library (libtypekey.a and typekey.wasm in target/lib, or in the folder that TYPEKEY_LIB names), rt, rustc,
 # gcc, python3, node. Types and TypeScript's parser come from the Debian packages below, which are fetched once into
 # target/bench and not installed; where that fails, from those installed. With no packages at all the types are generated, and
 # the parser is left out. All files are in target/bench. ROUNDS=n sets how many rounds each measurement has.

@@ -10,14 +10,20 @@ import math
 import os
 import platform
 import re
+import shutil
 import statistics
 import subprocess
 import sys
+
+import counts
 
 ROOT = os.path.join(os.path.dirname(os.path.abspath(__file__)), "..")
 SETS = ("one", "typical", "1000")
 NAMES = {"one": "types of one token", "typical": "typical types", "1000": "lists of about 1,000 tokens"}
 UNITS = {"read": "check, read and key, ns a token", "take": "take back, ns a byte of key"}
+PARTS = {"check": "check", "tree": "check and read", "key": "key out", "take": "take back", "read": "whole read: check, read and key"}
+ASKED = {"check": 1.15, "tree": 1.3, "key": 1.5, "take": 1.25, "read": 1.4}
+ASKED_OF_ONE = 2.0
 TURNS = 5
 FEW = str(min(9, int(os.environ.get("ROUNDS", 9))))                # rounds in each turn of native code and Node
 
@@ -53,7 +59,7 @@ def two(n): return "%.2f" % n
 def machine():
     first = lambda *c: ran(*c).splitlines()[0]
     return "%s, %d cores, shared with other work; %s; Node %s" % (
-        platform.machine(), os.cpu_count(), re.sub(r" \(.*", "", first("rustc", "--version")), first("node", "--version"))
+        platform.machine().replace("_", "-"), os.cpu_count(), re.sub(r" \(.*", "", first("rustc", "--version")), first("node", "--version"))
 
 
 class Bench:
@@ -78,22 +84,48 @@ class Bench:
                 sys.exit("the baseline answers otherwise: " + line)
             said.append((w[1], int(w[2]), {w[i]: int(w[i + 1]) for i in range(3, len(w), 2)}))
         b.say("agreement", "\n".join(
-            "- Of %s stored %s the library answers %s as stored, the baseline %s: on %s the same %s, on the others the same refusal at the same place. "
-            "For %s of them the stored answer is refusal %s, which mostly tells of too little lent; there the two were compared with room enough."
-            % (whole(n), what, whole(f["ours"]), whole(f["baseline"]), whole(f["read"]), "key" if what == "texts" else "key written again", whole(f["room"]),
-               "8, 9 or 11" if what == "texts" else "8 or 11")
+            "- Of %s stored %s the library answers %s as stored. The baseline meets an object type, which it does not read, in %s; of the other %s it answers %s as stored: "
+            "on %s the same %s, on the others the same refusal at the same place. For %s of them the stored answer is refusal %s, which mostly tells of too little lent; "
+            "there the two were compared with room enough."
+            % (whole(n), what, whole(f["ours"]), whole(f["objects"]), whole(n - f["objects"]), whole(f["baseline"]), whole(f["read"]), "key" if what == "texts" else "key written again",
+               whole(f["room"]), "8, 9 or 11" if what == "texts" else "8 or 11")
             for what, n, f in said))
 
-    def main_table(b):
-        rows, b.main = [], {}
-        for job, unit in UNITS.items():
-            for line in b.measured(job, *b.lists):
-                name, f = fields(line)
-                b.main[job, name] = f
-                size = "%s tokens" % whole(f["tokens"]) if job == "read" else "%s bytes" % whole(f["bytes"])
-                what = "%s %s: %s" % (whole(f["lists"] if job == "read" else f["keys"]), NAMES[name], size)
-                rows.append([unit, what, one(f["ours"]), one(f["rust"]), two(f["ratio"]), one(f["arena"]), two(f["arena ratio"])])
-        b.say("main", table(["", "on", "library", "Rust", "library to Rust", "Rust, arena", "library to that"], rows))
+    def by_part(b):
+        rows, b.main, sizes = [], {}, {}
+        for line in b.measured("parts", *b.lists):
+            part, (name, f) = line.split()[0], fields(line)
+            b.main[part, name] = f
+            sizes[name] = "%s %s (%s tokens, %s bytes of key)" % (whole(f["lists"]), NAMES[name], whole(f["tokens"]), whole(f["bytes"]))
+            rows.append([PARTS[part], NAMES[name], one(f["ours"]), one(f["rust"]), two(f["ratio"]), two(ASKED_OF_ONE if name == "one" else ASKED[part]),
+                         one(f["arena"]), two(f["arena ratio"])])
+        b.say("parts", table(["part", "on", "library", "Rust", "library to Rust", "asked at most", "Rust, arena", "library to that"], rows))
+        b.say("sizes", "- Key out and take back are in ns a byte of key, the others in ns a token, the Eof not counted. Measured on " + "; ".join(sizes.values()) + ".")
+
+    def instructions(b):
+        """Instructions by part and by function."""
+        if not shutil.which("valgrind"):
+            return
+        c = counts.all_counts(b.out)
+        total = lambda *key: sum(c[key].values())
+        rows = [[PARTS[p], NAMES[s], one(total(p, 0, s)), one(total(p, 1, s)), two(total(p, 0, s) / total(p, 1, s))] for p in PARTS for s in SETS]
+        b.say("instructions", table(["part", "on", "library", "Rust", "library to Rust"], rows))
+        said = []
+        for s in ("typical", "one"):
+            all_of, check, tree, key = (total(p, 0, s) for p in ("read", "check", "tree", "key"))
+            key *= b.main["read", s]["bytes"] / b.main["read", s]["tokens"]
+            said.append("%s: %s instructions a token, of them the check %s, reading %s, key out %s, the rest of the call %s" % (
+                NAMES[s], whole(all_of), whole(check), whole(tree - check), whole(key), whole(all_of - tree - key)))
+        b.say("going", ". ".join(t[0].upper() + t[1:] for t in said) + ".")
+        split = {}
+        for s in ("typical", "one"):
+            by = dict(c["read", 0, s])
+            check = c["check", 0, s]["part_check"]
+            by["typekey_read: the check"], by["typekey_read: tables, clearing and the rest"] = check, by.pop("typekey_read") - check
+            split[s] = by
+        ten = sorted(split["typical"], key=lambda n: -split["typical"][n])[:10]
+        rows = [["`%s`" % n if "::" in n else n] + [x for s in ("typical", "one") for x in (one(split[s].get(n, 0)), "%.0f %%" % (100 * split[s].get(n, 0) / total("read", 0, s)))] for n in ten]
+        b.say("functions", table(["function", "typical types", "share", "types of one token", "share"], rows))
 
     def growth(b):
         sizes = sorted(int(n[5:]) for n in os.listdir(os.path.join(b.out, "lists")) if n.startswith("grow-"))
@@ -166,11 +198,12 @@ class Bench:
 
     def meaning(b):
         typical, taken = b.main["read", "typical"], b.main["take", "typical"]
+        over = ["%s on %s (%s)" % (PARTS[p], NAMES[s], two(f["ratio"])) for (p, s), f in b.main.items() if round(f["ratio"], 2) > (ASKED_OF_ONE if s == "one" else ASKED[p])]
         b.say("meaning", "A typical type takes %s ns from its tokens to its key, %s times what the same job takes in ordinary Rust, and %s times what it takes with an arena in place of the "
-              "allocator; a key comes back in %s and %s times their time. Time grows in proportion to the tokens (to the power %.2f); short types cost more a token, since every call "
+              "allocator; a key comes back in %s and %s times their time. Of the ratios asked for, %s. Time grows in proportion to the tokens (to the power %.2f); short types cost more a token, since every call "
               "has a part that does not depend on its tokens. What counts for a caller is to lend by need: with all that any call could use, a read of the same types takes %s times as long, and nearly all of it is clearing."
-              % (whole(typical["ours"] * typical["tokens"] / typical["lists"]), two(typical["ratio"]), two(typical["arena ratio"]), two(taken["ratio"]), two(taken["arena ratio"]), b.slope,
-                 whole(b.lent["read", "full"]["call"] / b.lent["read", "header"]["call"])))
+              % (whole(typical["ours"] * typical["tokens"] / typical["lists"]), two(typical["ratio"]), two(typical["arena ratio"]), two(taken["ratio"]), two(taken["arena ratio"]),
+                 "these are missed: " + ", ".join(over) if over else "each is kept", b.slope, whole(b.lent["read", "full"]["call"] / b.lent["read", "header"]["call"])))
 
 
 # ---- the picture ----
@@ -220,7 +253,7 @@ def main():
         sys.exit(__doc__)
     b = Bench(*sys.argv[1:3])
     b.say("machine", "Measured on: %s. Types: %s." % (machine(), open(os.path.join(b.out, "lists", "about")).read().strip()))
-    for part in (b.agreement, b.stack, b.main_table, b.growth, b.lending, b.in_node, b.meaning):
+    for part in (b.agreement, b.stack, b.by_part, b.instructions, b.growth, b.lending, b.in_node, b.meaning):
         part()
     with open(os.path.join(b.out, "figures.txt"), "w") as f:
         f.write("\n\n".join(b.blocks.values()) + "\n\n" + "".join(b.kept))
