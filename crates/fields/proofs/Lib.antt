@@ -1,3 +1,4 @@
 pub mod PutLaws
 pub mod Chunks
 pub mod Windows
+pub mod ReaderLaws
