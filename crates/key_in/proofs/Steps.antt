@@ -19,8 +19,10 @@ use Rattle.keys.specs.Words.{firstNodes, firstNames}
 use Rattle.keys.specs.Stored.{lettersIn, Base, Stored, Own}
 use Rattle.keys.proofs.StoredLaws.{stored-same, own-same, stored-name, own-name}
 use Rattle.fields.specs.Take.{answered}
-use Rattle.fields.specs.declared.take.TakenField.the-variants.{Number, Short}
-use Rattle.fields.proofs.Chunks.{Told, field-short, take-rest}
+use Rattle.fields.specs.Reader.{remembered}
+use Rattle.fields.specs.declared.reader.Field.the-variants.{Read, Cut}
+use Rattle.fields.proofs.Chunks.{Told, take-rest}
+use Rattle.fields.proofs.ReaderLaws.{field-cut, read-told, read-next}
 use Rattle.node_table.specs.Forms.{formOf, spellingsThen, spellingIf, tableMost}
 use Rattle.key_in.specs.Runs.{Ran, ran, halt, after, thenRun, asName, choiceRun, wholeRun, allowedRun, formRun}
 use Rattle.key_in.specs.Back.{stateAt, Inside, Named, NamesIn, SpellingIn, SpellingsIn, Picked, refusedAt, unpicked}
@@ -184,8 +186,8 @@ module _ (bs : Bits) (bit w a k m : ℕ) where
   abbrev S : State
   S = state a k m (drop bit bs)
 
-  pub word-short : Short ≡ answered (takeField w (drop bit bs)) → takeSpelling w S ≡ stop badKey (length (drop bit bs))
-  word-short e = ap (takeLength S) (field-short (takeField w (drop bit bs)) e)
+  pub word-short : Cut ≡ remembered (answered (takeField w (drop bit bs))) (bit + w) → takeSpelling w S ≡ stop badKey (length (drop bit bs))
+  word-short e = ap (takeLength S) (field-cut (takeField w (drop bit bs)) (bit + w) e)
 
   module _ (n : ℕ) (t : Told bs bit w n) where
     pub word-zero : n ≡ 0 → takeSpelling w S ≡ stop badKey (length (drop bit bs))
@@ -299,18 +301,22 @@ module _ (bs : Bits) (T : List ℕ) (steps w : ℕ) (fs : ℕ → Form) (bit : �
         few = omega arith;
       })
 
-  pub picked-short : {c : Pick} → c ≡ unpicked bit → Short ≡ answered (takeField w (drop bit bs)) → Picked bs T steps w fs bit c
-  picked-short u e = picked-bad (λ n k m K. ap (wholeRun (state n k m (drop bit bs)) fs K) (field-short (takeField w (drop bit bs)) e)) u
+  pub picked-short : {c : Pick} → c ≡ unpicked bit → Cut ≡ remembered (answered (takeField w (drop bit bs))) (bit + w) → Picked bs T steps w fs bit c
+  picked-short u e = picked-bad (λ n k m K. ap (wholeRun (state n k m (drop bit bs)) fs K) (field-cut (takeField w (drop bit bs)) (bit + w) e)) u
 
-  module _ (t : ℕ) (o : Told bs bit w t) where
+  module _ (t next : ℕ) (read : Read t next ≡ remembered (answered (takeField w (drop bit bs))) (bit + w)) where
+    o : Told bs bit w t
+    o = read-told bs bit w (bit + w) t next read
+
     pub picked-never : {c : Pick} → c ≡ unpicked bit → isNever (fs t) ≡ true → Picked bs T steps w fs bit c
     picked-never u e =
         picked-bad (λ n k m K. ap (wholeRun (state n k m (drop bit bs)) fs K) (o .is) ∙ ap (allowedRun (state n k m (drop bit bs)) K t (drop (bit + w) bs)) e) u
 
     pub picked-to : (form n : ℕ) → isNever (fs t) ≡ false → fs t ≡ formOf T steps n form → form < tableMost → n < tableMost
-        → Picked bs T steps w fs bit (record { why = 0; bit = bit + w; number = t; form = form; n = n })
+        → Picked bs T steps w fs bit (record { why = 0; bit = next; number = t; form = form; n = n })
     picked-to form n e q a b =
-        record {
+        subst (λ (x : ℕ). Picked bs T steps w fs bit (record { why = 0; bit = x; number = t; form = form; n = n })) (sym (read-next bs bit w (bit + w) t next read))
+        (record {
           stopped = λ z. absurd (z refl);
           went = λ _ i k m K. ap (wholeRun (state i k m (drop bit bs)) fs K) (o .is) ∙ ap (allowedRun (state i k m (drop bit bs)) K t (drop (bit + w) bs)) e;
           small = λ _. o .small;
@@ -319,4 +325,4 @@ module _ (bs : Bits) (T : List ℕ) (steps w : ℕ) (fs : ℕ → Form) (bit : �
           to = λ _. q;
           in-table = a;
           few = b;
-        }
+        })

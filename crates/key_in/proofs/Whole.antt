@@ -21,8 +21,10 @@ use Rattle.keys.specs.Words.{firstNodes, firstNames}
 use Rattle.keys.specs.Lines.{lined}
 use Rattle.keys.specs.Stored.{lettersIn, base, Stored}
 use Rattle.fields.specs.Take.{answered}
-use Rattle.fields.specs.declared.take.TakenField.the-variants.{Number, Short}
-use Rattle.fields.proofs.Chunks.{Told, number-told, field-short}
+use Rattle.fields.specs.Reader.{remembered}
+use Rattle.fields.specs.declared.reader.Field.the-variants.{Read, Cut}
+use Rattle.fields.proofs.Chunks.{Told}
+use Rattle.fields.proofs.ReaderLaws.{field-cut, read-told, read-next}
 use Rattle.node_table.specs.Forms.{grammarOf, tableWords}
 use Rattle.node_table.proofs.FormsLaws.{words-are}
 use Rattle.key_in.specs.Runs.{Ran, ran, halt, nodeRun}
@@ -118,15 +120,18 @@ module _ (key : List ℕ) (n k m : ℕ) where
     abbrev K : ℕ → Bits → Result
     K t r = into (choice t) (takeForm (takeNode nodeTable tallest) (typeUnder newest t) (state n k m r))
 
-    pub whole-short : Short ≡ answered (takeField 4 (drop 0 (bitsOfBytes key))) → (q : Pos) → q ≡ refusedAt 10 0 → (N M Z : List ℕ) → WholeIn key n k m q N M Z
-    whole-short e q i N M Z = bad q i (early (ap (ifWhole S (typeUnder newest) K) (field-short (takeField 4 bs) e))) N M Z
+    pub whole-short : Cut ≡ remembered (answered (takeField 4 (drop 0 (bitsOfBytes key)))) (0 + 4) → (q : Pos) → q ≡ refusedAt 10 0 → (N M Z : List ℕ) → WholeIn key n k m q N M Z
+    whole-short e q i N M Z = bad q i (early (ap (ifWhole S (typeUnder newest) K) (field-cut (takeField 4 bs) (0 + 4) e))) N M Z
 
-    module _ (e : ℕ) (i : Number e ≡ answered (takeField 4 (drop 0 (bitsOfBytes key)))) where
+    module _ (e next : ℕ) (i : Read e next ≡ remembered (answered (takeField 4 (drop 0 (bitsOfBytes key)))) (0 + 4)) where
       t : Told (bitsOfBytes key) 0 4 e
-      t = number-told (bitsOfBytes key) 0 4 e i
+      t = read-told (bitsOfBytes key) 0 4 (0 + 4) e next i
 
-      pub whole-four : 4 ≤ length key * 8
-      whole-four = omega (arith, t .within (omega arith), length-bytes key)
+      four : next ≡ 4
+      four = read-next (bitsOfBytes key) 0 4 (0 + 4) e next i
+
+      pub whole-within : next ≤ length key * 8
+      whole-within = omega (arith, four, t .within (omega arith), length-bytes key)
 
       in-edition : takeForm (takeNode nodeTable tallest) wholeKey (state n k m (bitsOfBytes key))
           ≡ allowed (state n k m (bitsOfBytes key)) K e (drop (0 + 4) (bitsOfBytes key)) (isNever (typeUnder newest e))
@@ -137,21 +142,23 @@ module _ (key : List ℕ) (n k m : ℕ) where
 
       module _ (z : e ≡ 1) (T : List ℕ) (w : T ≡ tableWords countWidth) (N M Z : List ℕ) (lm : length M ≡ k) (lz : length Z ≡ m) where
         abbrev p : Pos
-        p = record { why = 0; bit = 4; nodes = n; used = 0; names = 0; chars = 0 }
+        p = record { why = 0; bit = next; nodes = n; used = 0; names = 0; chars = 0 }
 
-        in-tree : takeForm (takeNode nodeTable tallest) wholeKey (state n k m (bitsOfBytes key)) ≡ into (choice 1) (takeNode nodeTable tallest 0 (state n k m (drop 4 (bitsOfBytes key))))
-        in-tree = in-edition ∙ ap (λ (x : ℕ). allowed S K x (drop (0 + 4) bs) (isNever (typeUnder newest x))) z
+        in-tree : takeForm (takeNode nodeTable tallest) wholeKey (state n k m (bitsOfBytes key)) ≡ into (choice 1) (takeNode nodeTable tallest 0 (state n k m (drop next (bitsOfBytes key))))
+        in-tree =
+            in-edition ∙ ap (λ (x : ℕ). allowed S K x (drop (0 + 4) bs) (isNever (typeUnder newest x))) z
+            ∙ ap (λ (x : ℕ). into (choice 1) (takeNode nodeTable tallest 0 (state n k m (drop x bs)))) (sym four)
 
         pub whole-asks : n * 4 ≤ length N → Asks (bitsOfBytes key) (length N) (length M) (length Z) T 0 p
         whole-asks l =
             record {
-              inside = record { in-key = omega (arith, whole-four, length-bytes key); in-names = omega arith; in-text = omega arith; few-names = omega arith; few-chars = omega arith };
+              inside = record { in-key = omega (arith, whole-within, length-bytes key); in-names = omega arith; in-text = omega arith; few-names = omega arith; few-chars = omega arith };
               nodes-fit = omega arith;
               in-table = omega arith;
               slim = subst Slim (sym w) words-slim;
             }
 
-        node-eq : runBy nodeTable (child 0) 0 (takeNode nodeTable tallest 0 (state n k m (drop 4 (bitsOfBytes key)))) ≡ nodeRun m (grammarOf T) tallest 0 (stateAt (bitsOfBytes key) k m p)
+        node-eq : runBy nodeTable (child 0) 0 (takeNode nodeTable tallest 0 (state n k m (drop next (bitsOfBytes key)))) ≡ nodeRun m (grammarOf T) tallest 0 (stateAt (bitsOfBytes key) k m p)
         node-eq = node-is k m T w bs p refl refl tallest 0
 
         module _ (q : Pos) (N' M' Z' : List ℕ) (d' : NodeIn (bitsOfBytes key) (length M) (length Z) (grammarOf T) tallest 0 p N M Z q N' M' Z') where
@@ -167,7 +174,7 @@ module _ (key : List ℕ) (n k m : ℕ) where
                 stopped =
                     λ _. within
                     ∙ ap (λ (y : Result). outcome (length bs) (closed y))
-                    (in-tree ∙ ap (into (choice 1)) (was-stop nodeTable (child 0) (takeNode nodeTable tallest 0 (state n k m (drop 4 bs))) (q .why) (length bs - q .bit) (node-eq ∙ d .stopped o)))
+                    (in-tree ∙ ap (into (choice 1)) (was-stop nodeTable (child 0) (takeNode nodeTable tallest 0 (state n k m (drop next bs))) (q .why) (length bs - q .bit) (node-eq ∙ d .stopped o)))
                     ∙ ap (λ (x : ℕ). refused (q .why) (refusalPlace (eqb (q .why) noSpace) x)) (back-to (q .bit) (d .in-key));
                 held = λ j. absurd (o j);
               }
@@ -176,8 +183,8 @@ module _ (key : List ℕ) (n k m : ℕ) where
             g : Grown (bitsOfBytes key) k m (grammarOf T) tallest 0 p N M Z q N' M' Z'
             g = d .grown o
 
-            v : Was nodeTable (child 0) (takeNode nodeTable tallest 0 (state n k m (drop 4 (bitsOfBytes key)))) (kid 0 0 (g .run) done) (stateAt (bitsOfBytes key) k m q)
-            v = was nodeTable (child 0) (takeNode nodeTable tallest 0 (state n k m (drop 4 bs))) (kid 0 0 (g .run) done) (stateAt bs k m q) (node-eq ∙ g .is)
+            v : Was nodeTable (child 0) (takeNode nodeTable tallest 0 (state n k m (drop next (bitsOfBytes key)))) (kid 0 0 (g .run) done) (stateAt (bitsOfBytes key) k m q)
+            v = was nodeTable (child 0) (takeNode nodeTable tallest 0 (state n k m (drop next bs))) (kid 0 0 (g .run) done) (stateAt bs k m q) (node-eq ∙ g .is)
 
             abbrev tree : Value
             tree = v .value

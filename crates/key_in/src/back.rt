@@ -11,8 +11,9 @@ ghost use Rattle.keys.specs.Key.{refusalPlace};
 ghost use Rattle.node_table.specs.Forms.{formOf, tableMost};
 ghost use Rattle.key_in.specs.Back as back;
 use crate::refusal::Refusal;
+use fields::reader;
+use fields::reader::Field;
 use fields::take;
-use fields::take::TakenField;
 use keys::store;
 use node_table::forms;
 use node_table::forms::Row;
@@ -76,15 +77,14 @@ fn take_spelling(key: &[u8], names: &mut [u64], text: &mut [u8], w: usize, p: Po
     ensures { λ r. ⌜ back.TakesSpelling key names text w p r ⌝ }
 {
     let bit = p.bit;
-    let taken = take::take_field(key, bit, w);
-    let TakenField::Number(n) = taken else {
+    let taken = reader::field_at(key, bit, w);
+    let Field::Read(n, from) = taken else {
         return refused(Refusal::BAD_KEY, bit);
     };
     let count = slim(n);
     if count == 0 {
         return refused(Refusal::BAD_KEY, bit);
     }
-    let from = bit + w;
     if (key.len() * 8 - from) / 8 < count {
         return refused(Refusal::BAD_KEY, bit);
     }
@@ -184,8 +184,8 @@ fn take_choice(forms: &[u16], key: &[u8], steps: usize, r: Row, bit: usize) -> P
     requires { ⌜ (length (now key) ≤ longestKey) × (bit ≤ length (now key) * 8) × (r .w ≤ widest) × (r .a < tableMost) × (r .b < tableMost) × (5 ≤ r .op) ⌝ }
     ensures { λ c. ⌜ back.TakesChoice forms key steps r (r .op - 5) bit c ⌝ }
 {
-    let taken = take::take_field(key, bit, r.w);
-    let TakenField::Number(n) = taken else {
+    let taken = reader::field_at(key, bit, r.w);
+    let Field::Read(n, next) = taken else {
         return no_pick(bit);
     };
     let t = slim(n);
@@ -195,7 +195,7 @@ fn take_choice(forms: &[u16], key: &[u8], steps: usize, r: Row, bit: usize) -> P
     }
     Pick {
         why: 0,
-        bit: bit + r.w,
+        bit: next,
         number: t,
         form: j.form,
         n: j.n,
@@ -207,8 +207,8 @@ fn take_tag(forms: &[u16], key: &[u8], steps: usize, tags: Row, bit: usize) -> P
     requires { ⌜ (length (now key) ≤ longestKey) × (bit ≤ length (now key) * 8) × (tags .w ≤ widest) × (tags .a < tableMost) ⌝ }
     ensures { λ c. ⌜ back.TakesChoice forms key steps tags 0 bit c ⌝ }
 {
-    let taken = take::take_field(key, bit, tags.w);
-    let TakenField::Number(n) = taken else {
+    let taken = reader::field_at(key, bit, tags.w);
+    let Field::Read(n, next) = taken else {
         return no_pick(bit);
     };
     let t = slim(n);
@@ -218,7 +218,7 @@ fn take_tag(forms: &[u16], key: &[u8], steps: usize, tags: Row, bit: usize) -> P
     }
     Pick {
         why: 0,
-        bit: bit + tags.w,
+        bit: next,
         number: t,
         form: j.form,
         n: 1,
@@ -512,8 +512,8 @@ fn take_whole(key: &[u8], nodes: &mut [u64], names: &mut [u64], text: &mut [u8])
     if Key::MOST < key.len() {
         return refused(Refusal::BAD_KEY, 0);
     }
-    let taken = take::take_field(key, 0, forms::EDITION_WIDTH);
-    let TakenField::Number(e) = taken else {
+    let taken = reader::field_at(key, 0, forms::EDITION_WIDTH);
+    let Field::Read(e, next) = taken else {
         return refused(Refusal::BAD_KEY, 0);
     };
     if e != forms::EDITION {
@@ -522,7 +522,7 @@ fn take_whole(key: &[u8], nodes: &mut [u64], names: &mut [u64], text: &mut [u8])
     let words = forms::words();
     let start = Pos {
         why: 0,
-        bit: forms::EDITION_WIDTH,
+        bit: next,
         nodes: nodes.len() / store::RECORD,
         used: 0,
         names: 0,

@@ -1,16 +1,15 @@
 -- A choice: its number, whether it leads anywhere, and where.
 use native.Mathlib.Omega.{arith}
-use mathlib.Core.Path.{sym, ap, _∙_}
+use mathlib.Core.Path.{refl, sym, ap, ap₂, _∙_}
 use Prim.Native.Nat.{_-_}
 use Rattle.keys.specs.Bits.{bitsOfBytes}
 use Rattle.keys.specs.Form.{isNever}
 use Rattle.keys.proofs.BitsLaws.{length-bytes}
-use Rattle.fields.specs.declared.take.TakenField.the-variants.{Number}
-use Rattle.fields.proofs.Chunks.{number-told}
+use Rattle.fields.specs.declared.reader.Field.the-variants.{Read}
 use Rattle.node_table.specs.Forms.{leads, formOf, entryOf}
 use Rattle.key_in.proofs.Steps.{picked-short, picked-never, picked-to}
 use borrow.Author.Needs.{needs}
-use Rattle.fields.proofs.take.take_field.Reads as take-field-reads
+use Rattle.fields.proofs.reader.field_at.Reads as field-at-reads
 use Rattle.node_table.proofs.forms.jump_at.Reads as jump-at-reads
 use Rattle.key_in.proofs.back.take_choice.Statement.{statement}
 use Rattle.key_in.proofs.back.take_choice.Tie as tie
@@ -19,8 +18,8 @@ use Rattle.key_in.proofs.back.take_choice.Lts as lts
 use Rattle.key_in.proofs.back.is_never.Reads as is-never-reads
 use Rattle.key_in.proofs.back.slim.Reads as slim-reads
 
-take-field-requires : tie.Need-take-field-requires
-take-field-requires c κs = search needs
+field-at-requires : tie.Need-field-at-requires
+field-at-requires c κs = search needs
 
 enum-known-taken : tie.Need-enum-known-taken
 enum-known-taken c = search needs
@@ -35,10 +34,10 @@ returns : tie.Need-returns
 returns c =
     let pre = c .before .before .before .before .before .before .pre in
     let args = c .before .before .before .before .before .before .args in
-    let take-field = c .before .before .before .take-field in
+    let field-at = c .before .before .before .field-at in
     let enum-told = c .before .enum-told in
     let no-pick = c .no-pick in
-    picked-short (bitsOfBytes (args .key .now)) (args .forms .now) (args .steps) (args .r .w) (leads (args .forms .now) (formOf (args .forms .now) (args .steps)) (entryOf (args .r)) (args .r .op - 5)) (args .bit) (omega (arith, length-bytes (args .key .now), pre .1)) (no-pick .ensures) (sym (enum-told .given .1) ∙ take-field .ensures)
+    picked-short (bitsOfBytes (args .key .now)) (args .forms .now) (args .steps) (args .r .w) (leads (args .forms .now) (formOf (args .forms .now) (args .steps)) (entryOf (args .r)) (args .r .op - 5)) (args .bit) (omega (arith, length-bytes (args .key .now), pre .1)) (no-pick .ensures) (sym (enum-told .given .1) ∙ field-at .ensures)
 
 slim-requires : tie.Need-slim-requires
 slim-requires c κs = search needs
@@ -56,39 +55,36 @@ returns-2 : tie.Need-returns-2
 returns-2 c =
     let pre = c .before .before .before .before .before .before .before .before .before .before .before .pre in
     let args = c .before .before .before .before .before .before .before .before .before .before .before .args in
-    let take-field = c .before .before .before .before .before .before .before .before .take-field in
+    let field-at = c .before .before .before .before .before .before .before .before .field-at in
     let taken = c .before .before .before .before .before .before .taken in
     let slim = c .before .before .before .before .slim in
     let jump-at = c .before .before .before .jump-at in
     let is-never = c .before .before .is-never in
     let if1 = c .before .if1 in
     let no-pick2 = c .no-pick2 in
-    picked-never (bitsOfBytes (args .key .now)) (args .forms .now) (args .steps) (args .r .w) (leads (args .forms .now) (formOf (args .forms .now) (args .steps)) (entryOf (args .r)) (args .r .op - 5)) (args .bit) (omega (arith, length-bytes (args .key .now), pre .1)) (slim .result)
-    (number-told (bitsOfBytes (args .key .now)) (args .bit) (args .r .w) (slim .result) (ap Number (slim .ensures .0) ∙ sym (taken .given .1) ∙ take-field .ensures))
+    picked-never (bitsOfBytes (args .key .now)) (args .forms .now) (args .steps) (args .r .w) (leads (args .forms .now) (formOf (args .forms .now) (args .steps)) (entryOf (args .r)) (args .r .op - 5)) (args .bit) (omega (arith, length-bytes (args .key .now), pre .1)) (slim .result) _
+    (ap₂ Read (slim .ensures .0) refl ∙ sym (taken .given .1) ∙ field-at .ensures)
     (no-pick2 .ensures) (ap isNever (jump-at .ensures .is (args .steps)) ∙ sym (is-never .ensures) ∙ if1 .taken)
-
-add-t11 : tie.Need-add-t11
-add-t11 c = search needs
 
 returns-3 : tie.Need-returns-3
 returns-3 c =
-    let pre = c .before .before .before .before .before .before .before .before .before .before .before .pre in
-    let args = c .before .before .before .before .before .before .before .before .before .before .before .args in
-    let take-field = c .before .before .before .before .before .before .before .before .take-field in
-    let taken = c .before .before .before .before .before .before .taken in
-    let slim = c .before .before .before .before .slim in
-    let jump-at = c .before .before .before .jump-at in
-    let is-never = c .before .before .is-never in
-    let if1 = c .before .if1 in
-    picked-to (bitsOfBytes (args .key .now)) (args .forms .now) (args .steps) (args .r .w) (leads (args .forms .now) (formOf (args .forms .now) (args .steps)) (entryOf (args .r)) (args .r .op - 5)) (args .bit) (omega (arith, length-bytes (args .key .now), pre .1)) (slim .result)
-    (number-told (bitsOfBytes (args .key .now)) (args .bit) (args .r .w) (slim .result) (ap Number (slim .ensures .0) ∙ sym (taken .given .1) ∙ take-field .ensures))
+    let pre = c .before .before .before .before .before .before .before .before .before .before .pre in
+    let args = c .before .before .before .before .before .before .before .before .before .before .args in
+    let field-at = c .before .before .before .before .before .before .before .field-at in
+    let taken = c .before .before .before .before .before .taken in
+    let slim = c .before .before .before .slim in
+    let jump-at = c .before .before .jump-at in
+    let is-never = c .before .is-never in
+    let if1 = c .if1 in
+    picked-to (bitsOfBytes (args .key .now)) (args .forms .now) (args .steps) (args .r .w) (leads (args .forms .now) (formOf (args .forms .now) (args .steps)) (entryOf (args .r)) (args .r .op - 5)) (args .bit) (omega (arith, length-bytes (args .key .now), pre .1)) (slim .result) _
+    (ap₂ Read (slim .ensures .0) refl ∙ sym (taken .given .1) ∙ field-at .ensures)
     _ _ (ap isNever (jump-at .ensures .is (args .steps)) ∙ sym (is-never .ensures) ∙ if1 .left) (jump-at .ensures .is (args .steps)) (jump-at .ensures .form) (jump-at .ensures .few)
 
 pub take-choice-spec : {M : Type 1} → statement M
 take-choice-spec =
     tie.close
     (tie.spec
-    take-field-requires
+    field-at-requires
     enum-known-taken
     enum-told
     no-pick-requires
@@ -98,5 +94,4 @@ take-choice-spec =
     is-never-requires
     no-pick-requires-2
     returns-2
-    add-t11
     returns-3)

@@ -1,15 +1,15 @@
 -- A spelling: refused, or its bytes and its name behind those before them.
 use native.Mathlib.Omega.{arith}
-use mathlib.Core.Path.{sym, ap, _∙_}
+use mathlib.Core.Path.{refl, sym, ap₂, _∙_}
 use lib.ListN.{length}
 use Rattle.keys.specs.Bits.{bitsOfBytes}
 use Rattle.keys.proofs.BitsLaws.{length-bytes}
-use Rattle.fields.specs.declared.take.TakenField.the-variants.{Number}
+use Rattle.fields.specs.declared.reader.Field.the-variants.{Read}
 use Rattle.key_in.proofs.Spelling.{spell-short, spell-within, spell-zero, spell-cut, spell-full, spell-crowded, spell-ends, spell-done}
 use borrow.Author.Needs.{needs}
 use Rattle.keys.proofs.store.append_name.Reads as append-name-reads
 use Rattle.fields.proofs.take.copy_bytes.Reads as copy-bytes-reads
-use Rattle.fields.proofs.take.take_field.Reads as take-field-reads
+use Rattle.fields.proofs.reader.field_at.Reads as field-at-reads
 use Rattle.key_in.proofs.back.take_spelling.Statement.{statement}
 use Rattle.key_in.proofs.back.take_spelling.Tie as tie
 use Rattle.key_in.proofs.back.take_spelling.Reads as reads
@@ -17,8 +17,8 @@ use Rattle.key_in.proofs.back.take_spelling.Lts as lts
 use Rattle.key_in.proofs.back.refused.Reads as refused-reads
 use Rattle.key_in.proofs.back.slim.Reads as slim-reads
 
-take-field-requires : tie.Need-take-field-requires
-take-field-requires c κs =
+field-at-requires : tie.Need-field-at-requires
+field-at-requires c κs =
     let pre = c .before .before .before .pre in
     let args = c .before .before .before .args in
     (pre .0, omega (arith, pre .2 .in-key, length-bytes (args .key .now)), pre .1)
@@ -36,10 +36,10 @@ returns : tie.Need-returns
 returns c =
     let pre = c .before .before .before .before .before .before .before .pre in
     let args = c .before .before .before .before .before .before .before .args in
-    let take-field = c .before .before .before .take-field in
+    let field-at = c .before .before .before .field-at in
     let enum-told = c .before .enum-told in
     let refused = c .refused in
-    spell-short (args .key .now) (args .w) (args .p) (args .names .now) (args .text .now) (pre .2) (sym (enum-told .given .1) ∙ take-field .ensures) _ (refused .ensures)
+    spell-short (args .key .now) (args .w) (args .p) (args .names .now) (args .text .now) (pre .2) (sym (enum-told .given .1) ∙ field-at .ensures) _ (refused .ensures)
 
 slim-requires : tie.Need-slim-requires
 slim-requires c κs = search needs
@@ -51,21 +51,12 @@ returns-2 : tie.Need-returns-2
 returns-2 c =
     let pre = c .before .before .before .before .before .before .before .before .before .before .pre in
     let args = c .before .before .before .before .before .before .before .before .before .before .args in
-    let take-field = c .before .before .before .before .before .before .take-field in
+    let field-at = c .before .before .before .before .before .before .field-at in
     let taken = c .before .before .before .before .taken in
     let slim = c .before .before .slim in
     let if1 = c .before .if1 in
     let refused2 = c .refused2 in
-    spell-zero (args .key .now) (args .w) (args .p) (args .names .now) (args .text .now) (pre .2) (slim .result) (ap Number (slim .ensures .0) ∙ sym (taken .given .1) ∙ take-field .ensures) (if1 .taken) _ (refused2 .ensures)
-
-add-from : tie.Need-add-from
-add-from c =
-    let pre = c .before .before .before .before .before .before .before .before .before .pre in
-    let args = c .before .before .before .before .before .before .before .before .before .args in
-    let take-field = c .before .before .before .before .before .take-field in
-    let taken = c .before .before .before .taken in
-    let slim = c .before .slim in
-    omega (arith, spell-within (args .key .now) (args .w) (args .p) (args .names .now) (args .text .now) (pre .2) (slim .result) (ap Number (slim .ensures .0) ∙ sym (taken .given .1) ∙ take-field .ensures))
+    spell-zero (args .key .now) (args .w) (args .p) (args .names .now) (args .text .now) (pre .2) (slim .result) _ (ap₂ Read (slim .ensures .0) refl ∙ sym (taken .given .1) ∙ field-at .ensures) (if1 .taken) _ (refused2 .ensures)
 
 mul-if2 : tie.Need-mul-if2
 mul-if2 c = search needs
@@ -74,10 +65,10 @@ sub-if2 : tie.Need-sub-if2
 sub-if2 c =
     let pre = c .before .before .before .before .before .before .before .before .before .pre in
     let args = c .before .before .before .before .before .before .before .before .before .args in
-    let take-field = c .before .before .before .before .before .take-field in
+    let field-at = c .before .before .before .before .before .field-at in
     let taken = c .before .before .before .taken in
     let slim = c .before .slim in
-    omega (arith, spell-within (args .key .now) (args .w) (args .p) (args .names .now) (args .text .now) (pre .2) (slim .result) (ap Number (slim .ensures .0) ∙ sym (taken .given .1) ∙ take-field .ensures))
+    omega (arith, spell-within (args .key .now) (args .w) (args .p) (args .names .now) (args .text .now) (pre .2) (slim .result) _ (ap₂ Read (slim .ensures .0) refl ∙ sym (taken .given .1) ∙ field-at .ensures))
 
 refused-requires-3 : tie.Need-refused-requires-3
 refused-requires-3 c κs = search needs
@@ -86,13 +77,13 @@ returns-3 : tie.Need-returns-3
 returns-3 c =
     let pre = c .before .before .before .before .before .before .before .before .before .before .before .pre in
     let args = c .before .before .before .before .before .before .before .before .before .before .before .args in
-    let take-field = c .before .before .before .before .before .before .before .take-field in
+    let field-at = c .before .before .before .before .before .before .before .field-at in
     let taken = c .before .before .before .before .before .taken in
     let slim = c .before .before .before .slim in
     let if1 = c .before .before .if1 in
     let if2 = c .before .if2 in
     let refused3 = c .refused3 in
-    spell-cut (args .key .now) (args .w) (args .p) (args .names .now) (args .text .now) (pre .2) (slim .result) (ap Number (slim .ensures .0) ∙ sym (taken .given .1) ∙ take-field .ensures) (if1 .left) (if2 .taken) _ (refused3 .ensures)
+    spell-cut (args .key .now) (args .w) (args .p) (args .names .now) (args .text .now) (pre .2) (slim .result) _ (ap₂ Read (slim .ensures .0) refl ∙ sym (taken .given .1) ∙ field-at .ensures) (if1 .left) (if2 .taken) _ (refused3 .ensures)
 
 sub-if3 : tie.Need-sub-if3
 sub-if3 c =
@@ -106,14 +97,14 @@ returns-4 : tie.Need-returns-4
 returns-4 c =
     let pre = c .before .before .before .before .before .before .before .before .before .before .before .before .pre in
     let args = c .before .before .before .before .before .before .before .before .before .before .before .before .args in
-    let take-field = c .before .before .before .before .before .before .before .before .take-field in
+    let field-at = c .before .before .before .before .before .before .before .before .field-at in
     let taken = c .before .before .before .before .before .before .taken in
     let slim = c .before .before .before .before .slim in
     let if1 = c .before .before .before .if1 in
     let if2 = c .before .before .if2 in
     let if3 = c .before .if3 in
     let refused4 = c .refused4 in
-    spell-full (args .key .now) (args .w) (args .p) (args .names .now) (args .text .now) (pre .2) (slim .result) (ap Number (slim .ensures .0) ∙ sym (taken .given .1) ∙ take-field .ensures) (if1 .left) (omega (arith, if2 .left)) (if3 .taken) _ (refused4 .ensures)
+    spell-full (args .key .now) (args .w) (args .p) (args .names .now) (args .text .now) (pre .2) (slim .result) _ (ap₂ Read (slim .ensures .0) refl ∙ sym (taken .given .1) ∙ field-at .ensures) (if1 .left) (omega (arith, if2 .left)) (if3 .taken) _ (refused4 .ensures)
 
 refused-requires-5 : tie.Need-refused-requires-5
 refused-requires-5 c κs = search needs
@@ -122,7 +113,7 @@ returns-5 : tie.Need-returns-5
 returns-5 c =
     let pre = c .before .before .before .before .before .before .before .before .before .before .before .before .before .pre in
     let args = c .before .before .before .before .before .before .before .before .before .before .before .before .before .args in
-    let take-field = c .before .before .before .before .before .before .before .before .before .take-field in
+    let field-at = c .before .before .before .before .before .before .before .before .before .field-at in
     let taken = c .before .before .before .before .before .before .before .taken in
     let slim = c .before .before .before .before .before .slim in
     let if1 = c .before .before .before .before .if1 in
@@ -130,18 +121,18 @@ returns-5 c =
     let if3 = c .before .before .if3 in
     let if4 = c .before .if4 in
     let refused5 = c .refused5 in
-    spell-crowded (args .key .now) (args .w) (args .p) (args .names .now) (args .text .now) (pre .2) (slim .result) (ap Number (slim .ensures .0) ∙ sym (taken .given .1) ∙ take-field .ensures) (if1 .left) (omega (arith, if2 .left)) (omega (arith, if3 .left)) (if4 .taken) _ (refused5 .ensures)
+    spell-crowded (args .key .now) (args .w) (args .p) (args .names .now) (args .text .now) (pre .2) (slim .result) _ (ap₂ Read (slim .ensures .0) refl ∙ sym (taken .given .1) ∙ field-at .ensures) (if1 .left) (omega (arith, if2 .left)) (omega (arith, if3 .left)) (if4 .taken) _ (refused5 .ensures)
 
 copy-bytes-requires : tie.Need-copy-bytes-requires
 copy-bytes-requires c κs =
     let pre = c .before .before .before .before .before .before .before .before .before .before .before .before .before .pre in
     let args = c .before .before .before .before .before .before .before .before .before .before .before .before .before .args in
-    let take-field = c .before .before .before .before .before .before .before .before .before .take-field in
+    let field-at = c .before .before .before .before .before .before .before .before .before .field-at in
     let taken = c .before .before .before .before .before .before .before .taken in
     let slim = c .before .before .before .before .before .slim in
     let if2 = c .before .before .before .if2 in
     let if3 = c .before .before .if3 in
-    (pre .0, omega (arith, if2 .left, spell-within (args .key .now) (args .w) (args .p) (args .names .now) (args .text .now) (pre .2) (slim .result) (ap Number (slim .ensures .0) ∙ sym (taken .given .1) ∙ take-field .ensures)), omega (arith, if3 .left, pre .2 .in-text))
+    (pre .0, omega (arith, if2 .left, spell-within (args .key .now) (args .w) (args .p) (args .names .now) (args .text .now) (pre .2) (slim .result) _ (ap₂ Read (slim .ensures .0) refl ∙ sym (taken .given .1) ∙ field-at .ensures)), omega (arith, if3 .left, pre .2 .in-text))
 
 append-name-requires : tie.Need-append-name-requires
 append-name-requires c κs =
@@ -159,11 +150,11 @@ add-t17 : tie.Need-add-t17
 add-t17 c =
     let pre = c .before .before .before .before .before .before .before .before .before .before .before .before .before .before .before .before .before .before .before .before .pre in
     let args = c .before .before .before .before .before .before .before .before .before .before .before .before .before .before .before .before .before .before .before .before .args in
-    let take-field = c .before .before .before .before .before .before .before .before .before .before .before .before .before .before .before .before .take-field in
+    let field-at = c .before .before .before .before .before .before .before .before .before .before .before .before .before .before .before .before .field-at in
     let taken = c .before .before .before .before .before .before .before .before .before .before .before .before .before .before .taken in
     let slim = c .before .before .before .before .before .before .before .before .before .before .before .before .slim in
     let if2 = c .before .before .before .before .before .before .before .before .before .before .if2 in
-    omega (arith, if2 .left, spell-within (args .key .now) (args .w) (args .p) (args .names .now) (args .text .now) (pre .2) (slim .result) (ap Number (slim .ensures .0) ∙ sym (taken .given .1) ∙ take-field .ensures))
+    omega (arith, if2 .left, spell-within (args .key .now) (args .w) (args .p) (args .names .now) (args .text .now) (pre .2) (slim .result) _ (ap₂ Read (slim .ensures .0) refl ∙ sym (taken .given .1) ∙ field-at .ensures))
 
 add-t14 : tie.Need-add-t14
 add-t14 c = search needs
@@ -181,7 +172,7 @@ returns-6 : tie.Need-returns-6
 returns-6 c =
     let pre = c .before .before .before .before .before .before .before .before .before .before .before .before .before .before .before .before .before .before .before .before .pre in
     let args = c .before .before .before .before .before .before .before .before .before .before .before .before .before .before .before .before .before .before .before .before .args in
-    let take-field = c .before .before .before .before .before .before .before .before .before .before .before .before .before .before .before .before .take-field in
+    let field-at = c .before .before .before .before .before .before .before .before .before .before .before .before .before .before .before .before .field-at in
     let taken = c .before .before .before .before .before .before .before .before .before .before .before .before .before .before .taken in
     let slim = c .before .before .before .before .before .before .before .before .before .before .before .before .slim in
     let if1 = c .before .before .before .before .before .before .before .before .before .before .before .if1 in
@@ -190,14 +181,14 @@ returns-6 c =
     let if4 = c .before .before .before .before .before .before .before .before .if4 in
     let copy-bytes = c .before .before .before .before .before .before .copy-bytes in
     let append-name = c .before .before .append-name in
-    spell-done (args .key .now) (args .w) (args .p) (args .names .now) (args .text .now) (pre .2) (slim .result) (ap Number (slim .ensures .0) ∙ sym (taken .given .1) ∙ take-field .ensures) (if1 .left) (omega (arith, if2 .left)) (omega (arith, if3 .left)) (omega (arith, if4 .left))
+    spell-done (args .key .now) (args .w) (args .p) (args .names .now) (args .text .now) (pre .2) (slim .result) _ (ap₂ Read (slim .ensures .0) refl ∙ sym (taken .given .1) ∙ field-at .ensures) (if1 .left) (omega (arith, if2 .left)) (omega (arith, if3 .left)) (omega (arith, if4 .left))
     _ _ (copy-bytes .ensures) (append-name .ensures) (append-name .kept .0) (copy-bytes .kept .1 .1 .0)
 
 pub take-spelling-spec : {M : Type 1} → statement M
 take-spelling-spec =
     tie.close
     (tie.spec
-    take-field-requires
+    field-at-requires
     enum-known-taken
     enum-told
     refused-requires
@@ -205,7 +196,6 @@ take-spelling-spec =
     slim-requires
     refused-requires-2
     returns-2
-    add-from
     mul-if2
     sub-if2
     refused-requires-3

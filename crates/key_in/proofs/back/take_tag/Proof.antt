@@ -1,16 +1,15 @@
 -- A class's tag: its number, whether it leads anywhere, and where.
 use native.Mathlib.Omega.{arith}
-use mathlib.Core.Path.{_≡_, sym, ap, _∙_}
+use mathlib.Core.Path.{_≡_, refl, sym, ap, ap₂, _∙_}
 use Prim.Native.Nat.{ℕ}
 use Rattle.keys.specs.Bits.{bitsOfBytes}
 use Rattle.keys.specs.Form.{isNever}
 use Rattle.keys.proofs.BitsLaws.{length-bytes}
-use Rattle.fields.specs.declared.take.TakenField.the-variants.{Number}
-use Rattle.fields.proofs.Chunks.{number-told}
+use Rattle.fields.specs.declared.reader.Field.the-variants.{Read}
 use Rattle.node_table.specs.Forms.{leads, formOf, entryOf}
 use Rattle.key_in.proofs.Steps.{picked-short, picked-never, picked-to}
 use borrow.Author.Needs.{needs}
-use Rattle.fields.proofs.take.take_field.Reads as take-field-reads
+use Rattle.fields.proofs.reader.field_at.Reads as field-at-reads
 use Rattle.node_table.proofs.forms.listed_at.Reads as listed-at-reads
 use Rattle.key_in.proofs.back.take_tag.Statement.{statement}
 use Rattle.key_in.proofs.back.take_tag.Tie as tie
@@ -20,8 +19,8 @@ use Rattle.key_in.proofs.back.is_none.Reads as is-none-reads
 use Rattle.key_in.proofs.back.no_pick.Reads as no-pick-reads
 use Rattle.key_in.proofs.back.slim.Reads as slim-reads
 
-take-field-requires : tie.Need-take-field-requires
-take-field-requires c κs = search needs
+field-at-requires : tie.Need-field-at-requires
+field-at-requires c κs = search needs
 
 enum-known-taken : tie.Need-enum-known-taken
 enum-known-taken c = search needs
@@ -36,10 +35,10 @@ returns : tie.Need-returns
 returns c =
     let pre = c .before .before .before .before .before .before .pre in
     let args = c .before .before .before .before .before .before .args in
-    let take-field = c .before .before .before .take-field in
+    let field-at = c .before .before .before .field-at in
     let enum-told = c .before .enum-told in
     let no-pick = c .no-pick in
-    picked-short (bitsOfBytes (args .key .now)) (args .forms .now) (args .steps) (args .tags .w) (leads (args .forms .now) (formOf (args .forms .now) (args .steps)) (entryOf (args .tags)) 0) (args .bit) (omega (arith, length-bytes (args .key .now), pre .1)) (no-pick .ensures) (sym (enum-told .given .1) ∙ take-field .ensures)
+    picked-short (bitsOfBytes (args .key .now)) (args .forms .now) (args .steps) (args .tags .w) (leads (args .forms .now) (formOf (args .forms .now) (args .steps)) (entryOf (args .tags)) 0) (args .bit) (omega (arith, length-bytes (args .key .now), pre .1)) (no-pick .ensures) (sym (enum-told .given .1) ∙ field-at .ensures)
 
 slim-requires : tie.Need-slim-requires
 slim-requires c κs = search needs
@@ -57,7 +56,7 @@ returns-2 : tie.Need-returns-2
 returns-2 c =
     let pre = c .before .before .before .before .before .before .before .before .before .before .before .pre in
     let args = c .before .before .before .before .before .before .before .before .before .before .before .args in
-    let take-field = c .before .before .before .before .before .before .before .before .take-field in
+    let field-at = c .before .before .before .before .before .before .before .before .field-at in
     let taken = c .before .before .before .before .before .before .taken in
     let slim = c .before .before .before .before .slim in
     let listed-at = c .before .before .before .listed-at in
@@ -66,34 +65,31 @@ returns-2 c =
     let no-pick2 = c .no-pick2 in
     let once : formOf (args .forms .now) (args .steps) (listed-at .result .n) (listed-at .result .form) ≡ formOf (args .forms .now) (args .steps) 1 (listed-at .result .form) = ap (λ (x : ℕ). formOf (args .forms .now) (args .steps) x (listed-at .result .form)) (listed-at .ensures .once) in
     let to = listed-at .ensures .is (args .steps) ∙ once in
-    picked-never (bitsOfBytes (args .key .now)) (args .forms .now) (args .steps) (args .tags .w) (leads (args .forms .now) (formOf (args .forms .now) (args .steps)) (entryOf (args .tags)) 0) (args .bit) (omega (arith, length-bytes (args .key .now), pre .1)) (slim .result)
-    (number-told (bitsOfBytes (args .key .now)) (args .bit) (args .tags .w) (slim .result) (ap Number (slim .ensures .0) ∙ sym (taken .given .1) ∙ take-field .ensures))
+    picked-never (bitsOfBytes (args .key .now)) (args .forms .now) (args .steps) (args .tags .w) (leads (args .forms .now) (formOf (args .forms .now) (args .steps)) (entryOf (args .tags)) 0) (args .bit) (omega (arith, length-bytes (args .key .now), pre .1)) (slim .result) _
+    (ap₂ Read (slim .ensures .0) refl ∙ sym (taken .given .1) ∙ field-at .ensures)
     (no-pick2 .ensures) (ap isNever to ∙ sym (is-none .ensures 1 (omega arith)) ∙ if1 .taken)
-
-add-t11 : tie.Need-add-t11
-add-t11 c = search needs
 
 returns-3 : tie.Need-returns-3
 returns-3 c =
-    let pre = c .before .before .before .before .before .before .before .before .before .before .before .pre in
-    let args = c .before .before .before .before .before .before .before .before .before .before .before .args in
-    let take-field = c .before .before .before .before .before .before .before .before .take-field in
-    let taken = c .before .before .before .before .before .before .taken in
-    let slim = c .before .before .before .before .slim in
-    let listed-at = c .before .before .before .listed-at in
-    let is-none = c .before .before .is-none in
-    let if1 = c .before .if1 in
+    let pre = c .before .before .before .before .before .before .before .before .before .before .pre in
+    let args = c .before .before .before .before .before .before .before .before .before .before .args in
+    let field-at = c .before .before .before .before .before .before .before .field-at in
+    let taken = c .before .before .before .before .before .taken in
+    let slim = c .before .before .before .slim in
+    let listed-at = c .before .before .listed-at in
+    let is-none = c .before .is-none in
+    let if1 = c .if1 in
     let once : formOf (args .forms .now) (args .steps) (listed-at .result .n) (listed-at .result .form) ≡ formOf (args .forms .now) (args .steps) 1 (listed-at .result .form) = ap (λ (x : ℕ). formOf (args .forms .now) (args .steps) x (listed-at .result .form)) (listed-at .ensures .once) in
     let to = listed-at .ensures .is (args .steps) ∙ once in
-    picked-to (bitsOfBytes (args .key .now)) (args .forms .now) (args .steps) (args .tags .w) (leads (args .forms .now) (formOf (args .forms .now) (args .steps)) (entryOf (args .tags)) 0) (args .bit) (omega (arith, length-bytes (args .key .now), pre .1)) (slim .result)
-    (number-told (bitsOfBytes (args .key .now)) (args .bit) (args .tags .w) (slim .result) (ap Number (slim .ensures .0) ∙ sym (taken .given .1) ∙ take-field .ensures))
+    picked-to (bitsOfBytes (args .key .now)) (args .forms .now) (args .steps) (args .tags .w) (leads (args .forms .now) (formOf (args .forms .now) (args .steps)) (entryOf (args .tags)) 0) (args .bit) (omega (arith, length-bytes (args .key .now), pre .1)) (slim .result) _
+    (ap₂ Read (slim .ensures .0) refl ∙ sym (taken .given .1) ∙ field-at .ensures)
     _ _ (ap isNever to ∙ sym (is-none .ensures 1 (omega arith)) ∙ if1 .left) to (listed-at .ensures .form) (omega arith)
 
 pub take-tag-spec : {M : Type 1} → statement M
 take-tag-spec =
     tie.close
     (tie.spec
-    take-field-requires
+    field-at-requires
     enum-known-taken
     enum-told
     no-pick-requires
@@ -103,5 +99,4 @@ take-tag-spec =
     is-none-requires
     no-pick-requires-2
     returns-2
-    add-t11
     returns-3)
