@@ -1,0 +1,3 @@
+pub mod StructLaws
+pub mod Again
+pub mod Theorems
