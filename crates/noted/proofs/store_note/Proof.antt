@@ -52,12 +52,9 @@ use Rattle.noted.proofs.store_note.Code as code
 abbrev stayed : Stays (f.ended .signature .params) (f.ended .kept)
 stayed = (stay-slice (0 ∷ []) tt (plain (λ _. T.the-row)), (stay-none (λ _. usize) yes, (stay-none (λ _. T.the-row) yes, tt)))
 
--- the element's place is at most the slice's bytes away, and a place in a slice has a next one
+-- the element's place is at most the slice's bytes away
 place-fits : {i l : ℕ} → l * 40 < 2 ^ 63 → i < l → i * 40 < 2 ^ 64
 place-fits room within = omega arith
-
-next-fits : {i l : ℕ} → l < 2 ^ 64 → i < l → i + 1 < 2 ^ 64
-next-fits room within = omega arith
 
 -- what the contract says, by how the test came out
 stored : (ys : List Note) (i : ℕ) (n : Note) → i < length ys → (i + 1 ≡ placeAfter ys i) × (set ys i n ≡ storeAt ys i n)
@@ -125,10 +122,10 @@ module _ {M : Type 1} (𝓤 : URA M) (H : Heap 𝓤) (A : Atoms 𝓤) (W : Given
         assigns ! (of-opd ! (load ! (from ! (stop !)) (look ! 17 refl))) (from ! (hop ! (look ! 9 refl) (stop !))) (store-raw ! 0 refl (LL.lawful T.the-type T′.the-laws 𝓤 H A W .typed n _ is .0)) $
         move ! (1 ∷ []) $ drop ! $ owned ! T.the-row (Is T.the-row) (LL.makes T.the-type T′.the-plain 𝓤 H A) n (mach ∷ []) is $ move ! (1 ∷ 0 ∷ []) $ elem-put ! T.the-row fullShare ys i n (mach ∷ []) b o within $
         closes-slice ! tt T.the-row ys (set ys i n) (length-set ys i n) b o $
-        assigns ! (bin ! (load ! (from ! (stop !)) (look ! 16 refl)) (lit ! tt) (record { fits = next-fits (room .0) within })) (from ! (stop !)) (init ! 20 refl (tt, record { fits = next-fits (room .0) within })) $
+        assigns ! (bin ! (load ! (from ! (stop !)) (look ! 16 refl)) (lit ! tt) (record { fits = omega (arith, room .0, within) })) (from ! (stop !)) (init ! 20 refl (tt, record { fits = omega (arith, room .0, within) })) $
         returns-within ! Post refl (look ! 20 refl) $ forget ! 6 refl $ forget ! 8 refl $ forget ! 10 refl $ forget ! 12 refl $ forget ! 14 refl $ forget ! 16 refl $ forget ! 18 refl $ forget ! 20 refl $
         move ! (20 ∷ 21 ∷ []) $ free1 ! $ move ! (18 ∷ 19 ∷ []) $ free1 ! $ move ! (16 ∷ 17 ∷ []) $ free1 ! $ move ! (14 ∷ 15 ∷ []) $ free1 ! $ move ! (12 ∷ 13 ∷ []) $ free1 ! $ move ! (10 ∷ 11 ∷ []) $ free1 ! $ move ! (8 ∷ 9 ∷ []) $ free1 ! $ move ! (6 ∷ 7 ∷ []) $ free1 ! $ free0 ! $
-        keep ! (0 ∷ 1 ∷ 2 ∷ 5 ∷ []) $ by ! (exits (i + 1) (set ys i n) (length-set ys i n) (next-fits (room .0) within) (stored ys i n within) room)))
+        keep ! (0 ∷ 1 ∷ 2 ∷ 5 ∷ []) $ by ! (exits (i + 1) (set ys i n) (length-set ys i n) (omega (arith, room .0, within)) (stored ys i n within) room)))
         (λ above.
         assigns ! (of-opd ! (load ! (from ! (stop !)) (look ! 16 refl))) (from ! (stop !)) (init ! 20 refl (tt, record { fits = i-fits })) $
         returns-within ! Post refl (look ! 20 refl) $ forget ! 10 refl $ forget ! 12 refl $ forget ! 14 refl $ forget ! 16 refl $ forget ! 18 refl $ forget ! 20 refl $
