@@ -7,21 +7,23 @@ use crate::tree::spelling;
 use crate::tree::tag_of;
 use lines::line::byte;
 use lines::line::bytes;
+use noted::Note;
+use noted::notes_of;
 use speech::place;
 use speech::place::place_of;
 use speech::put::Shape;
 use speech::put::copy;
+use speech::put::least;
 use speech::put::more;
 use speech::put::numbered;
 use speech::put::pick;
 use speech::put::times;
 use speech::say;
-use speech::say::Note;
-use speech::say::note_at;
 use visits::visits::CHOICE;
 use visits::visits::NODE;
 use visits::visits::Visit;
 use visits::visits::visit_at;
+use words::limits::Notes;
 
 // The bytes of a word's two halves.
 fn span(out: &mut [u8; 65536], at: usize, w: u64) -> usize
@@ -359,10 +361,12 @@ pub fn diagnostics(
     ensures { λ r. ⌜ r < 65536 ⌝ }
 {
     let mut p = bytes(out, at, b",\"diagnostics\":[");
+    let list = notes_of(notes, n);
+    let count = least(n, Notes::MOST);
     let mut i: usize = 0;
-    while i < n {
+    while i < count {
         let q = comma(out, p, i == 0);
-        p = note(out, q, text, note_at(notes, i), line);
+        p = note(out, q, text, list[i], line);
         i += 1;
     }
     byte(out, p, b']')

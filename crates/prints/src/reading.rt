@@ -7,6 +7,8 @@ use crate::tree;
 use lines::line::byte;
 use lines::line::bytes;
 use lines::sum::root;
+use noted::Note;
+use noted::notes_of;
 use speech::ask::Form;
 use speech::ask::Job;
 use speech::place;
@@ -16,9 +18,8 @@ use speech::put::copy;
 use speech::put::least;
 use speech::put::numbered;
 use speech::say;
-use speech::say::Note;
-use speech::say::note_at;
 use words::cursor::word_at;
+use words::limits::Notes;
 use words::limits::Tree;
 use words::token;
 
@@ -157,10 +158,12 @@ fn diagnostics(
     requires { ⌜ at < 65536 ⌝ }
     ensures { λ r. ⌜ r < 65536 ⌝ }
 {
+    let list = notes_of(notes, n);
+    let count = least(n, Notes::MOST);
     let mut p = at;
     let mut i: usize = 0;
-    while i < n {
-        p = note(out, p, text, note_at(notes, i), line);
+    while i < count {
+        p = note(out, p, text, list[i], line);
         i += 1;
     }
     p

@@ -64,11 +64,6 @@ pub fn thrice(n: usize) -> usize {
     std::num::wrapping_add_usize(n, std::num::wrapping_add_usize(n, n))
 }
 
-// Five times a number, unless that wraps.
-pub fn five_times(n: usize) -> usize {
-    std::num::wrapping_add_usize(n, std::num::wrapping_add_usize(n, thrice(n)))
-}
-
 // A hexadecimal digit.
 fn digit(n: u8) -> u8
     requires { ⌜ n < 16 ⌝ }

@@ -3,11 +3,9 @@ ghost use Prim.Native.Nat.{_<_};
 ghost use lib.ListN.{length};
 use crate::put::Shape;
 use crate::put::copy;
-use crate::put::five_times;
-use crate::put::more;
 use crate::put::pick;
 use lines::line::bytes;
-use words::cursor::word_at;
+use noted::Note;
 
 // Which of two things is spoken of, if there are two.
 pub fn side(out: &mut [u8; 65536], at: usize, number: usize) -> usize
@@ -141,27 +139,6 @@ pub fn keyword(out: &mut [u8; 65536], at: usize, number: usize) -> usize
         b"any|bigint|boolean|never|null|number|object|string|symbol|this|undefined|unknown|void|",
         number,
     )
-}
-
-// A diagnostic: its number, its first byte and its end byte, and those of a second place; an end of 0 where there is none.
-pub struct Note {
-    pub number: usize,
-    pub first: usize,
-    pub end: usize,
-    pub other_first: usize,
-    pub other_end: usize,
-}
-
-// The diagnostic of an index among the words of diagnostics.
-pub fn note_at(notes: &[u64], index: usize) -> Note {
-    let i = five_times(index);
-    Note {
-        number: word_at(notes, i) as usize,
-        first: word_at(notes, more(i)) as usize,
-        end: word_at(notes, more(more(i))) as usize,
-        other_first: word_at(notes, more(more(more(i)))) as usize,
-        other_end: word_at(notes, more(more(more(more(i))))) as usize,
-    }
 }
 
 // What to do about a diagnostic of a text, where its words leave that open.

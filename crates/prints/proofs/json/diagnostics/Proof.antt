@@ -5,10 +5,10 @@ use Rattle.prints.proofs.json.diagnostics.Statement.{statement}
 use Rattle.prints.proofs.json.diagnostics.Tie as tie
 
 abbrev Inv-loop : tie.InvT-loop
-Inv-loop out₀ at notes n text line p₀ i₀ out p i = p < 65536
+Inv-loop out₀ at notes n text line p₀ list count i₀ out p i = p < 65536
 
 abbrev μ-loop : tie.MeasureT-loop
-μ-loop out₀ at notes n text line p₀ i₀ out p i = n - i
+μ-loop out₀ at notes n text line p₀ list count i₀ out p i = count - i
 
 slice-aggregate-bytes : tie.Need-slice-aggregate-bytes Inv-loop μ-loop
 slice-aggregate-bytes c = search needs
@@ -16,14 +16,23 @@ slice-aggregate-bytes c = search needs
 bytes-requires : tie.Need-bytes-requires Inv-loop μ-loop
 bytes-requires c κs = search needs
 
+notes-of-requires : tie.Need-notes-of-requires Inv-loop μ-loop
+notes-of-requires c κs = search needs
+
+least-requires : tie.Need-least-requires Inv-loop μ-loop
+least-requires c κs = search needs
+
 loop-holds : tie.Need-loop-holds Inv-loop μ-loop
 loop-holds c = search needs
 
 comma-requires : tie.Need-comma-requires Inv-loop μ-loop
 comma-requires c κs = search needs
 
-note-at-requires : tie.Need-note-at-requires Inv-loop μ-loop
-note-at-requires c κs = search needs
+mul-note : tie.Need-mul-note Inv-loop μ-loop
+mul-note c = search needs
+
+array-copy-out-note : tie.Need-array-copy-out-note Inv-loop μ-loop
+array-copy-out-note c = search needs
 
 note-requires : tie.Need-note-requires Inv-loop μ-loop
 note-requires c κs = search needs
@@ -51,9 +60,12 @@ diagnostics-spec =
     μ-loop
     slice-aggregate-bytes
     bytes-requires
+    notes-of-requires
+    least-requires
     loop-holds
     comma-requires
-    note-at-requires
+    mul-note
+    array-copy-out-note
     note-requires
     add-i
     loop-less

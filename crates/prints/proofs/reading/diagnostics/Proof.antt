@@ -5,16 +5,25 @@ use Rattle.prints.proofs.reading.diagnostics.Statement.{statement}
 use Rattle.prints.proofs.reading.diagnostics.Tie as tie
 
 abbrev Inv-loop : tie.InvT-loop
-Inv-loop out₀ at notes n text line p₀ i₀ out p i = p < 65536
+Inv-loop out₀ at notes n text line list count p₀ i₀ out p i = p < 65536
 
 abbrev μ-loop : tie.MeasureT-loop
-μ-loop out₀ at notes n text line p₀ i₀ out p i = n - i
+μ-loop out₀ at notes n text line list count p₀ i₀ out p i = count - i
+
+notes-of-requires : tie.Need-notes-of-requires Inv-loop μ-loop
+notes-of-requires c κs = search needs
+
+least-requires : tie.Need-least-requires Inv-loop μ-loop
+least-requires c κs = search needs
 
 loop-holds : tie.Need-loop-holds Inv-loop μ-loop
 loop-holds c = search needs
 
-note-at-requires : tie.Need-note-at-requires Inv-loop μ-loop
-note-at-requires c κs = search needs
+mul-note : tie.Need-mul-note Inv-loop μ-loop
+mul-note c = search needs
+
+array-copy-out-note : tie.Need-array-copy-out-note Inv-loop μ-loop
+array-copy-out-note c = search needs
 
 note-requires : tie.Need-note-requires Inv-loop μ-loop
 note-requires c κs = search needs
@@ -37,8 +46,11 @@ diagnostics-spec =
     (tie.spec
     Inv-loop
     μ-loop
+    notes-of-requires
+    least-requires
     loop-holds
-    note-at-requires
+    mul-note
+    array-copy-out-note
     note-requires
     add-i
     loop-less
