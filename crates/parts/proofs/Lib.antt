@@ -12,6 +12,7 @@ pub mod ArgumentLaws
 pub mod TupleLaws
 pub mod ElementLaws
 pub mod LabelLaws
+pub mod LoneLaws
 pub mod MemberLaws
 pub mod RingLaws
 pub mod RingShapes

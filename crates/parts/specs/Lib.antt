@@ -6,6 +6,7 @@ pub mod Mapped
 pub mod Operator
 pub mod Postfix
 pub mod Primary
+pub mod Lone
 pub mod Arguments
 pub mod Tuple
 pub mod Onward

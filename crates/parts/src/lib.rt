@@ -2,6 +2,7 @@
 pub mod arguments;
 pub mod function;
 pub mod infer;
+pub mod lone;
 pub mod mapped;
 pub mod operator;
 pub mod postfix;

@@ -81,7 +81,7 @@ fn is_keyword(words: &[u64], m: Mark) -> bool
 }
 
 // Whether a kind is a literal's.
-fn is_literal(kind: usize) -> bool
+pub fn is_literal(kind: usize) -> bool
     ensures { λ r. ⌜ r ≡ among rule.literals kind ⌝ }
 {
     match kind {
@@ -335,7 +335,7 @@ fn literal_choices(kind: usize) -> usize
 }
 
 // A node of one name, the token at m.
-fn spelled(
+pub fn spelled(
     words: &[u64],
     nodes: &mut [u64],
     names: &mut [u64],

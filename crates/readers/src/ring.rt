@@ -43,6 +43,7 @@ use marks::state::Kids;
 use marks::state::Listed;
 use marks::state::Mark;
 use marks::state::first_byte;
+use marks::state::kind_after;
 use marks::state::kind_at;
 use marks::state::on_line;
 use marks::state::past;
@@ -84,6 +85,8 @@ use parts::infer::infer_head;
 use parts::infer::infer_node;
 use parts::infer::many_trials;
 use parts::infer::with_trial;
+use parts::lone::is_lone;
+use parts::lone::lone;
 use parts::mapped::mapped_choices;
 use parts::mapped::mapped_head;
 use parts::mapped::mapped_middle;
@@ -773,7 +776,7 @@ fn union(
     }
 }
 
-// Intersection: operators with `&` between.
+// Intersection: operators with `&` between; a token that is a whole type, at once.
 fn inter(
     text: &[u8],
     words: &[u64],
@@ -790,6 +793,9 @@ fn inter(
     ensures { λ r. ⌜ Within words given r ⌝ }
     ensures { λ r. ⌜ Onward m r ⌝ }
 {
+    if is_lone(kind_at(words, m), kind_after(words, m, 1)) {
+        return lone(words, nodes, names, given, m);
+    }
     let mut p = past(words, Kind::AMP, m);
     let mut k = Kids::none();
     loop {

@@ -104,7 +104,7 @@ pub +child+elem+extends+function+index+infer+inter+mapped+memb+named+object+oper
     (λ t. function-lts.spec (OfFunction.R t) (function-at t) function.Post (OfFunction.function-head-requires t) (OfFunction.tparams-requires t) (OfFunction.refused-requires t) (OfFunction.same-length t) (OfFunction.same-length-2 t) (OfFunction.returns t) (OfFunction.params-requires t) (OfFunction.refused-requires-2 t) (OfFunction.same-length-3 t) (OfFunction.same-length-4 t) (OfFunction.returns-2 t) (OfFunction.kind-at-requires t) (OfFunction.refused-requires-3 t) (OfFunction.same-length-5 t) (OfFunction.same-length-6 t) (OfFunction.returns-3 t) (OfFunction.add-t29 t) (OfFunction.ret-requires t) (OfFunction.same-length-7 t) (OfFunction.same-length-8 t) (OfFunction.returns-4 t) (OfFunction.with-requires t) (OfFunction.function-node-requires t) (OfFunction.same-length-9 t) (OfFunction.same-length-10 t) (OfFunction.returns-5 t))
     (λ t. index-lts.spec (OfIndex.R t) (index-at t) index.Post OfIndex.Inv-loop OfIndex.μ-loop (OfIndex.add-t21 t) (OfIndex.first-byte-requires t) (OfIndex.none-requires t) (OfIndex.loop-holds t) (OfIndex.kind-at-requires t) (OfIndex.index-head-requires t) (OfIndex.refused-requires t) (OfIndex.same-length t) (OfIndex.same-length-2 t) (OfIndex.returns t) (OfIndex.ty-requires t) (OfIndex.same-length-3 t) (OfIndex.same-length-4 t) (OfIndex.returns-2 t) (OfIndex.freed-requires t) (OfIndex.with-requires t) (OfIndex.index-next-requires t) (OfIndex.refused-requires-2 t) (OfIndex.same-length-5 t) (OfIndex.same-length-6 t) (OfIndex.returns-3 t) (OfIndex.loop-less t) (OfIndex.loop-again t) (OfIndex.index-end-requires t) (OfIndex.refused-requires-3 t) (OfIndex.same-length-7 t) (OfIndex.same-length-8 t) (OfIndex.returns-4 t) (OfIndex.child-requires t) (OfIndex.refused-requires-4 t) (OfIndex.same-length-9 t) (OfIndex.same-length-10 t) (OfIndex.returns-5 t) (OfIndex.index-choices-requires t) (OfIndex.member-node-requires t) (OfIndex.same-length-11 t) (OfIndex.same-length-12 t) (OfIndex.returns-6 t))
     (λ t. infer-lts.spec (OfInfer.R t) (infer-at t) infer.Post (OfInfer.infer-head-requires t) (OfInfer.refused-requires t) (OfInfer.same-length t) (OfInfer.returns t) (OfInfer.at-requires t) (OfInfer.kind-at-requires t) (OfInfer.none-requires t) (OfInfer.put-requires t) (OfInfer.same-length-2 t) (OfInfer.same-length-3 t) (OfInfer.returns-2 t) (OfInfer.open-trials-requires t) (OfInfer.many-trials-requires t) (OfInfer.refused-requires-2 t) (OfInfer.same-length-4 t) (OfInfer.returns-3 t) (OfInfer.with-trial-requires t) (OfInfer.set-trials-requires t) (OfInfer.add-t22 t) (OfInfer.ty-requires t) (OfInfer.same-length-5 t) (OfInfer.same-length-6 t) (OfInfer.returns-4 t) (OfInfer.set-trials-requires-2 t) (OfInfer.dropped-requires t) (OfInfer.infer-node-requires t) (OfInfer.same-length-7 t) (OfInfer.same-length-8 t) (OfInfer.returns-5 t))
-    (λ t. inter-lts.spec (OfInter.R t) (inter-at t) inter.Post OfInter.Inv-loop OfInter.μ-loop (OfInter.past-requires t) (OfInter.none-requires t) (OfInter.loop-holds t) (OfInter.operator-requires t) (OfInter.same-length t) (OfInter.same-length-2 t) (OfInter.returns t) (OfInter.kind-at-requires t) (OfInter.joined-requires t) (OfInter.same-length-3 t) (OfInter.same-length-4 t) (OfInter.returns-2 t) (OfInter.link-requires t) (OfInter.add-t20 t) (OfInter.loop-less t) (OfInter.loop-again t))
+    (λ t. inter-lts.spec (OfInter.R t) (inter-at t) inter.Post OfInter.Inv-loop OfInter.μ-loop (OfInter.kind-at-requires t) (OfInter.kind-after-requires t) (OfInter.is-lone-requires t) (OfInter.lone-requires t) (OfInter.same-length t) (OfInter.same-length-2 t) (OfInter.returns t) (OfInter.past-requires t) (OfInter.none-requires t) (OfInter.loop-holds t) (OfInter.operator-requires t) (OfInter.same-length-3 t) (OfInter.same-length-4 t) (OfInter.returns-2 t) (OfInter.kind-at-requires-2 t) (OfInter.joined-requires t) (OfInter.same-length-5 t) (OfInter.same-length-6 t) (OfInter.returns-3 t) (OfInter.link-requires t) (OfInter.add-t27 t) (OfInter.loop-less t) (OfInter.loop-again t))
     (λ t. mapped-lts.spec (OfMapped.R t) (mapped-at t) mapped.Post (OfMapped.mapped-head-requires t) (OfMapped.refused-requires t) (OfMapped.same-length t) (OfMapped.returns t) (OfMapped.none-requires t) (OfMapped.child-requires t) (OfMapped.refused-requires-2 t) (OfMapped.same-length-2 t) (OfMapped.same-length-3 t) (OfMapped.returns-2 t) (OfMapped.opt-requires t) (OfMapped.refused-requires-3 t) (OfMapped.same-length-4 t) (OfMapped.same-length-5 t) (OfMapped.returns-3 t) (OfMapped.mapped-middle-requires t) (OfMapped.refused-requires-4 t) (OfMapped.same-length-6 t) (OfMapped.same-length-7 t) (OfMapped.returns-4 t) (OfMapped.opt-requires-2 t) (OfMapped.refused-requires-5 t) (OfMapped.same-length-8 t) (OfMapped.same-length-9 t) (OfMapped.returns-5 t) (OfMapped.opt-bit-requires t) (OfMapped.opt-bit-requires-2 t) (OfMapped.mapped-choices-requires t) (OfMapped.at-requires t) (OfMapped.mapped-node-requires t) (OfMapped.same-length-10 t) (OfMapped.same-length-11 t) (OfMapped.returns-6 t))
     (λ t. memb-lts.spec (OfMemb.R t) (memb-at t) memb.Post (OfMemb.member-head-requires t) (OfMemb.refused-requires t) (OfMemb.same-length t) (OfMemb.returns t) (OfMemb.at-requires t) (OfMemb.index-requires t) (OfMemb.same-length-2 t) (OfMemb.same-length-3 t) (OfMemb.returns-2 t) (OfMemb.sign-requires t) (OfMemb.same-length-4 t) (OfMemb.same-length-5 t) (OfMemb.returns-3 t) (OfMemb.none-requires t) (OfMemb.opt-requires t) (OfMemb.refused-requires-2 t) (OfMemb.same-length-6 t) (OfMemb.same-length-7 t) (OfMemb.returns-4 t) (OfMemb.property-choices-requires t) (OfMemb.member-node-requires t) (OfMemb.same-length-8 t) (OfMemb.same-length-9 t) (OfMemb.returns-5 t))
     (λ t. named-lts.spec (OfNamed.R t) (named-at t) named.Post (OfNamed.named-head-requires t) (OfNamed.refused-requires t) (OfNamed.same-length t) (OfNamed.returns t) (OfNamed.targs-requires t) (OfNamed.refused-requires-2 t) (OfNamed.same-length-2 t) (OfNamed.same-length-3 t) (OfNamed.returns-2 t) (OfNamed.at-requires t) (OfNamed.named-node-requires t) (OfNamed.same-length-4 t) (OfNamed.same-length-5 t) (OfNamed.returns-3 t))
