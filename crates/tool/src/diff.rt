@@ -10,7 +10,6 @@ use lines::sum::root;
 use prints::differing;
 use prints::differing::HALF;
 use prints::reading;
-use prints::reading::Extent;
 use prints::tagged::walk;
 use speech::ask::Asked;
 use speech::ask::From;
@@ -27,6 +26,7 @@ use speech::room::name_room;
 use speech::room::note_room;
 use typekey::differing::Differing;
 use typekey::differing::differ;
+use typekey::reading::Counts;
 use typekey::reading::Reading;
 use typekey::reading::read;
 use typekey::taking::Taking;
@@ -43,7 +43,7 @@ struct Made {
 }
 
 // The key of a type that was read whole; else what stands behind it is said.
-fn whole(out: &mut [u8; 65536], at: usize, text: &[u8], tokens: &[u64], c: Extent, job: Job) -> Made
+fn whole(out: &mut [u8; 65536], at: usize, text: &[u8], tokens: &[u64], c: Counts, job: Job) -> Made
     requires { ⌜ at < 65536 ⌝ }
     ensures { λ r. ⌜ r .at < 65536 ⌝ }
 {
@@ -55,7 +55,7 @@ fn whole(out: &mut [u8; 65536], at: usize, text: &[u8], tokens: &[u64], c: Exten
         };
     }
     Made {
-        at: reading::unread(out, at, text, tokens, c, job),
+        at: reading::unread(out, at, text, tokens, extent(c), job),
         size: 0,
         is: false,
     }
@@ -79,7 +79,7 @@ fn reads(
     let r = read(text, tokens, 0, job.parens, nodes, names, &mut notes, key);
     match r {
         Reading::Read(c) => {
-            return whole(out, at, text, tokens, extent(c), job);
+            return whole(out, at, text, tokens, c, job);
         }
         Reading::Refused(x) => {
             return Made {
