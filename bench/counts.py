@@ -8,7 +8,7 @@ import re
 import subprocess
 import sys
 
-SETS = ("one", "typical", "1000")
+SETS = ("one", "typical", "1000", "members")
 PARTS = ("check", "tree", "key", "take", "read")
 UNITS = {"check": "tokens", "tree": "tokens", "key": "bytes", "take": "bytes", "read": "tokens"}
 

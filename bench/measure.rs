@@ -620,9 +620,8 @@ fn asks_room(number: u64) -> bool {
 fn agree(name: &str, lent: &mut Lent) {
     let data = std::fs::read(name).unwrap_or_else(|e| panic!("{name}: {e}"));
     let mut at = 0;
-    // texts and keys: all, ours as stored, of those with no object type the baseline as stored or as ours with more room, how many
-    // of those are read or taken; and how many hold an object type
-    let mut figures = [[0usize; 6]; 2];
+    // texts and keys: all, ours as stored, the baseline as stored or as ours with more room, and how many of those are read or taken
+    let mut figures = [[0usize; 5]; 2];
     while at < data.len() {
         let head: Vec<usize> = (0..20).map(|i| number(&data, at + 1 + 4 * i)).collect();
         let (op, stored) = (data[at], head[8..].iter().map(|&n| n as u64).collect::<Vec<u64>>());
@@ -642,10 +641,6 @@ fn agree(name: &str, lent: &mut Lent) {
             let f = &mut figures[1];
             f[0] += 1;
             f[1] += (ours == stored[..8]) as usize;
-            if plain.0 == baseline::OBJECT {
-                f[5] += 1;
-                continue;
-            }
             f[2] += asks_room(stored[0]) as usize;
             f[3] += good as usize;
             f[4] += (good && want[0] == 0) as usize;
@@ -672,10 +667,6 @@ fn agree(name: &str, lent: &mut Lent) {
         let f = &mut figures[0];
         f[0] += 1;
         f[1] += (ours == stored[..8]) as usize;
-        if answer[0] == baseline::OBJECT {
-            f[5] += 1;
-            continue;
-        }
         f[2] += asks_room(stored[0]) as usize;
         f[3] += good as usize;
         f[4] += (good && answer[0] == 0) as usize;
@@ -686,8 +677,8 @@ fn agree(name: &str, lent: &mut Lent) {
             );
         }
     }
-    for (what, [all, ours, room, good, read, objects]) in ["texts", "keys"].iter().zip(figures) {
-        println!("agree {what} {all} ours {ours} room {room} baseline {good} read {read} objects {objects}");
+    for (what, [all, ours, room, good, read]) in ["texts", "keys"].iter().zip(figures) {
+        println!("agree {what} {all} ours {ours} room {room} baseline {good} read {read}");
     }
 }
 

@@ -18,8 +18,8 @@ import sys
 import counts
 
 ROOT = os.path.join(os.path.dirname(os.path.abspath(__file__)), "..")
-SETS = ("one", "typical", "1000")
-NAMES = {"one": "types of one token", "typical": "typical types", "1000": "lists of about 1,000 tokens"}
+SETS = ("one", "typical", "1000", "members")
+NAMES = {"one": "types of one token", "typical": "typical types", "1000": "lists of about 1,000 tokens", "members": "types with object types"}
 UNITS = {"read": "check, read and key, ns a token", "take": "take back, ns a byte of key"}
 PARTS = {"check": "check", "tree": "check and read", "key": "key out", "take": "take back", "read": "whole read: check, read and key"}
 ASKED = {"check": 1.15, "tree": 1.3, "key": 1.5, "take": 1.25, "read": 1.4}
@@ -84,11 +84,10 @@ class Bench:
                 sys.exit("the baseline answers otherwise: " + line)
             said.append((w[1], int(w[2]), {w[i]: int(w[i + 1]) for i in range(3, len(w), 2)}))
         b.say("agreement", "\n".join(
-            "- Of %s stored %s the library answers %s as stored. The baseline meets an object type, which it does not read, in %s; of the other %s it answers %s as stored: "
-            "on %s the same %s, on the others the same refusal at the same place. For %s of them the stored answer is refusal %s, which mostly tells of too little lent; "
-            "there the two were compared with room enough."
-            % (whole(n), what, whole(f["ours"]), whole(f["objects"]), whole(n - f["objects"]), whole(f["baseline"]), whole(f["read"]), "key" if what == "texts" else "key written again",
-               whole(f["room"]), "8, 9 or 11" if what == "texts" else "8 or 11")
+            "- Of %s stored %s the library answers %s as stored, the baseline %s: on %s the same %s, on the others the same refusal at the same place. "
+            "For %s of them the stored answer is refusal %s, which mostly tells of too little lent; there the two were compared with room enough."
+            % (whole(n), what, whole(f["ours"]), whole(f["baseline"]), whole(f["read"]), "key" if what == "texts" else "key written again", whole(f["room"]),
+               "8, 9 or 11" if what == "texts" else "8 or 11")
             for what, n, f in said))
 
     def by_part(b):

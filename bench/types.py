@@ -3,13 +3,14 @@
 
     types.py OUT [FOLDER ..]    the types in the folders' .d.ts files; without a folder a generator's, the same each time
 
-Each different text counts once. A type that holds an object type, which bench/baseline does not read, or what is not read
-here at all is left out, and the types in it stand for themselves, as tools/types_of.js --base finds them. Files in OUT, each
-of token lists one after the other: the text's length and the number of words (4 bytes each, lowest first), the text, the
-words (8 bytes each).
+Each different text counts once. A type that holds an object type is left out at first, and the types in it stand for
+themselves, as tools/types_of.js --base finds them; those with object types, bodies of interfaces among them, are by themselves.
+Files in OUT, each of token lists one after the other: the text's length and the number of words (4 bytes each, lowest first),
+the text, the words (8 bytes each).
 
     about                 a line that says how many types there are
-    one, typical, 1000    types of one token; all types; tuples of types with about 1,000 tokens
+    one, typical, 1000    types of one token; all types with no object type; tuples of them with about 1,000 tokens
+    members               types with object types
     grow-N                types or tuples with just N tokens, the Eof not counted
     stack, stack.names    the texts that open the most, and what they are
     stack.keys            keys of the highest trees: the length (4 bytes), the key; their names are in stack.names too
@@ -38,10 +39,10 @@ def files(folders):
     return sorted({os.path.realpath(p) for d in folders for p in glob.glob(os.path.join(d, "**", "*.d.ts"), recursive=True)})
 
 
-def real(paths):
+def real(paths, *options):
     """The texts of the types in the files."""
     for i in range(0, len(paths), 50):
-        out = subprocess.run(["node", os.path.join(TOOLS, "types_of.js"), "--base"] + paths[i:i + 50], capture_output=True, text=True)
+        out = subprocess.run(["node", os.path.join(TOOLS, "types_of.js"), *options] + paths[i:i + 50], capture_output=True, text=True)
         if out.returncode:
             sys.exit(out.stderr)
         for line in out.stdout.splitlines():
@@ -131,9 +132,11 @@ def main():
     out, folders = sys.argv[1], sys.argv[2:]
     os.makedirs(out, exist_ok=True)
     paths = files(folders)
-    texts = list(real(paths) if folders else made(20000))
+    texts = list(real(paths, "--base") if folders else made(20000))
     some = [(t, len(w) - 1) for t in dict.fromkeys(texts) for w in [whole(t)] if w]
-    about = "{:,} types of {:,} files, {:,} of them different and read to their end".format(len(texts), len(paths), len(some))
+    known = set(texts)
+    members = [(t, w) for t in dict.fromkeys(real(paths) if folders else texts) if not folders or t not in known for w in [whole(t)] if w]
+    about = "{:,} types of {:,} files, {:,} of them different and read to their end; and {:,} with object types".format(len(texts), len(paths), len(some), len(members))
     if not folders:
         about = "{:,} generated types, {:,} of them different and with no diagnostic".format(len(texts), len(some))
     print(about)
@@ -144,6 +147,7 @@ def main():
     written(out, "one", [t for t, n in ones])
     written(out, "typical", [t for t, n in some])
     written(out, "1000", thousand(some))
+    written(out, "members", members)
     short = [(t, n) for t, n in ones if len(t) < 8]
     for size in SIZES:
         just = [t for t, n in some if n == size]

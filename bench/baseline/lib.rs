@@ -1,6 +1,6 @@
 //! The same job as the library's two calls, in ordinary Rust: a checked token list is read by recursive descent into a tree
 //! of enums, vectors and boxes, and the tree is written as a key; a key is read into a tree again. The rules are those of
-//! docs/SCOPE.md. Nothing is lent here, so there is no refusal for want of room (8 and 11). Object types are not read.
+//! docs/SCOPE.md. Nothing is lent here, so there is no refusal for want of room (8 and 11).
 pub mod read;
 pub mod take;
 pub mod token;
@@ -9,9 +9,6 @@ pub mod write;
 
 use read::{Note, Refusal};
 use tree::Node;
-
-/// The number with which an object type is refused, which is no refusal of the library's.
-pub const OBJECT: u64 = 100;
 
 /// A reading with its key. The names of the tree are places in the text that was read.
 pub struct Reading {
@@ -24,7 +21,7 @@ pub struct Reading {
 /// Checks the tokens and reads a type from the token `start` on; its tree, its diagnostics and where it ends.
 pub fn tree(text: &[u8], words: &[u64], start: usize, preserve_parens: bool) -> Result<(Node, Vec<Note>, usize), Refusal> {
     token::check(text, words, start)?;
-    read::read(words, start, preserve_parens)
+    read::read(text, words, start, preserve_parens)
 }
 
 /// The same, with its key.

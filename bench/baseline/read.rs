@@ -1,7 +1,8 @@
 //! The readers, one for each rule.
 use crate::token::*;
 use crate::tree::{
-    Constructor, Form, Function, Import, LONGEST, Mapped, Name, Node, Parameter, Predicate, Span, TALLEST, TypeParameter,
+    Constructor, Form, Function, Import, Key, LONGEST, Mapped, Member, MemberForm, Name, Node, Parameter, Predicate, Signature,
+    Span, TALLEST, TypeParameter,
 };
 
 const MOST_OPEN: u32 = 64;
@@ -28,13 +29,14 @@ type Read<T> = Result<T, Refusal>;
 /// A node and how high it is.
 type Tall = (Node, u16);
 
-pub fn read(words: &[u64], start: usize, preserve_parens: bool) -> Read<(Node, Vec<Note>, usize)> {
-    let mut r = Reader { words, at: start, half: false, preserve_parens, open: 0, trials: 0, notes: Vec::new() };
+pub fn read(text: &[u8], words: &[u64], start: usize, preserve_parens: bool) -> Read<(Node, Vec<Note>, usize)> {
+    let mut r = Reader { text, words, at: start, half: false, preserve_parens, open: 0, trials: 0, notes: Vec::new() };
     let (root, _) = r.ty(true)?;
     Ok((root, r.notes, r.at))
 }
 
 struct Reader<'a> {
+    text: &'a [u8],
     words: &'a [u64],
     at: usize,
     /// Whether the first `<` of the token at the cursor is used up.
@@ -424,7 +426,8 @@ impl Reader<'_> {
                 if self.is_at(IMPORT) { self.import(first, true) } else { self.dotted(first, Form::Typeof) }
             }
             IMPORT => self.import(first, false),
-            LEFT_BRACE => self.mapped(),
+            LEFT_BRACE if self.is_mapped_start() => self.mapped(),
+            LEFT_BRACE => self.object(),
             LEFT_BRACKET => self.tuple(),
             LEFT_PAREN => {
                 self.step();
@@ -541,9 +544,6 @@ impl Reader<'_> {
     }
 
     fn mapped(&mut self) -> Read<Tall> {
-        if !self.is_mapped_start() {
-            return self.refuse(crate::OBJECT);
-        }
         let first = self.first();
         self.step();
         let readonly = self.signed(READONLY)?;
@@ -559,6 +559,162 @@ impl Reader<'_> {
         self.expect(RIGHT_BRACE)?;
         let mapped = Mapped { readonly, key, constraint, name_type, question, ty };
         self.node(first, 0, a.max(b).max(c), Form::Mapped(Box::new(mapped)))
+    }
+
+    // ---- objects ----
+
+    fn object(&mut self) -> Read<Tall> {
+        let first = self.first();
+        self.step();
+        let (mut all, mut height) = (Vec::new(), 0);
+        while !self.is_at(RIGHT_BRACE) {
+            let (member, h) = self.member()?;
+            all.push(member);
+            height = height.max(h);
+        }
+        self.step();
+        self.node(first, all.len(), height, Form::Object(all))
+    }
+
+    /// Whether a key or a `[` follows the token here.
+    fn is_before_key(&self) -> bool {
+        let kind = self.next_kind();
+        is_name(kind) || matches!(kind, STRING | NUMBER | LEFT_BRACKET)
+    }
+
+    fn is_accessor(&self) -> bool {
+        let token = self.token();
+        token.kind() == WORD && matches!(&self.text[token.start()..token.end()], b"get" | b"set") && self.is_before_key()
+    }
+
+    fn is_index_start(&self) -> bool {
+        let (kind, after) = (self.next_kind(), self.kind_at(self.at + 2));
+        if matches!(kind, DOTS | RIGHT_BRACKET) {
+            return true;
+        }
+        if is_modifier(kind) || matches!(kind, IN | CONST) {
+            if is_binding(after) {
+                return true;
+            }
+        } else if !is_binding(kind) {
+            return false;
+        }
+        match after {
+            COLON | COMMA => true,
+            QUESTION => matches!(self.kind_at(self.at + 3), COLON | COMMA | RIGHT_BRACKET),
+            _ => false,
+        }
+    }
+
+    fn member(&mut self) -> Read<(Member, u16)> {
+        let first = self.first();
+        if matches!(self.kind(), LEFT_PAREN | LESS) {
+            return self.signature(first, false, MemberForm::Call);
+        }
+        if self.is_at(NEW) && matches!(self.next_kind(), LEFT_PAREN | LESS) {
+            self.step();
+            return self.signature(first, true, MemberForm::Construct);
+        }
+        let readonly = self.is_at(READONLY) && self.is_before_key() && self.next_is_on_line(self.at);
+        if readonly {
+            self.step();
+        }
+        let modified = is_modifier(self.kind()) && !self.is_at(READONLY) && self.is_before_key();
+        if modified || self.is_accessor() || self.is_at(LEFT_BRACKET) && !self.is_index_start() {
+            return self.refuse(31);
+        }
+        if self.is_at(LEFT_BRACKET) {
+            return self.index(first, readonly);
+        }
+        let sort = match self.kind() {
+            STRING => 1,
+            NUMBER => 2,
+            kind if is_name(kind) => 0,
+            _ => return self.refuse(3),
+        };
+        let key = Key { sort, name: self.spelling() };
+        let optional = self.eat(QUESTION);
+        if matches!(self.kind(), LEFT_PAREN | LESS) {
+            return self.signature(first, false, |s| MemberForm::Method(key, optional, s));
+        }
+        let (ty, height) = self.optional_type(COLON, true)?;
+        self.made(first, 0, height, MemberForm::Property(readonly, key, optional, ty))
+    }
+
+    /// A member behind its end.
+    fn made(&mut self, first: u32, longest: usize, below: u16, form: MemberForm) -> Read<(Member, u16)> {
+        if !(self.eat(COMMA) || self.eat(SEMICOLON) || self.is_at(RIGHT_BRACE) || !self.on_line()) {
+            return self.refuse(3);
+        }
+        let height = self.checked(longest, below)?;
+        Ok((Member { span: self.span_from(first), form }, height))
+    }
+
+    fn signature(
+        &mut self,
+        first: u32,
+        construct: bool,
+        form: impl FnOnce(Box<Signature>) -> MemberForm,
+    ) -> Read<(Member, u16)> {
+        let (type_parameters, a) = if self.is_at(LESS) { self.type_parameters(true)? } else { (None, 0) };
+        let (mut this, parameters, b) = self.parameters()?;
+        if construct && let Some(this) = this.take() {
+            self.note(3, this.span.first, this.span.end)?;
+        }
+        let (returns, c) = if self.eat(COLON) {
+            let (node, height) = self.return_type()?;
+            (Some(node), height)
+        } else {
+            (None, 0)
+        };
+        let longest = parameters.len().max(type_parameters.as_ref().map_or(0, Vec::len));
+        let below = a.max(b).max(c).max(this.as_ref().map_or(0, |this| this.height));
+        let signature = Signature { type_parameters, this: this.map(|this| this.ty), parameters, returns };
+        self.made(first, longest, below, form(Box::new(signature)))
+    }
+
+    fn index(&mut self, first: u32, readonly: bool) -> Read<(Member, u16)> {
+        self.step();
+        let (mut kept, mut count, mut comma) = (None, 0, None);
+        while !self.is_at(RIGHT_BRACKET) {
+            let begin = self.first();
+            let name = self.binding()?;
+            if self.is_at(QUESTION) {
+                self.note(8, self.first(), self.first() + 1)?;
+                self.step();
+            }
+            self.expect(COLON)?;
+            let (ty, height) = self.ty(true)?;
+            count += 1;
+            if count == 1 {
+                kept = Some((name, ty, height, (begin, self.last())));
+            }
+            if !self.is_at(RIGHT_BRACKET) {
+                let mark = self.first();
+                self.expect(COMMA)?;
+                comma = Some((mark, self.last()));
+            } else {
+                comma = None;
+            }
+        }
+        if let Some((from, to)) = comma {
+            self.note(9, from, to)?;
+        }
+        self.step();
+        match &kept {
+            Some((_, ty, _, (begin, end))) if count == 1 => match &ty.form {
+                Form::Literal(..) => self.note(10, ty.span.first, ty.span.end)?,
+                Form::Template(_, types) if types.is_empty() => self.note(10, ty.span.first, ty.span.end)?,
+                Form::Keyword(which) if !matches!(which, 0 | 5 | 7 | 8 | 9) => self.note(11, *begin, *end)?,
+                _ => {}
+            },
+            _ => self.note(12, first, self.last())?,
+        }
+        self.expect(COLON)?;
+        let (ty, height) = self.ty(true)?;
+        let below = height.max(kept.as_ref().map_or(0, |k| k.2));
+        let parameter = kept.map(|(name, ty, ..)| Box::new((name, ty)));
+        self.made(first, 0, below, MemberForm::Index(readonly, parameter, ty))
     }
 
     fn tuple(&mut self) -> Read<Tall> {

@@ -1,5 +1,8 @@
 //! A key that comes in is read into a tree again.
-use crate::tree::{Constructor, Form, Function, Import, Mapped, Name, Node, Parameter, Predicate, Span, TALLEST, TypeParameter};
+use crate::tree::{
+    Constructor, Form, Function, Import, Key, Mapped, Member, MemberForm, Name, Node, Parameter, Predicate, Signature, Span,
+    TALLEST, TypeParameter,
+};
 
 const MOST_BYTES: usize = 262_144;
 
@@ -158,6 +161,36 @@ impl Reader<'_> {
         self.many(0, |r| r.parameter(above + 1))
     }
 
+    fn key(&mut self) -> Take<Key> {
+        Ok(Key { sort: self.field(2, |n| n <= 2)? as u8, name: self.name()? })
+    }
+
+    fn signature(&mut self, above: u16, has_this: bool) -> Take<Box<Signature>> {
+        let type_parameters = self.type_parameters(above)?;
+        let this = if has_this { self.opt(|r| r.opt(|r| r.ty(above)))? } else { None };
+        let parameters = self.parameters(above)?;
+        let returns = self.opt(|r| r.ty(above))?;
+        Ok(Box::new(Signature { type_parameters, this, parameters, returns }))
+    }
+
+    fn member(&mut self, above: u16) -> Take<Member> {
+        let bit = self.bit;
+        let sort = self.field(3, |n| n <= 4)?;
+        self.deep(bit, above)?;
+        let form = match sort {
+            0 => MemberForm::Property(self.flag()?, self.key()?, self.flag()?, self.opt(|r| r.ty(above))?),
+            1 => MemberForm::Method(self.key()?, self.flag()?, self.signature(above, true)?),
+            2 => MemberForm::Call(self.signature(above, true)?),
+            3 => MemberForm::Construct(self.signature(above, false)?),
+            _ => {
+                let readonly = self.flag()?;
+                let parameter = self.opt(|r| Ok(Box::new((r.name()?, r.ty(above)?))))?;
+                MemberForm::Index(readonly, parameter, self.ty(above)?)
+            }
+        };
+        Ok(Member { span: Span::default(), form })
+    }
+
     fn node(&mut self, place: Place, above: u16) -> Take<Node> {
         let bit = self.bit;
         let tag = self.field(6, |tag| place.allows(tag))?;
@@ -230,7 +263,7 @@ impl Reader<'_> {
             22 => Form::Named(self.name()?, self.flag()?, self.boxed(Place::UnderName, above)?),
             23 => Form::NonNull(self.boxed(Place::Type, above)?),
             24 => Form::Question(self.boxed(Place::Type, above)?),
-            _ => return Err(BadKey { number: crate::OBJECT, bit }),
+            _ => Form::Object(self.many(0, |r| r.member(above + 1))?),
         };
         Ok(Node { span: Span::default(), form })
     }

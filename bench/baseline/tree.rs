@@ -45,6 +45,7 @@ pub enum Form {
     Named(Name, bool, Box<Node>),
     NonNull(Box<Node>),
     Question(Box<Node>),
+    Object(Vec<Member>),
 }
 
 #[derive(Debug)]
@@ -105,6 +106,38 @@ pub struct Import {
     pub source: Name,
     pub names: Vec<Name>,
     pub arguments: Option<Vec<Node>>,
+}
+
+#[derive(Debug)]
+pub struct Member {
+    pub span: Span,
+    pub form: MemberForm,
+}
+
+#[derive(Debug)]
+pub enum MemberForm {
+    /// Whether it is readonly, its key, whether it is optional.
+    Property(bool, Key, bool, Option<Node>),
+    Method(Key, bool, Box<Signature>),
+    Call(Box<Signature>),
+    Construct(Box<Signature>),
+    /// Whether it is readonly, its parameter, its type.
+    Index(bool, Option<Box<(Name, Node)>>, Node),
+}
+
+/// 0 for a name, 1 for a string, 2 for a number.
+#[derive(Clone, Copy, Debug)]
+pub struct Key {
+    pub sort: u8,
+    pub name: Name,
+}
+
+#[derive(Debug)]
+pub struct Signature {
+    pub type_parameters: Option<Vec<TypeParameter>>,
+    pub this: Option<Option<Node>>,
+    pub parameters: Vec<Parameter>,
+    pub returns: Option<Node>,
 }
 
 pub const TALLEST: u16 = 256;

@@ -1,5 +1,5 @@
 //! The key of a tree.
-use crate::tree::{Form, Name, Node, Parameter, TypeParameter};
+use crate::tree::{Form, Key, Member, MemberForm, Name, Node, Parameter, Signature, TypeParameter};
 
 pub fn key(root: &Node, text: &[u8]) -> Vec<u8> {
     let mut w = Writer { text, key: Vec::with_capacity(text.len()), pending: 0, count: 0 };
@@ -100,6 +100,58 @@ impl Writer<'_> {
             self.name(p.name);
             self.flag(p.optional);
             self.opt(p.ty.as_ref());
+        }
+    }
+
+    fn member_key(&mut self, key: Key, optional: bool) {
+        self.bits(key.sort as u32, 2);
+        self.name(key.name);
+        self.flag(optional);
+    }
+
+    fn signature(&mut self, s: &Signature, has_this: bool) {
+        self.type_parameters(s.type_parameters.as_ref());
+        if has_this {
+            self.flag(s.this.is_some());
+            if let Some(ty) = &s.this {
+                self.opt(ty.as_ref());
+            }
+        }
+        self.parameters(&s.parameters);
+        self.opt(s.returns.as_ref());
+    }
+
+    fn member(&mut self, member: &Member) {
+        match &member.form {
+            MemberForm::Property(readonly, key, optional, ty) => {
+                self.bits(0, 3);
+                self.flag(*readonly);
+                self.member_key(*key, *optional);
+                self.opt(ty.as_ref());
+            }
+            MemberForm::Method(key, optional, s) => {
+                self.bits(1, 3);
+                self.member_key(*key, *optional);
+                self.signature(s, true);
+            }
+            MemberForm::Call(s) => {
+                self.bits(2, 3);
+                self.signature(s, true);
+            }
+            MemberForm::Construct(s) => {
+                self.bits(3, 3);
+                self.signature(s, false);
+            }
+            MemberForm::Index(readonly, parameter, ty) => {
+                self.bits(4, 3);
+                self.flag(*readonly);
+                self.flag(parameter.is_some());
+                if let Some(p) = parameter {
+                    self.name(p.0);
+                    self.node(&p.1);
+                }
+                self.node(ty);
+            }
         }
     }
 
@@ -210,6 +262,11 @@ impl Writer<'_> {
             }
             Form::NonNull(of) => self.over(23, of),
             Form::Question(of) => self.over(24, of),
+            Form::Object(members) => {
+                self.bits(25, 6);
+                self.count(members.len());
+                members.iter().for_each(|m| self.member(m));
+            }
         }
     }
 
