@@ -4,27 +4,25 @@ use mathlib.Core.Bool.{Bool, true, false, not}
 use mathlib.Core.List.{List, [], _∷_}
 use Prim.Native.Nat.{ℕ, _+_, _≤_}
 use native.Mathlib.Omega.{arith}
-use borrow.Author.Tests.{eqb-true, leb-true, not-true}
+use borrow.Author.Tests.{leb-true, not-true}
 use lib.Dec.{eqb, leb, ltb}
-use lib.ListN.{length}
 use Rattle.words.specs.Limits.{tallest}
 use Rattle.words.specs.Test.{_and_, _or_, between, among, test}
 use Rattle.words.specs.Kind.{Word, NumberLiteral, BigIntLiteral, Str, LBrack, LAngle, ShiftLeft, LtEq, ShiftLeftEq, Amp, Question, Dot, Bang, Any, Unknown, Infer, Minus, NoSubstitutionTemplate, False, Null, This, True, Void}
-use Rattle.words.specs.Ahead.{starter}
 use Rattle.words.proofs.Tests.{both-true, among-next}
 use Rattle.keys.specs.Form.{height}
 use Rattle.keys.specs.Placed as node
-use Rattle.keys.specs.Placed.{Placed, Spelling, Opt, absent, present, bare, join, listedNames, maybeList}
+use Rattle.keys.specs.Placed.{Placed, Spelling, absent, bare, join, listedNames, maybeList}
 use Rattle.keys.proofs.BitsLaws.{clash}
 use Rattle.keys.proofs.Fitting.{Each}
-use Rattle.rules.specs.State.{Given, State, Result, Reader, read, refuse, then, next, kind, kindAfter, stands, onLine, first, end, spelling, overlong, make}
+use Rattle.rules.specs.State.{Given, State, Result, Reader, read, refuse, next, kind, kindAfter, stands, onLine, first, end, spelling, overlong, make}
 use Rattle.rules.specs.Union.{joined, intersection}
 use Rattle.rules.specs.Operator.{operators, operator, operatorFrom, operand}
 use Rattle.rules.specs.Postfix.{suffixed, postfixFrom, postfix}
 use Rattle.rules.specs.Names.{name, dotsFrom, dotted}
 use Rattle.rules.specs.Arguments.{opens, arguments, named}
 use Rattle.rules.specs.Primary.{literals, isKeyword, keyword, literal, primary, worded, enclosed, reference}
-use Rattle.rules.proofs.KeysOnly.{every, every-among}
+use Rattle.rules.proofs.KeysOnly.{not-kind, every, every-among}
 use Rattle.marks.specs.Laid.{nameRun, Shape}
 use Rattle.parts.specs.Lone.{wordTypes, wholeTypes, onwardKinds, isLone}
 use Rattle.parts.specs.Onward.{literalAt}
@@ -36,14 +34,6 @@ use Rattle.parts.specs.Primary.{isLiteral}
 and-not : (a : Bool) {b : Bool} → b ≡ false → a and b ≡ false
 and-not true e = e
 and-not false e = refl
-
--- What is not in a list is none of its kinds.
-pub not-in : (l : List ℕ) (n k : ℕ) → among l k ≡ true → among l n ≡ false → eqb n k ≡ false
-not-in l n k e h = by (eqb n k) refl
-  where
-    by : (b : Bool) → eqb n k ≡ b → b ≡ false
-    by true i = let z : true ≡ false = sym e ∙ ap (among l) (sym (eqb-true n k i)) ∙ h in clash (cc)
-    by false i = refl
 
 -- What is none of a list's kinds is not in it.
 pub none-of : (l : List ℕ) (k : ℕ) → Each (λ (x : ℕ). k ≡ x → ⊥) l → among l k ≡ false
@@ -86,7 +76,7 @@ module _ (g : Given) (T : Reader) (s : State) (lone : isLone (kind g s) (kindAft
     next-kind = rw (e, w)
 
     next-not : (k : ℕ) → among onwardKinds k ≡ true → stands g k q ≡ false
-    next-not k i = ap (λ n. eqb n k) next-kind ∙ not-in onwardKinds (kindAfter g 1 s) k i behind
+    next-not k i = ap (λ n. eqb n k) next-kind ∙ not-kind (among onwardKinds) k (kindAfter g 1 s) i behind
 
     not-suffixed : suffixed g q ≡ false
     not-suffixed = and-not (onLine g q) (rw (next-not Bang refl, next-not Question refl, next-not LBrack refl))
@@ -113,7 +103,7 @@ module _ (g : Given) (T : Reader) (s : State) (lone : isLone (kind g s) (kindAft
   lone-keyword on k = lone-is on (keyword g s) (rw is) (make-ends g [] _ (next s) refl)
     where
       no-dot : eqb (kindAfter g 1 s) Dot ≡ false
-      no-dot = not-in onwardKinds (kindAfter g 1 s) Dot refl behind
+      no-dot = not-kind (among onwardKinds) Dot (kindAfter g 1 s) refl behind
 
       by : (a b : Bool) → a or b ≡ true → (a and true) or b ≡ true
       by true b e = refl
@@ -152,7 +142,7 @@ module _ (g : Given) (T : Reader) (s : State) (lone : isLone (kind g s) (kindAft
       one = node.reference (first g s) (end g (next s)) (spelling g s ∷ []) absent
 
       no-dot : eqb (kindAfter g 1 s) Dot ≡ false
-      no-dot = not-in onwardKinds (kindAfter g 1 s) Dot refl behind
+      no-dot = not-kind (among onwardKinds) Dot (kindAfter g 1 s) refl behind
 
 -- Its node.
 pub shape-name : (x : Spelling) → Shape 0 1 (join (listedNames (x ∷ [])) (maybeList absent)) (nameRun x) 65
@@ -171,7 +161,7 @@ pub lone-word : (k n : ℕ) → isLone k n ≡ true → (k ≡ Word → ⊥) →
 lone-word k n l w h =
     let rest : among wholeTypes k ≡ among wordTypes k
     = among-next Word (NumberLiteral ∷ BigIntLiteral ∷ Str ∷ True ∷ False ∷ wordTypes) k w
-    ∙ rw (not-in literals k NumberLiteral refl h, not-in literals k BigIntLiteral refl h, not-in literals k Str refl h, not-in literals k True refl h, not-in literals k False refl h) in
+    ∙ rw (not-kind (among literals) NumberLiteral k refl h, not-kind (among literals) BigIntLiteral k refl h, not-kind (among literals) Str k refl h, not-kind (among literals) True k refl h, not-kind (among literals) False k refl h) in
     sym rest ∙ both-true (among wholeTypes k) _ l .0
 
 -- It stands in the list.
