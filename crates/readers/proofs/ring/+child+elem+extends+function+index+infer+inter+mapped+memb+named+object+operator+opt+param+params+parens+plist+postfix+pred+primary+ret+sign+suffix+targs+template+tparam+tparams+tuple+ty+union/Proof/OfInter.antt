@@ -192,7 +192,7 @@ module _ (t : ℕ) where
 
   pub add-t27 : lts.Need-add-t27 (R t) (inter-at t) inter.Post Inv-loop μ-loop
   add-t27 c =
-      let pre = c .before .before .before .before .before .before .before .before .before .before .before .before .before .before .before .before .before .before .before .before .before .before .before .before .before .pre in
+      let pre = c .before .before .before .before .before .before .before .before .before .before .before .before .before .before .before .before .before .before .before .before .before .before .before .before .before .before .before .before .before .pre in
       let past = c .before .before .before .before .before .before .before .before .before .before .before .before .before .before .before .before .before .before .before .before .past in
       let none = c .before .before .before .before .before .before .before .before .before .before .before .before .before .before .before .before .before .before .before .none in
       let loop = c .before .before .before .before .before .before .before .before .before .before .before .before .before .before .before .before .before .before .loop in
