@@ -3,12 +3,13 @@ ghost use mathlib.Core.Path.{_≡_};
 ghost use mathlib.Core.List.{List};
 ghost use Prim.Native.Nat.{ℕ, _*_, _≤_, _<_, _^_};
 ghost use lib.ListN.{length};
-ghost use Rattle.keys.specs.Limits.{widest, halfWord};
+ghost use Rattle.keys.specs.Limits.{widest, halfWord, countWidth};
+ghost use mathlib.Core.Bool.{true};
 ghost use Rattle.keys.specs.Holds.{Spells};
 ghost use Rattle.fields.specs.Put.{far};
-ghost use Rattle.node_table.specs.Forms.{entryAt, IsRow, Narrow, tableMost};
+ghost use Rattle.node_table.specs.Forms.{entryAt, IsRow, Narrow, tableMost, tableWords};
 ghost use Rattle.node_table.specs.Moves.{Spelled, Ready, OwnStep, After, Begun};
-ghost use Rattle.key_out.specs.Out.{keyBits, Keyed, MayGoOn, PutsNode};
+ghost use Rattle.key_out.specs.Out.{keyBits, Keyed, MayGoOn, PutsNode, isOnce, PutsOnce};
 use fields::put;
 use keys::store;
 use node_table::forms;
@@ -136,7 +137,61 @@ fn put_tag(forms: &[u16], nodes: &[u64], key: &mut [u8], class: usize, at: usize
     }
 }
 
-// The node `at`, of a class; `left` is how many levels there may be.
+// ---- Nodes that are put at once
+
+// The words of a reference of one name and no arguments, and of a string.
+const NAME: u64 = 65;
+
+const STRING: u64 = 3;
+
+// The tag of keywords, how many tags there may be, and how many keywords.
+const KEYWORD: u64 = 2;
+
+const TAGS: u64 = 64;
+
+const KEYWORDS: u64 = 16;
+
+// Whether a node of a class is one of them, by its word.
+fn is_once(class: usize, word: u64) -> bool
+    ensures { λ r. ⌜ r ≡ isOnce class word ⌝ }
+{
+    if class != forms::TYPE {
+        return false;
+    }
+    if word == NAME {
+        return true;
+    }
+    if word == STRING {
+        return true;
+    }
+    word % TAGS == KEYWORD
+}
+
+// Such a node: tag and choices in one field, its spelling and no arguments; or a keyword's tag and number.
+fn put_once(names: &[u64], text: &[u8], key: &mut [u8], word: u64, o: Mark) -> Mark
+    requires { ⌜ (length (now key) * 8 ≤ far) × (o .to ≤ far) × (o .name ≤ length (now names)) × (isOnce 0 word ≡ true) ⌝ }
+    ensures { λ r. ⌜ PutsOnce names text key word o r ⌝ }
+{
+    if word == NAME {
+        let to = put::put_number(key, o.to, 18, 4097);
+        let p = put_spelling(names, text, key, 16, Mark { to, name: o.name });
+        return Mark {
+            to: put::put_number(key, p.to, 1, 0),
+            name: p.name,
+        };
+    }
+    if word == STRING {
+        let to = put::put_number(key, o.to, 9, 24);
+        return put_spelling(names, text, key, 16, Mark { to, name: o.name });
+    }
+    let to = put::put_number(key, o.to, 6, 2);
+    Mark {
+        to: put::put_number(key, to, 4, (word / TAGS % KEYWORDS) as u32),
+        name: o.name,
+    }
+}
+
+// The node `at`, of a class, at once if it can be; `left` is how many levels there may be.
 fn put_node(
     forms: &[u16],
     nodes: &[u64],
@@ -148,11 +203,15 @@ fn put_node(
     at: usize,
     o: Mark,
 ) -> Mark
-    requires { ⌜ (length (now key) * 8 ≤ far) × (o .to ≤ far) × (o .name ≤ length (now names)) × (class < tableMost) × (at < halfWord) × Narrow (now forms) ⌝ }
+    requires { ⌜ (length (now key) * 8 ≤ far) × (o .to ≤ far) × (o .name ≤ length (now names)) × (class < tableMost) × (at < halfWord) × Narrow (now forms) × (now forms ≡ tableWords countWidth) ⌝ }
     ensures { λ r. ⌜ PutsNode forms nodes names text key left class at o r ⌝ }
 {
     if left == 0 {
         return o;
+    }
+    let own = store::node_at(nodes, at);
+    if is_once(class, own.word) {
+        return put_once(names, text, key, own.word, o);
     }
     let mut s = put_tag(forms, nodes, key, class, at, o);
     while 0 < s.steps {

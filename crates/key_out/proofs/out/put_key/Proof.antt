@@ -29,7 +29,7 @@ slice-aggregate-put-node c = search needs
 put-node-requires : tie.Need-put-node-requires
 put-node-requires c κs =
     let words = c .before .before .before .before .before .before .before .before .before .before .words in
-    (search needs, search needs, search needs, search needs, search needs, subst Narrow (sym (words .ensures)) words-narrow)
+    (search needs, search needs, search needs, search needs, search needs, subst Narrow (sym (words .ensures)) words-narrow, words .ensures)
 
 add-result : tie.Need-add-result
 add-result c = search needs
