@@ -12,3 +12,4 @@ pub mod NameLaws
 pub mod BoundLaws
 pub mod LeafLaws
 pub mod StepLaws
+pub mod ShapeLaws

@@ -75,7 +75,16 @@ Links k before used high N r N' =
 
 -- ---- Choices
 
+-- How many counts a list can have.
+abbrev pub counts : ℕ
+counts = 4096
+
 -- An optional list as choices: its bit, and its count.
 abbrev pub optList : Bool → ℕ → ℕ
 optList true count = 1 + 2 * count
 optList false count = 0
+
+-- How many numbers such choices can be.
+abbrev pub listScale : Bool → ℕ
+listScale true = 2 * counts
+listScale false = 2

@@ -30,8 +30,8 @@ use Rattle.marks.specs.List.{here}
 use Rattle.marks.proofs.Answers.{then-read, then-refused}
 use Rattle.marks.proofs.StepLaws.{view-past, laid-at}
 use Rattle.marks.proofs.ReportLaws.{reports-as, reports-done, reports-refused, laid-reported}
-use Rattle.parts.proofs.PrimaryLaws.{ne-at}
-use Rattle.parts.proofs.ElementLaws.{both-hold, is-true, tag-below, last-word, last-place}
+use Rattle.primaries.proofs.PrimaryLaws.{ne-at}
+use Rattle.tuples.proofs.ElementLaws.{both-hold, is-true, tag-below, last-word, last-place}
 use Rattle.members.specs.Object.{SaysStep, indexStart, indexNext, IndexIs, none, one as oneIs, several, keptRun, NotesIndex, indexEnd, EndsIndex, literalWord, noIndexWord}
 use Rattle.members.proofs.StepLaws.{step-reports, step-stop, step-refused, step-taken}
 use Rattle.marks.specs.declared.state.Given.{Given}

@@ -27,11 +27,11 @@ use Rattle.marks.specs.State.{view, givenOf}
 use Rattle.marks.specs.Laid.{skeleton, runOpt, optBit, runs, runsOpt, namesRun, IsOpt, AllNodes, AllOpt, Shape}
 use Rattle.marks.specs.Says.{isThere}
 use Rattle.marks.specs.Notes.{takenAt, refusedAt, Reports, Noted}
-use Rattle.marks.specs.Node.{Makes, optList}
+use Rattle.marks.specs.Node.{Makes, optList, listScale}
 use Rattle.marks.proofs.Answers.{says-same, says-stop, says-refused}
-use Rattle.parts.specs.Function.{IsThis, thisBits, thisRun, listScale, thisScale, newChoices, callChoices}
-use Rattle.parts.proofs.ShapeLaws.{skeleton-maybe, packed-maybe, skeleton-list, packed-list, skeleton-maybeList, packed-maybeList}
-use Rattle.parts.proofs.FunctionLaws.{this-skeleton, this-packed, skeleton-on, joined, some-long, none-long, report-this}
+use Rattle.functions.specs.Function.{IsThis, thisBits, thisRun, thisScale, newChoices, callChoices}
+use Rattle.marks.proofs.ShapeLaws.{skeleton-maybe, packed-maybe, skeleton-list, packed-list, skeleton-maybeList, packed-maybeList}
+use Rattle.functions.proofs.FunctionLaws.{this-skeleton, this-packed, skeleton-on, joined, some-long, none-long, report-this}
 use Rattle.members.specs.Object.{signatureNames, signatureHead, keyChoices, aSignature, startSort, SaysStep, endsMember, NotesThis, afterThis, signatureChoices, MakesSignature}
 use Rattle.marks.proofs.ReportLaws.{reports-as}
 use Rattle.members.proofs.StepLaws.{step-reports}
@@ -39,8 +39,8 @@ use Rattle.marks.specs.declared.state.Given.{Given}
 use Rattle.marks.specs.declared.state.Mark.{Mark}
 use Rattle.marks.specs.declared.state.Begin.{Begin}
 use Rattle.marks.specs.declared.state.Answer.{Answer}
-use Rattle.parts.specs.declared.function.This.{This as ThisCode}
-use Rattle.parts.specs.declared.function.Params.{Params}
+use Rattle.functions.specs.declared.function.This.{This as ThisCode}
+use Rattle.functions.specs.declared.function.Params.{Params}
 
 -- ---- Diagnostic 3
 

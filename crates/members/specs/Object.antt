@@ -24,14 +24,14 @@ use Rattle.marks.specs.State.{view, givenOf, Sound, Spelt, Fine}
 use Rattle.marks.specs.Laid.{runIn, runOpt, optBit, runs, runsOpt, nameRun, namesRun, IsNode, IsOpt, AllNodes, AllOpt, Was, Laid, BuiltAt, Spoken, Shape}
 use Rattle.marks.specs.Says.{Says, isThere}
 use Rattle.marks.specs.Names.{oneName, MayName}
-use Rattle.parts.specs.Function.{ThisIs, IsThis, thisRun, newChoices, callChoices}
+use Rattle.functions.specs.Function.{ThisIs, IsThis, thisRun, newChoices, callChoices}
 use Rattle.marks.specs.declared.state.Given.{Given}
 use Rattle.marks.specs.declared.state.Mark.{Mark}
 use Rattle.marks.specs.declared.state.Begin.{Begin}
 use Rattle.marks.specs.declared.state.Kids.{Kids}
 use Rattle.marks.specs.declared.state.Answer.{Answer}
-use Rattle.parts.specs.declared.function.This.{This as ThisCode}
-use Rattle.parts.specs.declared.function.Params.{Params}
+use Rattle.functions.specs.declared.function.This.{This as ThisCode}
+use Rattle.functions.specs.declared.function.Params.{Params}
 use Rattle.members.specs.declared.object.MemberHead.{MemberHead}
 use Rattle.members.specs.declared.object.IndexParams.{IndexParams}
 

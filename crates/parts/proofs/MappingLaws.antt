@@ -20,7 +20,7 @@ use Rattle.marks.proofs.StepLaws.{view-past}
 use Rattle.marks.specs.Laid.{runIn, runOpt, nameRun, IsNode, node as isNode, IsOpt, Shape, optBit}
 use Rattle.marks.specs.Names.{oneName}
 use Rattle.parts.specs.Mapped.{mappedHead, mappedMiddle, mappedChoices, closeCurly}
-use Rattle.parts.specs.Onward.{behindConstraint}
+use Rattle.primaries.specs.Onward.{behindConstraint}
 use Rattle.parts.proofs.RingLaws.{expect-yes, expect-no}
 use Rattle.marks.specs.declared.state.Given.{Given as Code}
 use Rattle.marks.specs.declared.state.Mark.{Mark}

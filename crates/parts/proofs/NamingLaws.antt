@@ -23,13 +23,12 @@ use Rattle.rules.specs.Names.{dotsFrom, dotted}
 use Rattle.rules.specs.Arguments.{arguments, named, importFrom, importType}
 use Rattle.rules.specs.Primary.{query}
 use Rattle.parts.specs.Arguments.{Naming, reference, typeof, import, namesOf, nameCount, nameChoices, nameScale, namedNode, importHead, dottedHead, namingHead}
-use Rattle.parts.specs.Onward.{nameAt}
-use Rattle.marks.specs.Node.{optList}
+use Rattle.primaries.specs.Onward.{nameAt}
+use Rattle.marks.specs.Node.{optList, listScale}
 use Rattle.marks.specs.Says.{isThere}
 use Rattle.marks.specs.Laid.{skeleton, runsOpt, namesRun, AllOpt, Spoken, Shape}
 use Rattle.marks.proofs.RunLaws.{skeleton-join, called-names}
-use Rattle.parts.proofs.ShapeLaws.{skeleton-maybeList, packed-maybeList}
-use Rattle.parts.specs.Function.{listScale}
+use Rattle.marks.proofs.ShapeLaws.{skeleton-maybeList, packed-maybeList}
 use Rattle.marks.proofs.BuiltLaws.{laid-spoken}
 use Rattle.marks.specs.declared.state.Mark.{Mark}
 

@@ -27,8 +27,8 @@ use Rattle.rules.specs.Template as template
 use Rattle.rules.specs.TypeRule as type
 use Rattle.rules.specs.Reading.{readType}
 use Rattle.marks.specs.Names.{oneName}
-use Rattle.parts.specs.Function.{typeParameterHead, parameterHead}
-use Rattle.parts.specs.Onward.{behindColon, behindQuestion, signature, subjectAt, predicate}
+use Rattle.functions.specs.Function.{typeParameterHead, parameterHead}
+use Rattle.primaries.specs.Onward.{behindColon, behindQuestion, signature, subjectAt, predicate}
 use Rattle.marks.proofs.Answers.{then-then}
 
 -- ---- A mark that is due, an optional part

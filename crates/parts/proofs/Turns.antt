@@ -14,9 +14,9 @@ use Rattle.marks.specs.State.{view}
 use Rattle.marks.specs.Laid.{runIn, runs, nameRun, IsNode, AllNodes, Was, BuiltAt, Stands}
 use Rattle.marks.specs.List.{Follows, closes, goes, stops}
 use Rattle.marks.proofs.RunLaws.{runs-more}
-use Rattle.parts.proofs.ShapeLaws.{all-more}
+use Rattle.marks.proofs.ShapeLaws.{all-more}
 use Rattle.marks.proofs.ListLaws.{list-goes, list-closed}
-use Rattle.parts.proofs.RingShapes.{pieceRuns, AllPieces}
+use Rattle.primaries.proofs.RingShapes.{pieceRuns, AllPieces}
 use Rattle.marks.specs.declared.state.Mark.{Mark}
 use Rattle.marks.specs.declared.state.Kids.{Kids}
 use Rattle.marks.specs.declared.state.Answer.{Answer}

@@ -4,7 +4,7 @@ use Rattle.marks.specs.declared.state.Mark.{Mark}
 use Rattle.marks.specs.declared.state.Kids.{Kids}
 use Rattle.marks.specs.declared.state.Answer.{Answer}
 use Rattle.marks.specs.declared.state.Listed.{Listed}
-use Rattle.parts.specs.declared.function.Params.{Params}
+use Rattle.functions.specs.declared.function.Params.{Params}
 
 -- Marks.
 pub record SameMark (m q : Mark) : Type 0 where

@@ -26,7 +26,7 @@ use Rattle.marks.specs.State.{view, givenOf, Under}
 use Rattle.marks.specs.Laid.{runIn, nameRun, namesRun, IsNode, node as isNode, Was, was, Laid, Built, BuiltAt, Shape}
 use Rattle.marks.specs.Says.{Got, GotBound}
 use Rattle.marks.specs.Names.{oneName}
-use Rattle.parts.specs.Function.{freedMark, freedUsed}
+use Rattle.functions.specs.Function.{freedMark, freedUsed}
 use Rattle.members.specs.Object.{indexStart, indexNext, SaysStep, withType, IndexIs, none, one, several, keptRun, indexEnd, indexHead, indexChoices}
 use Rattle.marks.proofs.Answers.{then-read, then-refused}
 use Rattle.marks.proofs.LaidLaws.{laid-on, laid-back}

@@ -22,13 +22,13 @@ use Rattle.rules.specs.Tuple as tuple
 use Rattle.rules.specs.Template as template
 use Rattle.marks.specs.State.{view}
 use Rattle.marks.specs.Laid.{Was, BuiltAt}
-use Rattle.parts.specs.Tuple.{LatestIs}
+use Rattle.tuples.specs.Tuple.{LatestIs}
 use Rattle.parts.proofs.RingLaws.{endTypes, endArguments, endTemplate}
 use Rattle.parts.proofs.Turns.{ListTurn, TreeTurn, PieceTurn, looped}
 use Rattle.members.specs.Object.{IndexIs, keptRun}
 use Rattle.marks.specs.declared.state.Mark.{Mark}
 use Rattle.marks.specs.declared.state.Kids.{Kids}
-use Rattle.parts.specs.declared.tuple.Latest.{Latest}
+use Rattle.tuples.specs.declared.tuple.Latest.{Latest}
 use Rattle.members.specs.declared.object.IndexParams.{IndexParams}
 
 module _ (g : Given) (T : Reader) where

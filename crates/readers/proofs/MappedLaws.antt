@@ -11,7 +11,7 @@ use Rattle.rules.specs.State.{Given, State, Result, Reader, read, then, next, k
 use Rattle.rules.specs.Mapped.{mapped}
 use Rattle.marks.specs.Laid.{runIn, runOpt, nameRun, IsNode, IsOpt, Shape, optBit}
 use Rattle.parts.specs.Mapped.{mappedHead, mappedMiddle, mappedChoices, closeCurly}
-use Rattle.parts.specs.Onward.{behindConstraint}
+use Rattle.primaries.specs.Onward.{behindConstraint}
 use Rattle.parts.proofs.MappingLaws.{mapped-step, behind-step, mappedContent, mapped-shape}
 use Rattle.marks.proofs.Answers.{then-read}
 

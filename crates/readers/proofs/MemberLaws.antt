@@ -25,7 +25,7 @@ use Rattle.rules.specs.Object.{Signature, ofMethod, ofCall, ofConstruct, isCons
 use Rattle.marks.specs.State.{view, givenOf, nextMark}
 use Rattle.marks.specs.Laid.{runOpt, optBit, runs, runsOpt, namesRun, node as isNode, IsOpt, AllOpt, Was, was, Laid, BuiltAt, Spoken, Shape}
 use Rattle.marks.specs.Says.{Got, Says, isThere}
-use Rattle.parts.specs.Function.{thisRun, GotParams, SaysParams, ThisIs, LinksParams}
+use Rattle.functions.specs.Function.{thisRun, GotParams, SaysParams, ThisIs, LinksParams}
 use Rattle.members.specs.Object.{MemberStart, aProperty, aSignature, anIndex, memberAs, keyChoices, signatureNames, signatureHead, indexHead, startSort, startNames, startChoices, GotMember, SaysStep, propertyChoices, MakesSignature}
 use Rattle.marks.proofs.Answers.{then-read, then-refused, says-same}
 use Rattle.marks.proofs.BuiltLaws.{laid-spoken}
@@ -35,8 +35,8 @@ use Rattle.marks.specs.declared.state.Mark.{Mark}
 use Rattle.marks.specs.declared.state.Begin.{Begin}
 use Rattle.marks.specs.declared.state.Kids.{Kids}
 use Rattle.marks.specs.declared.state.Answer.{Answer}
-use Rattle.parts.specs.declared.function.This.{This as ThisCode}
-use Rattle.parts.specs.declared.function.Params.{Params}
+use Rattle.functions.specs.declared.function.This.{This as ThisCode}
+use Rattle.functions.specs.declared.function.Params.{Params}
 use Rattle.members.specs.declared.object.MemberHead.{MemberHead}
 use Rattle.readers.proofs.SignatureLaws.{return-linked}
 

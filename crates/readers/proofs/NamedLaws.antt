@@ -7,7 +7,7 @@ use Rattle.rules.specs.State.{Given, State, Reader, read, first, end, make}
 use Rattle.rules.specs.List.{count}
 use Rattle.rules.specs.Arguments.{arguments}
 use Rattle.parts.specs.Arguments.{Naming, nameCount, namedNode, namingHead}
-use Rattle.parts.specs.Onward.{nameAt}
+use Rattle.primaries.specs.Onward.{nameAt}
 use Rattle.parts.proofs.NamingLaws.{name-at, behindNames}
 use Rattle.marks.proofs.Answers.{then-read}
 

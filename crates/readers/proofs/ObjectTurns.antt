@@ -20,7 +20,7 @@ use Rattle.marks.specs.Node.{Links}
 use Rattle.marks.proofs.Answers.{then-read, then-refused}
 use Rattle.marks.proofs.BuiltLaws.{built-none}
 use Rattle.marks.proofs.LeafLaws.{noKids}
-use Rattle.parts.proofs.ShapeLaws.{all-more, shape-list}
+use Rattle.marks.proofs.ShapeLaws.{all-more, shape-list}
 use Rattle.parts.proofs.Turns.{built-more}
 use Rattle.marks.specs.declared.state.Mark.{Mark}
 use Rattle.marks.specs.declared.state.Kids.{Kids}

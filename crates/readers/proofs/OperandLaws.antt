@@ -8,9 +8,9 @@ use Rattle.rules.specs.State.{Result, read}
 use Rattle.marks.specs.State.{view, givenOf, Moved}
 use Rattle.marks.specs.Laid.{Was, was, Stands}
 use Rattle.marks.specs.Says.{Says}
-use Rattle.parts.specs.Operator.{operatorsAbout}
+use Rattle.operators.specs.Operator.{operatorsAbout}
 use Rattle.marks.proofs.Answers.{says-same, says-stop}
-use Rattle.parts.proofs.OperatorLaws.{operators-refused}
+use Rattle.operators.proofs.OperatorLaws.{operators-refused}
 use Rattle.marks.specs.declared.state.Given.{Given}
 use Rattle.marks.specs.declared.state.Mark.{Mark}
 use Rattle.marks.specs.declared.state.Answer.{Answer}

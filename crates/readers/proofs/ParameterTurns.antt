@@ -17,17 +17,17 @@ use Rattle.rules.specs.Function.{ThisParameter, Parameters, modified, parameter
 use Rattle.marks.specs.State.{view, nextMark}
 use Rattle.marks.specs.Laid.{runIn, runs, IsNode, Was, BuiltAt}
 use Rattle.marks.specs.List.{Separates, default, closes, behindRest, goes, stops}
-use Rattle.parts.specs.Function.{whyNone, ThisIs}
+use Rattle.functions.specs.Function.{whyNone, ThisIs}
 use Rattle.readers.specs.Ring.{SaysRest}
 use Rattle.marks.proofs.LeafLaws.{noKids}
-use Rattle.parts.proofs.ShapeLaws.{all-more}
+use Rattle.marks.proofs.ShapeLaws.{all-more}
 use Rattle.parts.proofs.Turns.{built-more}
-use Rattle.parts.proofs.ParameterListLaws.{parameters-closed, parameters-none, parameters-go}
+use Rattle.functions.proofs.ParameterListLaws.{parameters-closed, parameters-none, parameters-go}
 use Rattle.marks.specs.declared.state.Mark.{Mark}
 use Rattle.marks.specs.declared.state.Kids.{Kids}
 use Rattle.marks.specs.declared.state.Answer.{Answer}
-use Rattle.parts.specs.declared.function.This.{This as ThisCode}
-use Rattle.parts.specs.declared.function.Params.{Params}
+use Rattle.functions.specs.declared.function.This.{This as ThisCode}
+use Rattle.functions.specs.declared.function.Params.{Params}
 use Rattle.readers.proofs.Loops.{ParametersTurn}
 
 -- A parameter may begin: neither a modifier word nor a `this` is there.

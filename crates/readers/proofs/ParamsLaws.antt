@@ -19,20 +19,20 @@ use Rattle.marks.specs.State.{view, nextMark, Moved, Under}
 use Rattle.marks.specs.Laid.{runOpt, optBit, Was, was, Built, BuiltAt}
 use Rattle.marks.specs.Says.{SaysOption}
 use Rattle.marks.specs.List.{Separates}
-use Rattle.parts.specs.Function.{typeBits, thisRun, IsThis, ThisIs, SaysParams, Opens, freedMark, beforeThis, behindThis, freedUsed}
-use Rattle.parts.specs.Function as opens
+use Rattle.functions.specs.Function.{typeBits, thisRun, IsThis, ThisIs, SaysParams, Opens, freedMark, beforeThis, behindThis, freedUsed}
+use Rattle.functions.specs.Function as opens
 use Rattle.readers.specs.Ring.{SaysRest}
 use Rattle.marks.proofs.LaidLaws.{laid-back}
 use Rattle.marks.proofs.BuiltLaws.{built-none}
 use Rattle.marks.proofs.StepLaws.{built-at}
-use Rattle.parts.proofs.ParameterListLaws.{opens-this, this-refused, this-goes, this-stops}
+use Rattle.functions.proofs.ParameterListLaws.{opens-this, this-refused, this-goes, this-stops}
 use Rattle.marks.specs.declared.state.Mark.{Mark}
 use Rattle.marks.specs.declared.state.Kids.{Kids}
 use Rattle.marks.specs.declared.state.Head.{Head}
 use Rattle.marks.specs.declared.state.Answer.{Answer}
 use Rattle.marks.specs.declared.state.Listed.{Listed}
-use Rattle.parts.specs.declared.function.This.{This as ThisCode}
-use Rattle.parts.specs.declared.function.Params.{Params}
+use Rattle.functions.specs.declared.function.This.{This as ThisCode}
+use Rattle.functions.specs.declared.function.Params.{Params}
 use Rattle.readers.proofs.MovedLaws.{built-moved}
 use Rattle.readers.proofs.ChildLaws.{built-as}
 use Rattle.readers.proofs.ParameterTurns.{refusedParams}

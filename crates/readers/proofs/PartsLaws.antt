@@ -18,11 +18,11 @@ use Rattle.marks.specs.Laid.{runs, AllNodes, Was, was, BuiltAt, Stands, Shape}
 use Rattle.marks.specs.Says.{Got, Says}
 use Rattle.marks.specs.Node.{Links}
 use Rattle.marks.specs.List.{here}
-use Rattle.parts.specs.Union.{isAlone, Joins, alone, joins}
+use Rattle.operators.specs.Union.{isAlone, Joins, alone, joins}
 use Rattle.marks.proofs.Answers.{then-read, then-then, says-same, says-as, says-stops}
 use Rattle.marks.proofs.LaidLaws.{laid-on}
 use Rattle.marks.proofs.LeafLaws.{noKids}
-use Rattle.parts.proofs.ShapeLaws.{all-more}
+use Rattle.marks.proofs.ShapeLaws.{all-more}
 use Rattle.marks.proofs.StepLaws.{view-past}
 use Rattle.parts.proofs.RingLaws.{behindPart, parts-more, parts-end}
 use Rattle.parts.proofs.Turns.{ListTurn, built-more}

@@ -23,7 +23,7 @@ use Rattle.marks.proofs.Answers.{says-same, then-read, then-refused}
 use Rattle.marks.proofs.BuiltLaws.{built-names, laid-spoken}
 use Rattle.marks.proofs.LeafLaws.{noKids}
 use Rattle.parts.proofs.RingLaws.{endTemplate, template-is, behindPiece, pieces-is}
-use Rattle.parts.proofs.RingShapes.{pieceRuns, pieces-join, all-pieces, shape-template}
+use Rattle.primaries.proofs.RingShapes.{pieceRuns, pieces-join, all-pieces, shape-template}
 use Rattle.parts.proofs.Turns.{PieceTurn}
 use Rattle.marks.specs.declared.state.Given.{Given}
 use Rattle.marks.specs.declared.state.Mark.{Mark}

@@ -17,11 +17,11 @@ use Rattle.rules.specs.State.{State, Reader, then, next, kind, first, end, spel
 use Rattle.rules.specs.Function.{subject, predicates}
 use Rattle.marks.specs.State.{view, givenOf, nextMark}
 use Rattle.marks.specs.List.{here}
-use Rattle.parts.specs.Onward.{subjectAt, subjectMark, predicate}
-use Rattle.parts.specs.Primary.{predicateChoices}
+use Rattle.primaries.specs.Onward.{subjectAt, subjectMark, predicate}
+use Rattle.primaries.specs.Primary.{predicateChoices}
 use Rattle.marks.proofs.MarkLaws.{kind-inside}
 use Rattle.parts.proofs.RingLaws.{predicate-is}
-use Rattle.parts.proofs.RingShapes.{isThis}
+use Rattle.primaries.proofs.RingShapes.{isThis}
 use Rattle.marks.specs.declared.state.Given.{Given}
 use Rattle.marks.specs.declared.state.Mark.{Mark}
 

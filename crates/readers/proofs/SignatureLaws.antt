@@ -17,17 +17,17 @@ use Rattle.rules.specs.Function.{Parameters}
 use Rattle.marks.specs.State.{view, givenOf, nextMark, pastMark}
 use Rattle.marks.specs.Laid.{runIn, runs, runsOpt, AllOpt, Was, was, BuiltAt}
 use Rattle.marks.specs.Says.{Got, Says, isThere}
-use Rattle.parts.specs.Function.{thisRun, ThisIs, GotParams, LinksParams, HeadIs, MakesFunction}
-use Rattle.parts.specs.Onward.{signature}
+use Rattle.functions.specs.Function.{thisRun, ThisIs, GotParams, LinksParams, HeadIs, MakesFunction}
+use Rattle.primaries.specs.Onward.{signature}
 use Rattle.marks.proofs.Answers.{then-read}
 use Rattle.parts.proofs.RingLaws.{expect-yes, expect-no, function-is, behindParameters, signature-is}
 use Rattle.marks.proofs.StepLaws.{view-past}
 use Rattle.marks.specs.declared.state.Given.{Given}
 use Rattle.marks.specs.declared.state.Mark.{Mark}
 use Rattle.marks.specs.declared.state.Answer.{Answer}
-use Rattle.parts.specs.declared.function.This.{This as ThisCode}
-use Rattle.parts.specs.declared.function.FunctionHead.{FunctionHead}
-use Rattle.parts.specs.declared.function.Params.{Params}
+use Rattle.functions.specs.declared.function.This.{This as ThisCode}
+use Rattle.functions.specs.declared.function.FunctionHead.{FunctionHead}
+use Rattle.functions.specs.declared.function.Params.{Params}
 
 -- The rule from where its head ends.
 pub function-from : (text W : List ℕ) (given : Given) (T : Reader) (on : Bool) {m : Mark} {h : FunctionHead} (O : List ℕ) → HeadIs W m h

@@ -4,10 +4,10 @@ use mathlib.Core.List.{List}
 use Prim.Native.Nat.{ℕ}
 use Rattle.rules.specs.State.{Reader}
 use Rattle.marks.specs.State.{view, givenOf}
-use Rattle.parts.specs.Onward.{StartIs, StartHas}
+use Rattle.primaries.specs.Onward.{StartIs, StartHas}
 use Rattle.marks.specs.declared.state.Given.{Given}
 use Rattle.marks.specs.declared.state.Mark.{Mark}
-use Rattle.parts.specs.declared.primary.Start.{Start}
+use Rattle.primaries.specs.declared.primary.Start.{Start}
 
 module _ (W : List ℕ) (m : Mark) {r q : Start} (e : r ≡ q) where
   -- The rule is that of the arm.

@@ -23,14 +23,14 @@ use Rattle.marks.specs.Laid.{nameRun, was, Laid}
 use Rattle.marks.specs.Says.{Got, Says, GotBound}
 use Rattle.marks.specs.Notes.{refusedAt}
 use Rattle.marks.specs.Node.{Makes}
-use Rattle.parts.specs.Infer.{Infers}
+use Rattle.operators.specs.Infer.{Infers}
 use Rattle.marks.specs.List.{here}
 use Rattle.marks.proofs.Answers.{says-same, says-as, says-refused, says-stops}
 use Rattle.marks.proofs.BoundLaws.{laid-bound}
 use Rattle.marks.proofs.LaidLaws.{laid-on, laid-back}
 use Rattle.marks.proofs.TallyLaws.{view-tallied, laid-tallied}
 use Rattle.marks.proofs.LeafLaws.{noKids}
-use Rattle.parts.proofs.PostfixLaws.{infer-none, infer-many, infer-tried, infer-dropped, infer-kept, shape-infer}
+use Rattle.operators.proofs.InferLaws.{infer-none, infer-many, infer-tried, infer-dropped, infer-kept, shape-infer}
 use Rattle.marks.specs.declared.state.Given.{Given}
 use Rattle.marks.specs.declared.state.Mark.{Mark}
 use Rattle.marks.specs.declared.state.Begin.{Begin}

@@ -19,19 +19,19 @@ use Rattle.marks.specs.Laid.{runs, Was, was, BuiltAt, Stands, Shape}
 use Rattle.marks.specs.Says.{Got}
 use Rattle.marks.specs.Node.{Links}
 use Rattle.marks.specs.List.{Follows, closes, goes, stops}
-use Rattle.parts.specs.Tuple.{LatestIs, Checks}
+use Rattle.tuples.specs.Tuple.{LatestIs, Checks}
 use Rattle.marks.proofs.ListLaws.{list-closed, list-refused, list-goes, list-stops}
 use Rattle.marks.proofs.BuiltLaws.{built-none}
 use Rattle.marks.proofs.LeafLaws.{noKids}
-use Rattle.parts.proofs.ShapeLaws.{all-more}
-use Rattle.parts.proofs.TupleLaws.{tuple-is, checked-read, checked-full, checked-refused, latest-behind, tuple-shape}
+use Rattle.marks.proofs.ShapeLaws.{all-more}
+use Rattle.tuples.proofs.TupleLaws.{tuple-is, checked-read, checked-full, checked-refused, latest-behind, tuple-shape}
 use Rattle.parts.proofs.Turns.{looped, built-more}
 use Rattle.marks.specs.declared.state.Given.{Given}
 use Rattle.marks.specs.declared.state.Mark.{Mark}
 use Rattle.marks.specs.declared.state.Kids.{Kids}
 use Rattle.marks.specs.declared.state.Answer.{Answer}
-use Rattle.parts.specs.declared.tuple.Latest.{Latest}
-use Rattle.parts.specs.declared.tuple.Seen.{Seen}
+use Rattle.tuples.specs.declared.tuple.Latest.{Latest}
+use Rattle.tuples.specs.declared.tuple.Seen.{Seen}
 use Rattle.readers.proofs.MovedLaws.{built-moved}
 use Rattle.readers.proofs.Loops.{TupleTurn, endTuple}
 

@@ -10,11 +10,11 @@ use Rattle.rules.specs.State.{Given, State, Result, Reader, read, refused, next
 use Rattle.rules.specs.TypeRule as type
 use Rattle.rules.specs.Union as union
 use Rattle.rules.specs.Primary as primary
-use Rattle.parts.specs.Onward.{behindColon, behindQuestion}
-use Rattle.parts.specs.Primary.{closeParens}
+use Rattle.primaries.specs.Onward.{behindColon, behindQuestion}
+use Rattle.primaries.specs.Primary.{closeParens}
 use Rattle.marks.proofs.Answers.{then-read, then-refused}
 use Rattle.parts.proofs.RingLaws.{expect-yes, expect-no, orConditional, union-or, conditional-is, question-is}
-use Rattle.parts.proofs.PrimaryLaws.{brackets-is}
+use Rattle.primaries.proofs.PrimaryLaws.{brackets-is}
 
 -- ---- Behind a union
 

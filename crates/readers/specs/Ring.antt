@@ -20,7 +20,7 @@ use Rattle.rules.specs.Reading.{readType}
 use Rattle.marks.specs.State.{view, givenOf, Declined, Sound, Spelt, Room, Fine, Under, placeOf}
 use Rattle.marks.specs.Laid.{runs, namesRun, AllNodes, Was, was, Laid, BuiltAt, Stands}
 use Rattle.marks.specs.Says.{Says, SaysList, SaysChild, SaysOption}
-use Rattle.parts.specs.Function.{ThisIs, thisRun, SaysParams}
+use Rattle.functions.specs.Function.{ThisIs, thisRun, SaysParams}
 use Rattle.members.specs.Object.{signatureNames, signatureHead, indexHead}
 use Rattle.marks.specs.declared.state.Given.{Given}
 use Rattle.marks.specs.declared.state.Mark.{Mark}
@@ -28,8 +28,8 @@ use Rattle.marks.specs.declared.state.Begin.{Begin}
 use Rattle.marks.specs.declared.state.Kids.{Kids}
 use Rattle.marks.specs.declared.state.Answer.{Answer}
 use Rattle.marks.specs.declared.state.Listed.{Listed}
-use Rattle.parts.specs.declared.function.This.{This}
-use Rattle.parts.specs.declared.function.Params.{Params}
+use Rattle.functions.specs.declared.function.This.{This}
+use Rattle.functions.specs.declared.function.Params.{Params}
 
 -- A slice at a function's two moments.
 abbrev pub Lent : Type 0

@@ -2,7 +2,7 @@
 use mathlib.Core.Path.{ap}
 use Prim.Native.Nat.{ℕ}
 use lib.Dec.{eqb}
-use Rattle.parts.proofs.PrimaryLaws.{eq-at, ne-at}
+use Rattle.primaries.proofs.PrimaryLaws.{eq-at, ne-at}
 use borrow.Author.Needs.{needs}
 use Rattle.members.proofs.object.is_literal.Statement.{statement}
 use Rattle.members.proofs.object.is_literal.Tie as tie

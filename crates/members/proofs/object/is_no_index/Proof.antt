@@ -1,6 +1,6 @@
 -- By the tag, and by the choices behind it.
 use mathlib.Core.Path.{sym, _∙_}
-use Rattle.parts.proofs.PrimaryLaws.{eq-at, ne-at}
+use Rattle.primaries.proofs.PrimaryLaws.{eq-at, ne-at}
 use Rattle.members.proofs.IndexLaws.{no-five}
 use borrow.Author.Needs.{needs}
 use Rattle.members.proofs.object.is_no_index.Statement.{statement}

@@ -15,7 +15,7 @@ use Rattle.rules.proofs.TokenLaws.{both-true}
 use Rattle.marks.specs.State.{view, givenOf}
 use Rattle.marks.proofs.MarkLaws.{kind-inside, along-same, along-moved, along-then}
 use Rattle.marks.proofs.StepLaws.{moved-taken, inside-taken}
-use Rattle.parts.proofs.PrimaryLaws.{noGiven}
+use Rattle.primaries.proofs.PrimaryLaws.{noGiven}
 use Rattle.members.proofs.HeadLaws.{finds-got, finds-from, has-from, got-call, got-construct, member-readonly, member-plain}
 use Rattle.marks.specs.declared.state.Mark.{Mark}
 use borrow.Author.Needs.{needs}

@@ -2,7 +2,7 @@
 use mathlib.Core.Path.{ap, _∙_}
 use Prim.Native.Nat.{ℕ, _+_, _*_}
 use borrow.Author.Tests.{eq-eqb, ne-eqb}
-use Rattle.parts.specs.Function.{newChoices, callChoices}
+use Rattle.functions.specs.Function.{newChoices, callChoices}
 use borrow.Author.Needs.{needs}
 use Rattle.members.proofs.object.signature_choices.Statement.{statement}
 use Rattle.members.proofs.object.signature_choices.Tie as tie

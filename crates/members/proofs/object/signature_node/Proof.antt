@@ -3,7 +3,7 @@ use mathlib.Core.Path.{refl, sym, _∙_}
 use native.Mathlib.Omega.{arith}
 use Rattle.marks.proofs.MarkLaws.{reached-refused, reached-put}
 use Rattle.marks.proofs.StepLaws.{fine-moved}
-use Rattle.parts.proofs.FunctionLaws.{both-fit}
+use Rattle.functions.proofs.FunctionLaws.{both-fit}
 use Rattle.members.proofs.StepLaws.{reached-stop}
 use Rattle.members.proofs.SignatureLaws.{signature-stops, signature-long, signature-put}
 use borrow.Author.Needs.{needs}

@@ -6,7 +6,7 @@ use Rattle.rules.specs.State.{make, end}
 use Rattle.keys.specs.Placed.{tree}
 use Rattle.marks.specs.State.{givenOf, view, nextMark}
 use Rattle.marks.proofs.Answers.{says-same, says-as, says-refused}
-use Rattle.parts.proofs.PrimaryLaws.{eq-at, ne-at}
+use Rattle.primaries.proofs.PrimaryLaws.{eq-at, ne-at}
 use Rattle.marks.proofs.LeafLaws.{fine-next, makes-at}
 use Rattle.marks.proofs.MarkLaws.{reached-put, reached-refused}
 use Rattle.parts.proofs.RingLaws.{expect-yes}

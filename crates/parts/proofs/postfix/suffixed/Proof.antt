@@ -4,7 +4,7 @@ use mathlib.Core.Bool.{not}
 use Prim.Native.Nat.{ℕ, _+_}
 use lib.Dec.{eqb}
 use borrow.Author.Tests.{not-true, not-false}
-use Rattle.parts.proofs.PrimaryLaws.{eq-at, ne-at}
+use Rattle.primaries.proofs.PrimaryLaws.{eq-at, ne-at}
 use Rattle.marks.proofs.MarkLaws.{or-false}
 use Rattle.words.specs.Ahead as ahead
 use borrow.Author.Needs.{needs}

@@ -2,10 +2,10 @@
 use Prim.Native.Nat.{ℕ}
 use mathlib.Core.Path.{_∙_}
 use native.Mathlib.Omega.{arith}
-use Rattle.parts.proofs.MemberLaws.{element-refused, element-says}
+use Rattle.tuples.proofs.MemberLaws.{element-refused, element-says}
 use Rattle.readers.proofs.ReadyLaws.{ready}
-use Rattle.parts.proofs.tuple.element_head.Reads as element-head-reads
-use Rattle.parts.proofs.tuple.element_node.Reads as element-node-reads
+use Rattle.tuples.proofs.tuple.element_head.Reads as element-head-reads
+use Rattle.tuples.proofs.tuple.element_node.Reads as element-node-reads
 use Rattle.readers.proofs.ring.elem.Reads as elem
 use Rattle.readers.proofs.ring.ty.Reads as ty
 use Rattle.readers.proofs.ring.+child+elem+extends+function+index+infer+inter+mapped+memb+named+object+operator+opt+param+params+parens+plist+postfix+pred+primary+ret+sign+suffix+targs+template+tparam+tparams+tuple+ty+union.Lts-elem as lts

@@ -7,7 +7,7 @@ use Rattle.keys.specs.Placed.{join}
 use Rattle.marks.proofs.Answers.{says-same, says-as, says-refused, says-stop, then-read, then-refused}
 use Rattle.marks.proofs.MarkLaws.{is-here, is-not-here}
 use Rattle.parts.proofs.RingLaws.{conditional-is, question-is, colon-is}
-use Rattle.parts.proofs.RingShapes.{shape-conditional}
+use Rattle.primaries.proofs.RingShapes.{shape-conditional}
 use Rattle.readers.proofs.Fields.{same-kids, same-answer}
 use Rattle.readers.proofs.ChildLaws.{built-child}
 use Rattle.readers.proofs.TypeLaws.{question-none, question-some, colon-none, colon-some}

@@ -6,14 +6,14 @@ use mathlib.Core.Path.{sym, _∙_, ap}
 use Rattle.parts.proofs.RingLaws.{signature-is}
 use Rattle.marks.proofs.Answers.{then-read, then-refused, says-same, says-as, says-refused, says-stop, says-stops}
 use Rattle.marks.proofs.MarkLaws.{is-here, is-not-here}
-use Rattle.parts.specs.declared.function.This.{This}
+use Rattle.functions.specs.declared.function.This.{This}
 use Rattle.readers.proofs.Fields.{same-mark, same-answer}
 use Rattle.readers.proofs.MovedLaws.{says-moved}
 use Rattle.readers.proofs.SignatureLaws.{function-from, signature-stops, signature-goes, signature-node}
 use Rattle.readers.proofs.ReadyLaws.{ready}
-use Rattle.parts.proofs.function.Params.with.Reads as with-reads
-use Rattle.parts.proofs.function.function_head.Reads as function-head-reads
-use Rattle.parts.proofs.function.function_node.Reads as function-node-reads
+use Rattle.functions.proofs.function.Params.with.Reads as with-reads
+use Rattle.functions.proofs.function.function_head.Reads as function-head-reads
+use Rattle.functions.proofs.function.function_node.Reads as function-node-reads
 use Rattle.marks.proofs.state.Answer.refused.Reads as state-Answer-refused-reads
 use Rattle.marks.proofs.state.kind_at.Reads as kind-at-reads
 use Rattle.readers.proofs.ring.function.Reads as function

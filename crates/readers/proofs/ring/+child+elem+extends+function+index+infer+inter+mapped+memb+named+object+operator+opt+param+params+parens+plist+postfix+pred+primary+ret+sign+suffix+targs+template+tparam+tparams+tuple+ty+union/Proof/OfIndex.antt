@@ -31,7 +31,7 @@ use Rattle.members.proofs.object.index_end.Reads as index-end-reads
 use Rattle.members.proofs.object.index_head.Reads as index-head-reads
 use Rattle.members.proofs.object.index_next.Reads as index-next-reads
 use Rattle.members.proofs.object.member_node.Reads as member-node-reads
-use Rattle.parts.proofs.function.freed.Reads as freed-reads
+use Rattle.functions.proofs.function.freed.Reads as freed-reads
 use Rattle.readers.proofs.ring.child.Reads as child
 use Rattle.readers.proofs.ring.index.Reads as index
 use Rattle.readers.proofs.ring.ty.Reads as ty

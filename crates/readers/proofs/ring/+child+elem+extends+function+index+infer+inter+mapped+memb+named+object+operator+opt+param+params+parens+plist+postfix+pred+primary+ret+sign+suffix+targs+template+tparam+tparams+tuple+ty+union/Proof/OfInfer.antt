@@ -7,15 +7,15 @@ use Rattle.marks.specs.State.{view, givenOf}
 use Rattle.readers.specs.Ring.{below}
 use Rattle.marks.proofs.Answers.{says-as, says-stop}
 use Rattle.marks.proofs.MarkLaws.{is-here, is-not-here}
-use Rattle.parts.proofs.PostfixLaws.{infer-refused}
+use Rattle.operators.proofs.InferLaws.{infer-refused}
 use Rattle.readers.proofs.Fields.{same-kids, same-answer}
 use Rattle.readers.proofs.TrialLaws.{bare-put, trial-many, trial-refused, trial-put}
 use Rattle.readers.proofs.ReadyLaws.{ready}
-use Rattle.parts.proofs.infer.dropped.Reads as dropped-reads
-use Rattle.parts.proofs.infer.infer_head.Reads as infer-head-reads
-use Rattle.parts.proofs.infer.infer_node.Reads as infer-node-reads
-use Rattle.parts.proofs.infer.many_trials.Reads as many-trials-reads
-use Rattle.parts.proofs.infer.with_trial.Reads as with-trial-reads
+use Rattle.operators.proofs.infer.dropped.Reads as dropped-reads
+use Rattle.operators.proofs.infer.infer_head.Reads as infer-head-reads
+use Rattle.operators.proofs.infer.infer_node.Reads as infer-node-reads
+use Rattle.operators.proofs.infer.many_trials.Reads as many-trials-reads
+use Rattle.operators.proofs.infer.with_trial.Reads as with-trial-reads
 use Rattle.marks.proofs.node.put.Reads as put-reads
 use Rattle.marks.proofs.state.Answer.refused.Reads as state-Answer-refused-reads
 use Rattle.marks.proofs.state.Begin.at.Reads as at-reads

@@ -13,9 +13,9 @@ use Rattle.marks.specs.State.{view, givenOf, Under, placeOf}
 use Rattle.marks.specs.Laid.{was}
 use Rattle.readers.specs.Ring.{below}
 use Rattle.marks.proofs.MarkLaws.{is-here, is-not-here}
-use Rattle.parts.proofs.LoneLaws.{lone-at, lone-there}
+use Rattle.primaries.proofs.LoneLaws.{lone-at, lone-there}
 use Rattle.parts.proofs.RingLaws.{intersection-is}
-use Rattle.parts.proofs.RingShapes.{shape-intersection}
+use Rattle.primaries.proofs.RingShapes.{shape-intersection}
 use Rattle.readers.proofs.Kept.{Kept}
 use Rattle.readers.proofs.Fields.{same-kids}
 use Rattle.readers.proofs.Loops.{PartsTurn}
@@ -26,9 +26,9 @@ use Rattle.marks.proofs.state.Kids.none.Reads as state-Kids-none-reads
 use Rattle.marks.proofs.state.kind_after.Reads as kind-after-reads
 use Rattle.marks.proofs.state.kind_at.Reads as kind-at-reads
 use Rattle.marks.proofs.state.past.Reads as past-reads
-use Rattle.parts.proofs.lone.is_lone.Reads as is-lone-reads
-use Rattle.parts.proofs.lone.lone.Reads as lone-reads
-use Rattle.parts.proofs.union.joined.Reads as joined-reads
+use Rattle.primaries.proofs.lone.is_lone.Reads as is-lone-reads
+use Rattle.primaries.proofs.lone.lone.Reads as lone-reads
+use Rattle.operators.proofs.union.joined.Reads as joined-reads
 use Rattle.readers.proofs.ring.inter.Reads as inter
 use Rattle.readers.proofs.ring.operator.Reads as operator
 use Rattle.readers.proofs.ring.+child+elem+extends+function+index+infer+inter+mapped+memb+named+object+operator+opt+param+params+parens+plist+postfix+pred+primary+ret+sign+suffix+targs+template+tparam+tparams+tuple+ty+union.Lts-inter as lts

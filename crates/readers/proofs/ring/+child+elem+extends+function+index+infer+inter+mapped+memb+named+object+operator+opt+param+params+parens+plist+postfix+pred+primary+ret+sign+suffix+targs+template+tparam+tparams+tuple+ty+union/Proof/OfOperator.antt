@@ -9,8 +9,8 @@ use Rattle.marks.proofs.MarkLaws.{is-here, is-not-here}
 use Rattle.parts.proofs.RingLaws.{operand-infer, operand-postfix}
 use Rattle.readers.proofs.OperandLaws.{operand-refused, operand-about}
 use Rattle.readers.proofs.ReadyLaws.{ready}
-use Rattle.parts.proofs.operator.past_operators.Reads as past-operators-reads
-use Rattle.parts.proofs.operator.put_operators.Reads as put-operators-reads
+use Rattle.operators.proofs.operator.past_operators.Reads as past-operators-reads
+use Rattle.operators.proofs.operator.put_operators.Reads as put-operators-reads
 use Rattle.marks.proofs.state.kind_at.Reads as kind-at-reads
 use Rattle.readers.proofs.ring.infer.Reads as infer
 use Rattle.readers.proofs.ring.operator.Reads as operator

@@ -7,11 +7,11 @@ use Rattle.words.specs.Kind.{Dot3}
 use Rattle.marks.specs.List.{here}
 use Rattle.marks.proofs.Answers.{says-as, says-same, says-stop, then-read, then-refused}
 use Rattle.parts.proofs.RingLaws.{parameter-is}
-use Rattle.parts.proofs.ParameterLaws.{shape-parameter}
+use Rattle.functions.proofs.ParameterLaws.{shape-parameter}
 use Rattle.readers.proofs.Fields.{same-kids, same-answer}
 use Rattle.readers.proofs.ChildLaws.{built-spoken, shape-as, make-first}
 use Rattle.readers.proofs.ReadyLaws.{ready}
-use Rattle.parts.proofs.function.param_head.Reads as param-head-reads
+use Rattle.functions.proofs.function.param_head.Reads as param-head-reads
 use Rattle.marks.proofs.node.opt_bit.Reads as opt-bit-reads
 use Rattle.marks.proofs.node.put.Reads as put-reads
 use Rattle.marks.proofs.state.Answer.refused.Reads as state-Answer-refused-reads

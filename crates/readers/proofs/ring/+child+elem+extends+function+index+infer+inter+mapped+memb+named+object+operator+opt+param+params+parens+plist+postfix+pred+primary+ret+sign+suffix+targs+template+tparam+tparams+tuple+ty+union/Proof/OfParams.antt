@@ -6,21 +6,21 @@ use mathlib.Core.Path.{ap, subst, sym, _∙_}
 use Rattle.keys.specs.Placed.{absent}
 use Rattle.marks.specs.State.{givenOf, Under}
 use Rattle.readers.specs.Ring.{below}
-use Rattle.parts.proofs.ParameterListLaws.{opens-refused, opens-plain}
-use Rattle.parts.specs.declared.function.This.{This}
+use Rattle.functions.proofs.ParameterListLaws.{opens-refused, opens-plain}
+use Rattle.functions.specs.declared.function.This.{This}
 use Rattle.marks.specs.declared.state.Kids.{Kids}
 use Rattle.readers.proofs.Fields.{same-params}
 use Rattle.readers.proofs.MovedLaws.{built-moved}
 use Rattle.readers.proofs.ParamsLaws.{freed-low, freed-high, bit-low, under-this, opens-past, params-refused, this-none, params-plain, params-this-refused, params-this-stops, params-this}
 use Rattle.readers.proofs.ReadyLaws.{ready}
-use Rattle.parts.proofs.function.Params.refused.Reads as function-Params-refused-reads
-use Rattle.parts.proofs.function.This.none.Reads as function-This-none-reads
-use Rattle.parts.proofs.function.before_this.Reads as before-this-reads
-use Rattle.parts.proofs.function.freed.Reads as freed-reads
-use Rattle.parts.proofs.function.params_head.Reads as params-head-reads
-use Rattle.parts.proofs.function.separated.Reads as separated-reads
-use Rattle.parts.proofs.function.this_kids.Reads as this-kids-reads
-use Rattle.parts.proofs.function.this_of.Reads as this-of-reads
+use Rattle.functions.proofs.function.Params.refused.Reads as function-Params-refused-reads
+use Rattle.functions.proofs.function.This.none.Reads as function-This-none-reads
+use Rattle.functions.proofs.function.before_this.Reads as before-this-reads
+use Rattle.functions.proofs.function.freed.Reads as freed-reads
+use Rattle.functions.proofs.function.params_head.Reads as params-head-reads
+use Rattle.functions.proofs.function.separated.Reads as separated-reads
+use Rattle.functions.proofs.function.this_kids.Reads as this-kids-reads
+use Rattle.functions.proofs.function.this_of.Reads as this-of-reads
 use Rattle.readers.proofs.ring.opt.Reads as opt
 use Rattle.readers.proofs.ring.params.Reads as params
 use Rattle.readers.proofs.ring.plist.Reads as plist

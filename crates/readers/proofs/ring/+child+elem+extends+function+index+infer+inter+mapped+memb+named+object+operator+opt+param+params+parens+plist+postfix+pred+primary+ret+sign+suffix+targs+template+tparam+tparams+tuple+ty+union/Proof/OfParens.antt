@@ -3,10 +3,10 @@ use Prim.Native.Nat.{ℕ}
 use mathlib.Core.Path.{_∙_}
 use native.Mathlib.Omega.{arith}
 use Rattle.marks.proofs.Answers.{says-stops, says-same}
-use Rattle.parts.proofs.PrimaryLaws.{brackets-is}
+use Rattle.primaries.proofs.PrimaryLaws.{brackets-is}
 use Rattle.readers.proofs.TypeLaws.{brackets-from}
 use Rattle.readers.proofs.ReadyLaws.{ready}
-use Rattle.parts.proofs.primary.parens_node.Reads as parens-node-reads
+use Rattle.primaries.proofs.primary.parens_node.Reads as parens-node-reads
 use Rattle.marks.proofs.state.Begin.at.Reads as at-reads
 use Rattle.readers.proofs.ring.parens.Reads as parens
 use Rattle.readers.proofs.ring.ty.Reads as ty

@@ -5,7 +5,7 @@ use borrow.Author.Needs.{needs}
 use mathlib.Core.Path.{_∙_}
 use mathlib.Core.List.{List}
 use lib.ListN.{length}
-use Rattle.parts.proofs.ParameterListLaws.{parameters-refused, parameters-stop}
+use Rattle.functions.proofs.ParameterListLaws.{parameters-refused, parameters-stop}
 use Rattle.marks.proofs.MarkLaws.{is-here, is-not-here}
 use Rattle.words.specs.Kind.{Dot3}
 use Rattle.keys.specs.Placed.{Opt}
@@ -20,10 +20,10 @@ use Rattle.readers.proofs.MovedLaws.{built-moved}
 use Rattle.readers.proofs.Loops.{ParametersTurn}
 use Rattle.readers.proofs.ParameterTurns.{may-begin, separates-as, rest-refused, turn-none, parameters-why, turn-parameter, rest-all}
 use Rattle.readers.proofs.ReadyLaws.{ready}
-use Rattle.parts.proofs.function.Params.all.Reads as all-reads
-use Rattle.parts.proofs.function.Params.refused.Reads as function-Params-refused-reads
-use Rattle.parts.proofs.function.no_param.Reads as no-param-reads
-use Rattle.parts.proofs.function.separated.Reads as separated-reads
+use Rattle.functions.proofs.function.Params.all.Reads as all-reads
+use Rattle.functions.proofs.function.Params.refused.Reads as function-Params-refused-reads
+use Rattle.functions.proofs.function.no_param.Reads as no-param-reads
+use Rattle.functions.proofs.function.separated.Reads as separated-reads
 use Rattle.marks.proofs.node.link.Reads as link-reads
 use Rattle.marks.proofs.state.kind_at.Reads as kind-at-reads
 use Rattle.readers.proofs.ring.param.Reads as param

@@ -7,17 +7,17 @@ use Rattle.words.specs.Kind as kind
 use Rattle.rules.specs.Function as function
 use Rattle.marks.specs.State.{view, givenOf}
 use Rattle.marks.specs.List.{here}
-use Rattle.parts.specs.Onward.{subjectAt, subjectMark}
-use Rattle.parts.specs.Primary.{predicateChoices}
+use Rattle.primaries.specs.Onward.{subjectAt, subjectMark}
+use Rattle.primaries.specs.Primary.{predicateChoices}
 use Rattle.marks.proofs.Answers.{says-as, says-same, says-stop, then-read, then-refused}
-use Rattle.parts.proofs.RingShapes.{shape-predicate}
+use Rattle.primaries.proofs.RingShapes.{shape-predicate}
 use Rattle.readers.proofs.Fields.{same-kids, same-answer}
 use Rattle.readers.proofs.ChildLaws.{built-spoken, shape-as, make-first}
 use Rattle.readers.proofs.PredicateLaws.{predicate-small, predicate-starts, subject-this}
 use Rattle.readers.proofs.ReadyLaws.{ready}
 use Rattle.marks.proofs.node.opt_bit.Reads as opt-bit-reads
 use Rattle.marks.proofs.node.put.Reads as put-reads
-use Rattle.parts.proofs.primary.subject.Reads as subject-reads
+use Rattle.primaries.proofs.primary.subject.Reads as subject-reads
 use Rattle.marks.proofs.state.Answer.refused.Reads as state-Answer-refused-reads
 use Rattle.marks.proofs.state.Begin.at.Reads as at-reads
 use Rattle.marks.proofs.state.Kids.none.Reads as state-Kids-none-reads

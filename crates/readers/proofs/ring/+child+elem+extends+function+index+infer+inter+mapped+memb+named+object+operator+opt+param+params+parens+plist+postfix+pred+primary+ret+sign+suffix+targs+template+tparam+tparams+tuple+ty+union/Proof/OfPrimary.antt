@@ -6,9 +6,9 @@ use Rattle.marks.proofs.Answers.{says-same, says-as, says-stop}
 use Rattle.readers.proofs.Fields.{same-answer}
 use Rattle.readers.proofs.StartLaws.{start-is, start-has}
 use Rattle.readers.proofs.ReadyLaws.{ready}
-use Rattle.parts.proofs.primary.keyword.Reads as keyword-reads
-use Rattle.parts.proofs.primary.literal.Reads as literal-reads
-use Rattle.parts.proofs.primary.primary_start.Reads as primary-start-reads
+use Rattle.primaries.proofs.primary.keyword.Reads as keyword-reads
+use Rattle.primaries.proofs.primary.literal.Reads as literal-reads
+use Rattle.primaries.proofs.primary.primary_start.Reads as primary-start-reads
 use Rattle.marks.proofs.state.Answer.refused.Reads as state-Answer-refused-reads
 use Rattle.readers.proofs.ring.mapped.Reads as mapped
 use Rattle.readers.proofs.ring.named.Reads as named

@@ -6,10 +6,10 @@ use mathlib.Core.Path.{sym, _∙_}
 use mathlib.Core.List.{[]}
 use Rattle.marks.specs.State.{view, givenOf}
 use Rattle.marks.proofs.Answers.{says-same}
-use Rattle.parts.proofs.PrimaryLaws.{return-type, return-predicate}
+use Rattle.primaries.proofs.PrimaryLaws.{return-type, return-predicate}
 use Rattle.readers.proofs.PredicateLaws.{predicates-inside}
 use Rattle.readers.proofs.ReadyLaws.{ready}
-use Rattle.parts.proofs.function.predicates.Reads as predicates-reads
+use Rattle.primaries.proofs.primary.predicates.Reads as predicates-reads
 use Rattle.readers.proofs.ring.pred.Reads as pred
 use Rattle.readers.proofs.ring.ret.Reads as ret
 use Rattle.readers.proofs.ring.ty.Reads as ty

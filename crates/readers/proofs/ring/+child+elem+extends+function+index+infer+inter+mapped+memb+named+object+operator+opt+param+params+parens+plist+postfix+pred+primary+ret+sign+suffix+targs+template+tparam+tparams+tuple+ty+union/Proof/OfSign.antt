@@ -5,7 +5,7 @@ use borrow.Author.Needs.{needs}
 use mathlib.Core.Path.{_∙_, ap}
 use Rattle.marks.proofs.Answers.{then-read, then-refused, says-same, says-as, says-stop}
 use Rattle.marks.proofs.MarkLaws.{is-here, is-not-here}
-use Rattle.parts.specs.declared.function.This.{This}
+use Rattle.functions.specs.declared.function.This.{This}
 use Rattle.marks.specs.State.{view, givenOf}
 use Rattle.members.specs.Object.{signatureNames}
 use Rattle.readers.specs.Ring.{below}
@@ -17,7 +17,7 @@ use Rattle.marks.proofs.state.Answer.refused.Reads as state-Answer-refused-read
 use Rattle.marks.proofs.state.kind_at.Reads as kind-at-reads
 use Rattle.members.proofs.object.note_this.Reads as note-this-reads
 use Rattle.members.proofs.object.signature_node.Reads as signature-node-reads
-use Rattle.parts.proofs.function.Params.with.Reads as function-Params-with-reads
+use Rattle.functions.proofs.function.Params.with.Reads as function-Params-with-reads
 use Rattle.readers.proofs.ring.params.Reads as params
 use Rattle.readers.proofs.ring.ret.Reads as ret
 use Rattle.readers.proofs.ring.sign.Reads as sign

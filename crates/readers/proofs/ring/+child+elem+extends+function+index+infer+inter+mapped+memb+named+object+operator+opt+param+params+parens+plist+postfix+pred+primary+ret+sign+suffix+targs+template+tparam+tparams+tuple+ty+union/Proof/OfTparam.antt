@@ -5,11 +5,11 @@ use borrow.Author.Needs.{needs}
 use mathlib.Core.Path.{_∙_}
 use Rattle.marks.proofs.Answers.{says-as, says-same, says-stop, then-read, then-refused}
 use Rattle.parts.proofs.RingLaws.{type-parameter}
-use Rattle.parts.proofs.ParameterLaws.{shape-typeParameter}
+use Rattle.functions.proofs.ParameterLaws.{shape-typeParameter}
 use Rattle.readers.proofs.Fields.{same-kids, same-answer}
 use Rattle.readers.proofs.ChildLaws.{built-bound, shape-as, make-first}
 use Rattle.readers.proofs.ReadyLaws.{ready}
-use Rattle.parts.proofs.function.type_param_head.Reads as type-param-head-reads
+use Rattle.functions.proofs.function.type_param_head.Reads as type-param-head-reads
 use Rattle.marks.proofs.node.opt_bit.Reads as opt-bit-reads
 use Rattle.marks.proofs.node.put.Reads as put-reads
 use Rattle.marks.proofs.state.Answer.refused.Reads as state-Answer-refused-reads

@@ -23,9 +23,9 @@ use Rattle.marks.proofs.state.Answer.refused.Reads as state-Answer-refused-read
 use Rattle.marks.proofs.state.Begin.at.Reads as at-reads
 use Rattle.marks.proofs.state.Kids.none.Reads as state-Kids-none-reads
 use Rattle.marks.proofs.state.kind_at.Reads as kind-at-reads
-use Rattle.parts.proofs.tuple.Latest.none.Reads as tuple-Latest-none-reads
-use Rattle.parts.proofs.tuple.checked.Reads as checked-reads
-use Rattle.parts.proofs.tuple.tuple_node.Reads as tuple-node-reads
+use Rattle.tuples.proofs.tuple.Latest.none.Reads as tuple-Latest-none-reads
+use Rattle.tuples.proofs.tuple.checked.Reads as checked-reads
+use Rattle.tuples.proofs.tuple.tuple_node.Reads as tuple-node-reads
 use Rattle.readers.proofs.ring.elem.Reads as elem
 use Rattle.readers.proofs.ring.tuple.Reads as tuple
 use Rattle.readers.proofs.ring.+child+elem+extends+function+index+infer+inter+mapped+memb+named+object+operator+opt+param+params+parens+plist+postfix+pred+primary+ret+sign+suffix+targs+template+tparam+tparams+tuple+ty+union.Lts-tuple as lts

@@ -11,7 +11,7 @@ use Rattle.parts.proofs.RingLaws.{type-none, type-function, type-other, union-o
 use Rattle.readers.proofs.Fields.{same-answer}
 use Rattle.readers.proofs.TypeLaws.{union-off, union-apart, union-alone, union-goes}
 use Rattle.readers.proofs.ReadyLaws.{ready}
-use Rattle.parts.proofs.function.begins.Reads as begins-reads
+use Rattle.functions.proofs.function.begins.Reads as begins-reads
 use Rattle.marks.proofs.state.Answer.refused.Reads as state-Answer-refused-reads
 use Rattle.marks.proofs.state.Begin.at.Reads as at-reads
 use Rattle.marks.proofs.state.kind_at.Reads as kind-at-reads

@@ -13,7 +13,7 @@ use Rattle.marks.specs.Laid.{was}
 use Rattle.readers.specs.Ring.{below}
 use Rattle.marks.proofs.MarkLaws.{is-here, is-not-here}
 use Rattle.parts.proofs.RingLaws.{union-is}
-use Rattle.parts.proofs.RingShapes.{shape-union}
+use Rattle.primaries.proofs.RingShapes.{shape-union}
 use Rattle.readers.proofs.Kept.{Kept}
 use Rattle.readers.proofs.Fields.{same-kids}
 use Rattle.readers.proofs.Loops.{PartsTurn}
@@ -23,7 +23,7 @@ use Rattle.marks.proofs.node.link.Reads as link-reads
 use Rattle.marks.proofs.state.Kids.none.Reads as state-Kids-none-reads
 use Rattle.marks.proofs.state.kind_at.Reads as kind-at-reads
 use Rattle.marks.proofs.state.past.Reads as past-reads
-use Rattle.parts.proofs.union.joined.Reads as joined-reads
+use Rattle.operators.proofs.union.joined.Reads as joined-reads
 use Rattle.readers.proofs.ring.inter.Reads as inter
 use Rattle.readers.proofs.ring.union.Reads as union
 use Rattle.readers.proofs.ring.+child+elem+extends+function+index+infer+inter+mapped+memb+named+object+operator+opt+param+params+parens+plist+postfix+pred+primary+ret+sign+suffix+targs+template+tparam+tparams+tuple+ty+union.Lts-union as lts

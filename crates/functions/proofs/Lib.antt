@@ -1,0 +1,4 @@
+pub mod ParameterLaws
+pub mod FunctionLaws
+pub mod HeadLaws
+pub mod ParameterListLaws

@@ -1,0 +1,3 @@
+pub mod PrimaryLaws
+pub mod RingShapes
+pub mod LoneLaws

@@ -1,0 +1,4 @@
+pub mod TupleLaws
+pub mod ElementLaws
+pub mod LabelLaws
+pub mod MemberLaws
