@@ -27,7 +27,7 @@ use Rattle.marks.specs.Tally.{Untallied}
 use Rattle.marks.specs.Laid.{runIn, wasAt, Laid}
 use Rattle.marks.proofs.LaidLaws.{length-notes}
 use Rattle.marks.specs.declared.state.Mark.{Mark}
-use Rattle.calls.specs.Reading.{HeldIn}
+use Rattle.answers.specs.Reading.{HeldIn}
 
 -- ---- A list that passed the check
 

@@ -1,12 +1,2 @@
 pub mod Theorems
-pub mod Checking
-pub mod Nodes
-pub mod Lined
-pub mod Roomy
-pub mod Whole
-pub mod Listed
-pub mod Walking
-pub mod Rests
-pub mod Differing
-pub mod Keys
 pub mod Rows

@@ -1,5 +1,3 @@
+-- What two trees differ in, and the call that says it.
 pub mod Content
 pub mod Differ
-pub mod Sound
-pub mod Walk
-pub mod Call

@@ -1,4 +1,1 @@
-// What two keys differ in: the check of a key that stores nothing, the walk of two keys together, and the open call.
-pub mod differ;
-pub mod sound;
-pub mod walk;
+// What two keys differ in: definitions and theorems, and no code.

@@ -1,13 +1,13 @@
 // A record's line: whether its left key is one; or what differs between its keys, and the list that was lent.
 ghost use Prim.Native.Nat.{_<_};
 ghost use lib.ListN.{length};
-use differs::differ::Differing;
-use differs::differ::differ;
-use differs::sound::sound;
+use comparing::differ::Differing;
+use comparing::differ::differ;
 use lines::line::bytes;
 use lines::line::next;
 use lines::sum::dirty_words;
 use lines::sum::of_words;
+use sound_keys::sound::sound;
 
 // A refusal's number, side and bit.
 fn refused(out: &mut [u8; 65536], at: usize, number: u32, side: u32, bit: usize) -> usize

@@ -31,17 +31,17 @@ use Rattle.rules.proofs.Theorems as rules
 use Rattle.differs.specs.Content.{Pair, contentOf, differences}
 use Rattle.differs.specs.Differ as difference
 use Rattle.differs.specs.Differ.{checked, found, Differed, declined, reported, besides, begins, differ, turned, Rises, manyDifferences, noSide, leftSide, rightSide}
-use Rattle.differs.specs.Call as differing
+use Rattle.comparing.specs.Call as differing
 use Rattle.differs.proofs.Theorems as pairs
-use Rattle.differs.proofs.Keys as alike
-use Rattle.calls.specs.Reading as reading
+use Rattle.comparing.proofs.Keys as alike
+use Rattle.answers.specs.Reading as reading
 use Rattle.typekey.specs.Taking as taking
-use Rattle.calls.specs.declared.reading.Reading.{Reading}
-use Rattle.calls.specs.declared.reading.Reading.the-variants as reads
-use Rattle.calls.specs.declared.reading.Reading.the-variants.{Read}
-use Rattle.differs.specs.declared.differ.Differing.{Differing}
-use Rattle.differs.specs.declared.differ.Differing.the-variants as compares
-use Rattle.differs.specs.declared.differ.Differing.the-variants.{Found}
+use Rattle.answers.specs.declared.reading.Reading.{Reading}
+use Rattle.answers.specs.declared.reading.Reading.the-variants as reads
+use Rattle.answers.specs.declared.reading.Reading.the-variants.{Read}
+use Rattle.comparing.specs.declared.differ.Differing.{Differing}
+use Rattle.comparing.specs.declared.differ.Differing.the-variants as compares
+use Rattle.comparing.specs.declared.differ.Differing.the-variants.{Found}
 use Rattle.typekey.specs.declared.taking.Taking.{Taking}
 use Rattle.typekey.specs.declared.taking.Taking.the-variants as takes
 use Rattle.typekey.specs.declared.taking.Taking.the-variants.{Taken}

@@ -4,7 +4,7 @@ use mathlib.Core.List.{List}
 use Prim.Native.Nat.{ℕ}
 use lib.ListN.{length}
 use Rattle.keys.specs.Store.{Answer, back, no, TakenBack, takeBack}
-use Rattle.calls.specs.Reading.{Slice}
+use Rattle.answers.specs.Reading.{Slice}
 use Rattle.typekey.specs.declared.taking.Taking.{Taking}
 use Rattle.typekey.specs.declared.taking.Taking.the-variants.{Taken, Refused}
 

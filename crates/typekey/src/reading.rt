@@ -1,8 +1,8 @@
 // The call that reads: any text, tokens, start and lent slices; tree, names, diagnostics and key, or a refusal and zeros.
-ghost use Rattle.calls.specs.Reading.{Reads};
-pub use calls::reading::Counts;
-pub use calls::reading::Reading;
-pub use calls::reading::Refused;
+ghost use Rattle.answers.specs.Reading.{Reads};
+pub use answers::reading::Counts;
+pub use answers::reading::Reading;
+pub use answers::reading::Refused;
 
 // Reads a type from the token `start` on.
 pub fn read(

@@ -4,13 +4,13 @@ use mathlib.Core.List.{List}
 use Prim.Native.Nat.{ℕ}
 use Rattle.keys.specs.Store.{TakenBack}
 use Rattle.rules.specs.Read.{Called}
-use Rattle.calls.specs.Reading as reading
+use Rattle.answers.specs.Reading as reading
 use Rattle.typekey.specs.Taking as taking
-use Rattle.calls.specs.declared.reading.Reading.{Reading}
+use Rattle.answers.specs.declared.reading.Reading.{Reading}
 use Rattle.typekey.specs.declared.taking.Taking.{Taking}
 use Rattle.differs.specs.Differ.{Differed}
-use Rattle.differs.specs.Call as difference
-use Rattle.differs.specs.declared.differ.Differing.{Differing}
+use Rattle.comparing.specs.Call as difference
+use Rattle.comparing.specs.declared.differ.Differing.{Differing}
 use Rattle.typekey_c.specs.Words.{told, TellsIn, toldBack, TellsBackIn, toldDifference, TellsDifferenceIn}
 
 pub tells : {c : Called} {r s : Reading} {N M O K : List ℕ} → reading.seen r N M O K ≡ c → r ≡ s → TellsIn c (told (reading.answerOf s)) N M O K

@@ -9,7 +9,7 @@ use Rattle.keys.specs.Store as store
 use Rattle.keys.specs.Store.{TakenBack, takeBack}
 use Rattle.rules.specs.Read as rules
 use Rattle.rules.specs.Read.{Called, read}
-use Rattle.calls.specs.Reading.{Slice, lentOf}
+use Rattle.answers.specs.Reading.{Slice, lentOf}
 use Rattle.differs.specs.Differ as differs
 use Rattle.differs.specs.Differ.{Differed, differ}
 

@@ -1,0 +1,2 @@
+// The call that says what differs between two keys.
+pub mod differ;

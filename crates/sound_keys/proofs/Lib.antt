@@ -1,0 +1,5 @@
+pub mod Checking
+pub mod Nodes
+pub mod Lined
+pub mod Roomy
+pub mod Whole

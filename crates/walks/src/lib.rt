@@ -1,0 +1,2 @@
+// Two keys walked side by side.
+pub mod walk;
