@@ -1,5 +1,5 @@
 -- The three demands, sentence by sentence, of what a caller of the open calls sees, what W9 asks of the third, W4's count, and W14's positions and spaces. A text or a key is a list of bytes; trees are compared as bare values, positions aside.
--- That what is seen is `left c`, `takeBack` or `differ`, whatever is given and lent, is the promise of each call: `Reads` in `calls/specs/Reading`, `TakesBack` in Taking, `Differs` in `differs/specs/Call`.
+-- That what is seen is `left c`, `takeBack` or `differ`, whatever is given and lent, is the promise of each call: `Reads` in `answers/specs/Reading`, `TakesBack` in Taking, `Differs` in `comparing/specs/Call`.
 use mathlib.Core.Path.{_≡_, refl, sym, ap, _∙_, subst}
 use mathlib.Core.Logic.{_↔_}
 use mathlib.Core.Bool.{Bool, true, false}
