@@ -10,7 +10,7 @@ use lib.ListN.{length}
 use Rattle.words.specs.Limits.{longest}
 use Rattle.words.specs.Test.{_or_}
 use Rattle.keys.specs.Bits.{unit}
-use Rattle.keys.specs.Limits.{countWidth}
+use Rattle.keys.specs.Limits.{countWidth, tags, counts}
 use Rattle.keys.specs.Form.{child}
 use Rattle.keys.specs.Key.{nodeTable}
 use Rattle.keys.specs.Table.{list, opt}
@@ -81,7 +81,7 @@ module _ (ts : Opt (List Placed)) (l : List Placed) (u : Placed) (each-type : Al
   ends-skeleton = skeleton-list 5 0 l (runIn 0 u) (leb·zero (length l))
 
   ends-packed : packed ends ≡ length l
-  ends-packed = packed-list 5 0 l (runIn 0 u) (leb·zero (length l)) each ∙ ap (λ (n : ℕ). length l + 4096 * n) (packed-node done is-node) ∙ (let e : length l + 4096 * 0 ≡ length l = omega arith in e)
+  ends-packed = packed-list 5 0 l (runIn 0 u) (leb·zero (length l)) each ∙ ap (λ (n : ℕ). length l + counts * n) (packed-node done is-node) ∙ (let e : length l + counts * 0 ≡ length l = omega arith in e)
 
   pub shape-function : (t : Opt ThisParameter) → IsThis t
       → Shape 0 12 (join (maybeList ts) (join (maybeThis (thisType t)) (join (listed l) u))) (((runsOpt 4 ts ⊕ thisRun false t) ⊕ runs 5 l) ⊕ runIn 0 u)
@@ -94,7 +94,7 @@ module _ (ts : Opt (List Placed)) (l : List Placed) (u : Placed) (each-type : Al
             ∙ skeleton-on (runsOpt 4 ts) this (thisRun false t ⊕ (runs 5 l ⊕ runIn 0 u)) (this-skeleton t ends ∙ skeleton-on (thisRun false t) ends (runs 5 l ⊕ runIn 0 u) ends-skeleton)
             ∙ ap skeleton (joined (runsOpt 4 ts) (thisRun false t) (runs 5 l) (runIn 0 u));
         choices-are =
-            sym (ap (λ (n : ℕ). 12 + 64 * n)
+            sym (ap (λ (n : ℕ). 12 + tags * n)
             (packed-maybeList 4 ts this each-type
             ∙ ap (λ (n : ℕ). optList (isThere ts) (count ts) + listScale (isThere ts) * n)
             (this-packed t ends h ∙ ap (λ (n : ℕ). thisBits t + thisScale (thisBits t) * n) ends-packed)));
@@ -110,7 +110,7 @@ module _ (ts : Opt (List Placed)) (l : List Placed) (u : Placed) (each-type : Al
             skeleton-maybeList 4 ts ends ∙ skeleton-on (runsOpt 4 ts) ends (runs 5 l ⊕ runIn 0 u) ends-skeleton
             ∙ ap skeleton (joined (runsOpt 4 ts) done (runs 5 l) (runIn 0 u));
         choices-are =
-            sym (ap (λ (n : ℕ). 13 + 64 * (unit isAbstract + 2 * n))
+            sym (ap (λ (n : ℕ). 13 + tags * (unit isAbstract + 2 * n))
             (packed-maybeList 4 ts ends each-type ∙ ap (λ (n : ℕ). optList (isThere ts) (count ts) + listScale (isThere ts) * n) ends-packed));
         allowed-is = tt;
       }

@@ -8,7 +8,7 @@ use Rattle.words.specs.Kind.{LParen, Question, Dot3, Abstract, New, This}
 use Rattle.words.specs.Test.{_and_, test}
 use Rattle.words.specs.Cursor.{firstByte}
 use Rattle.words.specs.Limits.{mostTokens}
-use Rattle.keys.specs.Limits.{recordWords}
+use Rattle.keys.specs.Limits.{recordWords, tags}
 use Rattle.keys.specs.Bits.{unit}
 use Rattle.keys.specs.Placed.{Placed, Spelling, Opt, absent, present}
 use Rattle.keys.specs.Store.{Run, done, _⊕_}
@@ -164,10 +164,10 @@ callChoices there many bits rest = newChoices there many (bits + thisScale bits 
 
 -- The choices of a function type, and of a constructor type.
 abbrev pub functionChoices : (there : Bool) (many bits params : ℕ) → ℕ
-functionChoices there many bits params = 12 + 64 * callChoices there many bits params
+functionChoices there many bits params = 12 + tags * callChoices there many bits params
 
 abbrev pub constructorChoices : (isAbstract there : Bool) (many params : ℕ) → ℕ
-constructorChoices isAbstract there many params = 13 + 64 * (unit isAbstract + 2 * newChoices there many params)
+constructorChoices isAbstract there many params = 13 + tags * (unit isAbstract + 2 * newChoices there many params)
 
 -- The node of a constructor type may be put, or a diagnostic be recorded before it.
 abbrev pub MayPutConstructor : (W N : List ℕ) (given : Given) (h : FunctionHead) (p : Params) → Type 0

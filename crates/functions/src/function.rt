@@ -20,7 +20,7 @@ ghost use Rattle.rules.specs.Function as rule;
 ghost use Rattle.marks.specs.State.{AnyGiven, view, givenOf, nextMark, Sound, Inside, Moved, Along, Stepped, Under, Reached, placeOf};
 ghost use Rattle.marks.specs.Says.{StartsBound};
 ghost use Rattle.marks.specs.List.{here, Separates};
-ghost use Rattle.marks.specs.Node.{listScale};
+ghost use Rattle.marks.specs.Node.{listChoices, listScale};
 ghost use Rattle.functions.specs.Function.{whyIf, whyNone, HeadIs, typeParameterHead, Opens, freedMark, beforeThis, behindThis, freedUsed, thisScale, newChoices, callChoices, functionChoices, constructorChoices, MakesFunction, LinksParams, MayPutConstructor, MayPutFunction, StartsParameter};
 ghost use Rattle.marks.specs.Names.{MayName, MayBind};
 use marks::names::bound;
@@ -374,7 +374,7 @@ pub fn this_kids(is_new: bool, before: Kids, after: Kids) -> Kids
 
 // How many numbers an optional list's choices can be.
 fn list_scale(there: bool) -> usize
-    ensures { λ r. ⌜ (r ≡ listScale there) × (r ≤ 8192) ⌝ }
+    ensures { λ r. ⌜ (r ≡ listScale there) × (r ≤ listChoices) ⌝ }
 {
     if there {
         return 2 * Count::ALL;
@@ -395,7 +395,7 @@ fn this_scale(bits: usize) -> usize
 // The choices of type parameters and what stands behind them, `rest`.
 pub fn new_choices(there: bool, count: usize, rest: usize) -> usize
     requires { ⌜ (count ≤ longest) × (rest < 2 ^ 32) ⌝ }
-    ensures { λ r. ⌜ (r ≡ newChoices there count rest) × (r ≤ 8191 + 8192 * rest) ⌝ }
+    ensures { λ r. ⌜ (r ≡ newChoices there count rest) × (r < listChoices + listChoices * rest) ⌝ }
 {
     opt_list(there, count) + list_scale(there) * rest
 }
@@ -403,7 +403,7 @@ pub fn new_choices(there: bool, count: usize, rest: usize) -> usize
 // The same with a `this` before what stands behind them.
 pub fn call_choices(there: bool, count: usize, this: usize, rest: usize) -> usize
     requires { ⌜ (count ≤ longest) × (this ≤ 3) × (rest < 2 ^ 30) ⌝ }
-    ensures { λ r. ⌜ (r ≡ callChoices there count this rest) × (r ≤ 8191 + 8192 * (3 + 4 * rest)) ⌝ }
+    ensures { λ r. ⌜ (r ≡ callChoices there count this rest) × (r < listChoices + listChoices * (3 + 4 * rest)) ⌝ }
 {
     new_choices(there, count, this + this_scale(this) * rest)
 }

@@ -37,9 +37,16 @@ edition = numbered newest
 abbrev pub countWidth : ℕ
 countWidth = countWide newest
 
+-- How many counts there are.
+abbrev pub counts : ℕ
+counts = 4096
+
 -- A count holds every length that a list may have, and no more.
 pub count-holds : 2 ^ countWidth ≡ suc most.longest
 count-holds = refl
+
+pub counts-are : 2 ^ countWidth ≡ counts
+counts-are = refl
 
 -- ---- The widths of other fields, in every edition
 
@@ -47,9 +54,15 @@ count-holds = refl
 abbrev pub lengthWidth : ℕ
 lengthWidth = 16
 
--- The width of a tag.
+-- The width of a tag, and how many tags there are.
 abbrev pub tagWide : ℕ
 tagWide = 6
+
+abbrev pub tags : ℕ
+tags = 64
+
+pub tags-are : 2 ^ tagWide ≡ tags
+tags-are = refl
 
 -- The width of a member's sort, which stands in the place of a tag.
 abbrev pub sortWide : ℕ

@@ -8,7 +8,7 @@ use borrow.Author.Tests.{lt-ltb, le-ltb, le-leb, lt-leb}
 use Rattle.words.specs.Limits.{tallest, longest}
 use Rattle.keys.specs.Form.{height}
 use Rattle.keys.specs.Key.{nodeTable}
-use Rattle.keys.specs.Limits.{tooTall, noRoom}
+use Rattle.keys.specs.Limits.{tooTall, noRoom, tags}
 use Rattle.keys.specs.Placed.{Placed, tree, bare, absent, present}
 use Rattle.keys.specs.Store.{Run, done, plant, firstKid}
 use Rattle.rules.specs.Refusal.{tooLong}
@@ -105,7 +105,7 @@ module _ (W : List ℕ) (given : code.Given) (b : Begin) (tag : ℕ) (k : Kids) 
   makes-long e h text B t p M O d n s =
       says-as e (says-refused 6 (make-long (givenOf text W given) (whole W given b tag k m N text tag p O) (view m O) (k .count) h))
 
-  pub makes-short : {a : Answer} {N' : List ℕ} → k .count ≤ longest → Makes W given b (tag + 64 * k .count) k m N a N' → MakesList W given b tag k m N a N'
+  pub makes-short : {a : Answer} {N' : List ℕ} → k .count ≤ longest → Makes W given b (tag + tags * k .count) k m N a N' → MakesList W given b tag k m N a N'
   makes-short h f text B t p M O d n s =
       says-same (make-short (givenOf text W given) (whole W given b tag k m N text tag p O) (view m O) (k .count) h) (f text 0 B t tag p M O d n s)
 

@@ -7,7 +7,7 @@ use native.Mathlib.Omega.{arith}
 use borrow.Author.Tests.{eq-eqb}
 use lib.Dec.{T, eqb, leb, leb·zero}
 use lib.ListN.{length}
-use Rattle.keys.specs.Limits.{countWidth}
+use Rattle.keys.specs.Limits.{countWidth, tags, counts}
 use Rattle.keys.specs.Form.{Form, child}
 use Rattle.keys.specs.Key.{nodeTable}
 use Rattle.keys.specs.Table.{list, opt, times, when}
@@ -17,7 +17,7 @@ use Rattle.keys.proofs.StoreLaws.{join-done, join-join, plant-join}
 use Rattle.rules.specs.List.{count}
 use Rattle.marks.specs.Laid.{skeleton, runIn, runOpt, runs, runsOpt, IsNode, node, IsOpt, AllNodes, AllOpt, allowed, Shape, optBit}
 use Rattle.marks.specs.Says.{isThere}
-use Rattle.marks.specs.Node.{optList, listScale}
+use Rattle.marks.specs.Node.{optList, listChoices, listScale}
 use Rattle.marks.proofs.RunLaws.{plant-entries}
 
 -- ---- What a type shows
@@ -46,14 +46,14 @@ packed-runs c (t ∷ l) r h =
 -- ---- What a list puts before a run: its entries, and its count as a choice
 
 module _ (c least : ℕ) (l : List Placed) (r : Run) (h : leb least (length l) ≡ true) where
-  list-run : plant nodeTable (list countWidth least (child c)) (listed l) r ≡ chose 12 (length l) (runs c l ⊕ r)
-  list-run = ap (λ (b : Bool). chose 12 (length l) (plant nodeTable (when b (times (length l) (child c))) (entries l) r)) h ∙ ap (chose 12 (length l)) (plant-entries c l r)
+  list-run : plant nodeTable (list countWidth least (child c)) (listed l) r ≡ chose countWidth (length l) (runs c l ⊕ r)
+  list-run = ap (λ (b : Bool). chose countWidth (length l) (plant nodeTable (when b (times (length l) (child c))) (entries l) r)) h ∙ ap (chose countWidth (length l)) (plant-entries c l r)
 
   pub skeleton-list : skeleton (plant nodeTable (list countWidth least (child c)) (listed l) r) ≡ skeleton (runs c l ⊕ r)
   skeleton-list = ap skeleton list-run
 
-  pub packed-list : AllNodes c l → packed (plant nodeTable (list countWidth least (child c)) (listed l) r) ≡ length l + 4096 * packed r
-  packed-list a = ap packed list-run ∙ ap (λ (n : ℕ). length l + 4096 * n) (packed-runs c l r a)
+  pub packed-list : AllNodes c l → packed (plant nodeTable (list countWidth least (child c)) (listed l) r) ≡ length l + counts * packed r
+  packed-list a = ap packed list-run ∙ ap (λ (n : ℕ). length l + counts * n) (packed-runs c l r a)
 
 -- ---- What a part that may be absent puts before a run
 
@@ -65,7 +65,7 @@ skeleton-maybeList c (present l) r = skeleton-list c 0 l r (leb·zero (length l)
 pub packed-maybeList : (c : ℕ) (ts : Opt (List Placed)) (r : Run) → AllOpt c ts
     → packed (plant nodeTable (opt (list countWidth 0 (child c))) (maybeList ts) r) ≡ optList (isThere ts) (count ts) + listScale (isThere ts) * packed r
 packed-maybeList c absent r h = omega arith
-packed-maybeList c (present l) r h = ap (λ (n : ℕ). 1 + 2 * n) (packed-list c 0 l r (leb·zero (length l)) h) ∙ (let e : 1 + 2 * (length l + 4096 * packed r) ≡ 1 + 2 * length l + 8192 * packed r = omega arith in e)
+packed-maybeList c (present l) r h = ap (λ (n : ℕ). 1 + 2 * n) (packed-list c 0 l r (leb·zero (length l)) h) ∙ (let e : 1 + 2 * (length l + counts * packed r) ≡ 1 + 2 * length l + listChoices * packed r = omega arith in e)
 
 -- ---- A type that may be absent
 
@@ -81,15 +81,15 @@ packed-maybe (present u) r h = ap (λ (n : ℕ). 1 + 2 * n) (packed-node r h)
 -- ---- A node whose one list are its children
 
 pub shape-list : (tag c least : ℕ) (l : List Placed) → nodeTable .row 0 tag ≡ list countWidth least (child c) → T (allowed 0 tag (listed l))
-    → leb least (length l) ≡ true → AllNodes c l → Shape 0 tag (listed l) (runs c l) (tag + 64 * length l)
+    → leb least (length l) ≡ true → AllNodes c l → Shape 0 tag (listed l) (runs c l) (tag + tags * length l)
 shape-list tag c least l e t h a =
     record {
       same =
           ap (λ (f : Form). skeleton (plant nodeTable f (listed l) done)) e ∙ skeleton-list c least l done h
           ∙ ap skeleton (join-done (runs c l));
       choices-are =
-          ap (λ (n : ℕ). tag + 64 * n)
-          ((let z : length l ≡ length l + 4096 * 0 = omega arith in z)
+          ap (λ (n : ℕ). tag + tags * n)
+          ((let z : length l ≡ length l + counts * 0 = omega arith in z)
           ∙ sym (packed-list c least l done h a) ∙ ap (λ (f : Form). packed (plant nodeTable f (listed l) done)) (sym e));
       allowed-is = t;
     }

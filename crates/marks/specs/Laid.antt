@@ -5,6 +5,7 @@ use mathlib.Core.List.{List, [], _∷_, _++_}
 use Prim.Native.Nat.{ℕ, zero, suc, _+_, _%_, _^_, _≤_, _<_, max}
 use lib.Dec.{T, eqb, ltb}
 use lib.ListN.{length, take}
+use Rattle.keys.specs.Limits.{tags}
 use Rattle.words.specs.Test.{_and_, _or_, between, among}
 use Rattle.keys.specs.Bits.{unit}
 use Rattle.keys.specs.Form.{child}
@@ -77,8 +78,8 @@ showsChosen tag p = eqb (packed (plant nodeTable (nodeTable .row 0 tag) p done))
 
 -- Whether a tag, of six bits, may stand in a class over what it holds: 20 to 22 are no types, 22 is a member, 2 and 15 show what they chose.
 abbrev pub allowed : ℕ → ℕ → Placed → Bool
-allowed zero tag p = (ltb tag 64 and not (between 20 22 tag)) and (not (among (2 ∷ 15 ∷ []) tag) or showsChosen tag p)
-allowed (suc c) tag p = ltb tag 64 and (not (eqb tag 22) or showsAsked p)
+allowed zero tag p = (ltb tag tags and not (between 20 22 tag)) and (not (among (2 ∷ 15 ∷ []) tag) or showsChosen tag p)
+allowed (suc c) tag p = ltb tag tags and (not (eqb tag 22) or showsAsked p)
 
 -- A tree that is a node of a class, with a first byte of 32 bits.
 pub data IsNode (c : ℕ) : Placed → Type 0 where

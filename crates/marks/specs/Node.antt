@@ -5,7 +5,7 @@ use mathlib.Core.List.{List, [], _∷_}
 use Prim.Native.Nat.{ℕ, _+_, _-_, _*_, _^_, _≤_, _<_}
 use lib.ListN.{length}
 use Rattle.words.specs.Limits.{mostTokens, tallest}
-use Rattle.keys.specs.Limits.{recordWords}
+use Rattle.keys.specs.Limits.{recordWords, tags, counts}
 use Rattle.keys.specs.Placed.{Placed, tree}
 use Rattle.keys.specs.Store.{Run, _⊕_}
 use Rattle.rules.specs.State.{make, end}
@@ -28,7 +28,7 @@ MayPut W N given b k m =
 -- The same of a node whose one list are its children.
 abbrev pub MayPutList : (W N : List ℕ) (given : Given) (b : Begin) (tag : ℕ) (k : Kids) (m : Mark) → Type 0
 MayPutList W N given b tag k m =
-    Sound W × (given .room * recordWords ≤ length N) × Fine (length W) given m × Under (m .used) k × (b .first < 2 ^ 32) × (b .name ≤ mostTokens) × (tag < 64)
+    Sound W × (given .room * recordWords ≤ length N) × Fine (length W) given m × Under (m .used) k × (b .first < 2 ^ 32) × (b .name ≤ mostTokens) × (tag < tags)
 
 -- The same of a node about the tree that was read last.
 abbrev pub MayPutAbout : (W N : List ℕ) (given : Given) (b : Begin) (high : ℕ) (m : Mark) → Type 0
@@ -56,7 +56,7 @@ Makes W given b choices k m N a N' =
 abbrev pub MakesList : (W : List ℕ) (given : Given) (b : Begin) (tag : ℕ) (k : Kids) (m : Mark) (N : List ℕ) (a : Answer) (N' : List ℕ) → Type 0
 MakesList W given b tag k m N a N' =
     (text : List ℕ) (B : Was) (t : Run) (p : Placed) (M O : List ℕ)
-    → BuiltAt B t k m N M O → b .name ≡ B .named → Shape 0 tag p t (tag + 64 * k .count)
+    → BuiltAt B t k m N M O → b .name ≡ B .named → Shape 0 tag p t (tag + tags * k .count)
     → Says 0 B (make (givenOf text W given) (k .count ∷ []) (tree tag (b .first) (end (givenOf text W given) (view m O)) p) (view m O)) a N' M O
 
 -- The same of a node whose one child is the tree that was read last.
@@ -75,16 +75,15 @@ Links k before used high N r N' =
 
 -- ---- Choices
 
--- How many counts a list can have.
-abbrev pub counts : ℕ
-counts = 4096
-
 -- An optional list as choices: its bit, and its count.
 abbrev pub optList : Bool → ℕ → ℕ
 optList true count = 1 + 2 * count
 optList false count = 0
 
--- How many numbers such choices can be.
+-- How many numbers such choices can be, with a list and without.
+abbrev pub listChoices : ℕ
+listChoices = 2 * counts
+
 abbrev pub listScale : Bool → ℕ
-listScale true = 2 * counts
+listScale true = listChoices
 listScale false = 2

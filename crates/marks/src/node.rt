@@ -6,7 +6,7 @@ ghost use Rattle.keys.specs.Bits.{unit};
 ghost use Rattle.words.specs.Limits.{tallest, longest};
 ghost use Rattle.keys.specs.Limits.{recordWords};
 ghost use Rattle.marks.specs.State.{Under};
-ghost use Rattle.marks.specs.Node.{Put, Makes, MakesList, Links, optList, MakesAbout, MayPut, MayPutAbout, MayPutList};
+ghost use Rattle.marks.specs.Node.{Put, Makes, MakesList, Links, optList, listChoices, MakesAbout, MayPut, MayPutAbout, MayPutList};
 use crate::refusal::Refusal;
 use crate::state::Answer;
 use crate::state::Begin;
@@ -167,7 +167,7 @@ pub fn put_about(
 pub fn opt_list(there: bool, count: usize) -> usize
     requires { ⌜ count ≤ longest ⌝ }
     ensures { λ r. ⌜ r ≡ optList there count ⌝ }
-    ensures { λ r. ⌜ r ≤ 8191 ⌝ }
+    ensures { λ r. ⌜ r < listChoices ⌝ }
 {
     if there {
         return 1 + 2 * count;

@@ -11,7 +11,7 @@ use Rattle.words.specs.Kind.{RBrack, Question, Colon, Comma}
 use Rattle.words.specs.Test.{_and_, _or_, between, among, test}
 use Rattle.words.specs.Cursor.{firstByte, endByte}
 use Rattle.keys.specs.Key.{nodeTable}
-use Rattle.keys.specs.Limits.{recordWords, halfWord}
+use Rattle.keys.specs.Limits.{recordWords, halfWord, tags}
 use Rattle.keys.specs.Holds.{wordAt, tagIn, afterTag, firstAt, endAt}
 use Rattle.keys.specs.Placed.{Placed, tree, Spelling, chosen, isLiteral, isNoIndex, firstOf, endOf}
 use Rattle.keys.specs.Store.{done, chose, plant, packed, _⊕_}
@@ -152,7 +152,7 @@ no-five i a b c d e = rw (ne-at 0 i a, ne-at 5 i b, ne-at 7 i c, ne-at 8 i d, ne
 pub chosen-is : (tag : ℕ) (p : Placed) → T (allowed 0 tag p) → among (2 ∷ 15 ∷ []) tag ≡ true → packed (plant nodeTable (nodeTable .row 0 tag) p done) ≡ chosen p
 chosen-is tag p h e =
     eqb-true (packed (plant nodeTable (nodeTable .row 0 tag) p done)) (chosen p)
-    (is-true (showsChosen tag p) (go (among (2 ∷ 15 ∷ []) tag) e (both-hold (ltb tag 64 and not (between 20 22 tag)) (not (among (2 ∷ 15 ∷ []) tag) or showsChosen tag p) h .1)))
+    (is-true (showsChosen tag p) (go (among (2 ∷ 15 ∷ []) tag) e (both-hold (ltb tag tags and not (between 20 22 tag)) (not (among (2 ∷ 15 ∷ []) tag) or showsChosen tag p) h .1)))
   where
     go : (b : Bool) → b ≡ true → T (not b or showsChosen tag p) → T (showsChosen tag p)
     go true z h = h
@@ -173,7 +173,7 @@ module _ {B : Was} (x : Spelling) (tag f e : ℕ) (p : Placed) {k : Kids} (m : M
   last-is = omega (arith, d .laid .used-is, d .first-is)
 
   -- Its word is its tag, and its choices above.
-  word-is : wordAt N (k .first) ≡ tag + 64 * behind
+  word-is : wordAt N (k .first) ≡ tag + tags * behind
   word-is = ap (λ (n : ℕ). getD N n 0) last-is ∙ last-word (x ∷ []) f e (chose 6 tag (plant nodeTable (nodeTable .row 0 tag) p done)) (d .laid) h some
 
   -- Its place is its first and its end byte.
@@ -186,13 +186,13 @@ module _ {B : Was} (x : Spelling) (tag f e : ℕ) (p : Placed) {k : Kids} (m : M
   tag-in : tagIn (wordAt N (k .first)) ≡ tag
   tag-in =
       let small = tag-below 0 tag p a in
-      ap (λ (n : ℕ). n % 64) word-is ∙ (let z : (tag + 64 * behind) % 64 ≡ tag = omega (arith, small) in z)
+      ap (λ (n : ℕ). n % tags) word-is ∙ (let z : (tag + tags * behind) % tags ≡ tag = omega (arith, small) in z)
 
   -- The choices above the tag.
   after-tag : afterTag (wordAt N (k .first)) ≡ behind
   after-tag =
       let small = tag-below 0 tag p a in
-      ap (λ (n : ℕ). n / 64) word-is ∙ (let z : (tag + 64 * behind) / 64 ≡ behind = omega (arith, small) in z)
+      ap (λ (n : ℕ). n / tags) word-is ∙ (let z : (tag + tags * behind) / tags ≡ behind = omega (arith, small) in z)
 
   -- Whether it is a literal.
   literal-is : literalWord (wordAt N (k .first)) ≡ isLiteral (tree tag f e p)

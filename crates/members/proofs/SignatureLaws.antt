@@ -10,7 +10,7 @@ use lib.ListN.{length}
 use Rattle.words.specs.Limits.{longest}
 use Rattle.words.specs.Test.{_or_, test}
 use Rattle.keys.specs.Bits.{unit}
-use Rattle.keys.specs.Limits.{countWidth}
+use Rattle.keys.specs.Limits.{countWidth, tags, counts}
 use Rattle.keys.specs.Form.{child}
 use Rattle.keys.specs.Key.{nodeTable}
 use Rattle.keys.specs.Table.{list, opt}
@@ -78,10 +78,10 @@ module _ (ts : Opt (List Placed)) (l : List Placed) (r : Opt Placed) (each-type 
   ends-skeleton = skeleton-list 5 0 l typed (leb·zero (length l)) ∙ skeleton-on (runs 5 l) typed (runOpt 0 r) (skeleton-maybe r done ∙ ap skeleton (join-done (runOpt 0 r)))
 
   -- Their choices.
-  ends-packed : packed ends ≡ length l + 4096 * optBit r
+  ends-packed : packed ends ≡ length l + counts * optBit r
   ends-packed =
       packed-list 5 0 l typed (leb·zero (length l)) each
-      ∙ ap (λ (n : ℕ). length l + 4096 * n) (packed-maybe r done is-opt ∙ (let e : optBit r + 2 * 0 ≡ optBit r = omega arith in e))
+      ∙ ap (λ (n : ℕ). length l + counts * n) (packed-maybe r done is-opt ∙ (let e : optBit r + 2 * 0 ≡ optBit r = omega arith in e))
 
   module _ (t : Opt ThisParameter) (is-this : IsThis t) where
     -- A `this` before them.
@@ -100,7 +100,7 @@ module _ (ts : Opt (List Placed)) (l : List Placed) (r : Opt Placed) (each-type 
         ∙ ap skeleton (joined (runsOpt 4 ts) (thisRun false t) (runs 5 l) (runOpt 0 r))
 
     -- Their choices.
-    signed-packed : packed signed ≡ callChoices (isThere ts) (count ts) (thisBits t) (length l + 4096 * optBit r)
+    signed-packed : packed signed ≡ callChoices (isThere ts) (count ts) (thisBits t) (length l + counts * optBit r)
     signed-packed =
         packed-maybeList 4 ts this each-type
         ∙ ap (λ (n : ℕ). optList (isThere ts) (count ts) + listScale (isThere ts) * n)
@@ -108,28 +108,28 @@ module _ (ts : Opt (List Placed)) (l : List Placed) (r : Opt Placed) (each-type 
 
     -- A call signature.
     pub shape-call : Shape 6 2 (signature ts (thisType t) l r) (((runsOpt 4 ts ⊕ thisRun false t) ⊕ runs 5 l) ⊕ runOpt 0 r)
-        (2 + 8 * callChoices (isThere ts) (count ts) (thisBits t) (length l + 4096 * optBit r))
+        (2 + 8 * callChoices (isThere ts) (count ts) (thisBits t) (length l + counts * optBit r))
     shape-call = record { same = signed-skeleton; choices-are = sym (ap (λ (n : ℕ). 2 + 8 * n) signed-packed); allowed-is = tt }
 
     -- A method.
     pub shape-method : (k : PropertyKey) (question : Bool)
         → Shape 6 1 (join (spellKey k) (join (bit question) (signature ts (thisType t) l r))) ((((namesRun (k .spelling ∷ []) ⊕ runsOpt 4 ts) ⊕ thisRun false t) ⊕ runs 5 l) ⊕ runOpt 0 r)
-        (1 + 8 * keyChoices (k .which) question + 64 * callChoices (isThere ts) (count ts) (thisBits t) (length l + 4096 * optBit r))
+        (1 + 8 * keyChoices (k .which) question + tags * callChoices (isThere ts) (count ts) (thisBits t) (length l + counts * optBit r))
     shape-method k question =
         record {
           same = ap (λ (x : Run). name (k .spelling .0) (k .spelling .1) x) signed-skeleton;
           choices-are =
-              above (k .which) (unit question) (callChoices (isThere ts) (count ts) (thisBits t) (length l + 4096 * optBit r))
+              above (k .which) (unit question) (callChoices (isThere ts) (count ts) (thisBits t) (length l + counts * optBit r))
               ∙ sym (ap (λ (n : ℕ). 1 + 8 * (k .which + 4 * (unit question + 2 * n))) signed-packed);
           allowed-is = tt;
         }
       where
-        above : (w u n : ℕ) → 1 + 8 * (w + 4 * u) + 64 * n ≡ 1 + 8 * (w + 4 * (u + 2 * n))
+        above : (w u n : ℕ) → 1 + 8 * (w + 4 * u) + tags * n ≡ 1 + 8 * (w + 4 * (u + 2 * n))
         above w u n = omega arith
 
   -- A construct signature.
   pub shape-construct : Shape 6 3 (join (maybeList ts) (join (listed l) (maybe r))) (((runsOpt 4 ts ⊕ done) ⊕ runs 5 l) ⊕ runOpt 0 r)
-      (3 + 8 * newChoices (isThere ts) (count ts) (length l + 4096 * optBit r))
+      (3 + 8 * newChoices (isThere ts) (count ts) (length l + counts * optBit r))
   shape-construct =
       record {
         same =
@@ -155,7 +155,7 @@ node-is b e ofConstruct ts ps r = refl
 
 -- The choices of a method, whose head is none of the other two's.
 method-choices : (head : ℕ) (there : Bool) (many bits params : ℕ) (isTyped : Bool) → eqb head 3 ≡ false → eqb head 2 ≡ false
-    → signatureChoices head there many bits params isTyped ≡ head + 64 * callChoices there many bits (afterThis params isTyped)
+    → signatureChoices head there many bits params isTyped ≡ head + tags * callChoices there many bits (afterThis params isTyped)
 method-choices head there many bits params isTyped a b = rw (a, b)
 
 -- The shape of any signature.
@@ -164,7 +164,7 @@ pub shape-signature : (x : Signature) (ts : Opt (List Placed)) (ps : Parameters)
     (signatureChoices (signatureHead x) (isThere ts) (count ts) (thisBits (ps .this)) (length (ps .list)) isTyped)
 shape-signature (ofMethod k question) ts ps r isTyped e a b c d =
     subst (Shape 6 1 (holds (ofMethod k question) ts ps r) ((((namesRun (k .spelling ∷ []) ⊕ runsOpt 4 ts) ⊕ thisRun false (ps .this)) ⊕ runs 5 (ps .list)) ⊕ runOpt 0 r))
-    (ap (λ (n : ℕ). 1 + 8 * keyChoices (k .which) question + 64 * callChoices (isThere ts) (count ts) (thisBits (ps .this)) (length (ps .list) + 4096 * n)) (sym e)
+    (ap (λ (n : ℕ). 1 + 8 * keyChoices (k .which) question + tags * callChoices (isThere ts) (count ts) (thisBits (ps .this)) (length (ps .list) + counts * n)) (sym e)
     ∙ sym (method-choices (1 + 8 * keyChoices (k .which) question) (isThere ts) (count ts) (thisBits (ps .this)) (length (ps .list)) isTyped (ne-eqb (1 + 8 * keyChoices (k .which) question) 3 (λ z. omega arith)) (ne-eqb (1 + 8 * keyChoices (k .which) question) 2 (λ z. omega arith))))
     (shape-method ts (ps .list) r a c d (ps .this) b k question)
 shape-signature ofCall ts ps r isTyped e a b c d = rw e (shape-call ts (ps .list) r a c d (ps .this) b)

@@ -9,7 +9,7 @@ use Rattle.words.specs.Test.{_and_, _or_, test, among}
 use Rattle.words.specs.Kind.{RBrack, Question, Colon, Comma}
 use Rattle.words.specs.Cursor.{kindAt, firstByte, endByte}
 use Rattle.keys.specs.Bits.{unit}
-use Rattle.keys.specs.Limits.{recordWords}
+use Rattle.keys.specs.Limits.{recordWords, tags, counts}
 use Rattle.keys.specs.Holds.{tagIn, afterTag}
 use Rattle.keys.specs.Placed.{Placed, tree, Spelling, PropertyKey, Opt, absent, present}
 use Rattle.keys.specs.Store.{Run, done, _⊕_}
@@ -156,14 +156,14 @@ NotesThis given isNew this m O a O' =
 
 -- What stands behind the `this` of a signature, or behind its type parameters if it is a construct signature's: parameters, and the bit of its type.
 abbrev pub afterThis : (params : ℕ) (typed : Bool) → ℕ
-afterThis params typed = params + 4096 * unit typed
+afterThis params typed = params + counts * unit typed
 
 -- The choices of a signature, by those of its head.
 abbrev pub signatureChoices : (head : ℕ) (there : Bool) (many bits params : ℕ) (typed : Bool) → ℕ
 signatureChoices head there many bits params typed =
     test (eqb head 3) (λ _. head + 8 * newChoices there many (afterThis params typed)) λ _.
     test (eqb head 2) (λ _. head + 8 * callChoices there many bits (afterThis params typed)) λ _.
-    head + 64 * callChoices there many bits (afterThis params typed)
+    head + tags * callChoices there many bits (afterThis params typed)
 
 -- All parts of a signature that stand since B, and the node that the rules make of them at the member's end.
 abbrev pub MakesSignature : (W : List ℕ) → Given → Begin → (head : ℕ) → (there : Bool) → (many : ℕ) → Params → (typed : Bool) → Mark → (N : List ℕ) → Answer → (N' : List ℕ) → Type 0

@@ -8,6 +8,7 @@ use native.Mathlib.Omega.{arith}
 use borrow.Author.Tests.{eq-eqb, ne-eqb}
 use lib.Dec.{eqb}
 use lib.ListN.{length}
+use Rattle.keys.specs.Limits.{tags}
 use Rattle.words.specs.Test.{test, among}
 use Rattle.words.specs.Kind.{KeyOf, Unique, Readonly, Eof, LAngle, Eq, LtEq, ShiftLeft, ShiftLeftEq}
 use Rattle.words.specs.Word.{start}
@@ -140,13 +141,13 @@ operators-last : (g : Given) (from i : ℕ) (x : Result Placed) → i ≤ from �
 operators-last g from i x h = ap (λ (j : ℕ). operatorsAbout g from j x) (let z : i - from ≡ 0 = omega arith in z) ∙ operators-none g from x
 
 -- A prefix's choice and child.
-operator-shape : (k : ℕ) {t : Placed} → IsNode 0 t → Shape 0 11 (join (number k) t) (runIn 0 t) (11 + 64 * k)
+operator-shape : (k : ℕ) {t : Placed} → IsNode 0 t → Shape 0 11 (join (number k) t) (runIn 0 t) (11 + tags * k)
 operator-shape k (isNode a) = record { same = refl; choices-are = omega arith; allowed-is = tt }
 
 -- The node of a prefix about what stands is what the rules make.
 pub operator-made : (W : List ℕ) (given : Code) (b : Begin) (choices high k i : ℕ) (p : Mark) (N : List ℕ) (a : Answer) (N' : List ℕ)
     → Makes W given b choices (record { first = p .used - 1; count = 1; high = high }) p N a N'
-    → b .first ≡ start (wordAt W i) → choices ≡ 11 + 64 * k → k ≡ position (wholeKind W i) operators
+    → b .first ≡ start (wordAt W i) → choices ≡ 11 + tags * k → k ≡ position (wholeKind W i) operators
     → (text : List ℕ) (B : Was) (t : Placed) (M O : List ℕ) → Stands 0 B t high p N M O → b .name ≡ B .named
     → Says 0 B (operatorAbout (givenOf text W given) i (read t (view p O))) a N' M O
 operator-made W given b choices high k i p N a N' f z e n text B t M O w m =

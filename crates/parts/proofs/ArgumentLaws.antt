@@ -8,6 +8,7 @@ use native.Mathlib.Omega.{arith}
 use borrow.Author.Tests.{eq-eqb, ne-eqb, lt-ltb, le-ltb}
 use lib.Dec.{eqb}
 use lib.ListN.{length}
+use Rattle.keys.specs.Limits.{tags, counts}
 use Rattle.words.specs.Limits.{longest}
 use Rattle.words.specs.Test.{_and_, test, among}
 use Rattle.words.specs.Kind.{LParen, RParen, Str, Comma, LAngle, ShiftLeft, LtEq, ShiftLeftEq, Import, Typeof}
@@ -109,7 +110,7 @@ counted a b n e = omega arith
 -- Names with dots between were read: a reference's or a typeof's.
 pub reference-read : (g : rule.Given) (s : State) (choices : ℕ) (make : List Spelling → Naming) (m q : Mark) {M M' O : List ℕ} → Dotted choices make
     → GotNames (λ k. k) Any (dotted g s) m q M M' O
-    → SaysNames namesOf (NamingIs (record { why = 0; choices = choices; scale = 64; count = q .named - m .named; m = q })) (dottedHead g make s) 0 m q M M' O
+    → SaysNames namesOf (NamingIs (record { why = 0; choices = choices; scale = tags; count = q .named - m .named; m = q })) (dottedHead g make s) 0 m q M M' O
 reference-read g s choices make m q {M} {M'} d v =
     names-read
     (record {
@@ -125,7 +126,7 @@ reference-read g s choices make m q {M} {M'} d v =
     })
 
 -- An import's source was read, and its names.
-pub import-read : (g : rule.Given) (s : State) (isTypeof : Bool) (choices : ℕ) (m p q : Mark) {M M' M'' O : List ℕ} → choices ≡ 18 + 64 * unit isTypeof
+pub import-read : (g : rule.Given) (s : State) (isTypeof : Bool) (choices : ℕ) (m p q : Mark) {M M' M'' O : List ℕ} → choices ≡ 18 + tags * unit isTypeof
     → GotNames one Any (importSource g s) m p M M' O → GotDots [] (dotsFrom g (turns g) [] (view p O)) p q M' M'' O
     → SaysNames namesOf (NamingIs (record { why = 0; choices = choices; scale = 128; count = q .named - p .named; m = q })) (importHead g isTypeof s) 0 m q M M'' O
 import-read g s isTypeof choices m p q e v w =
@@ -199,13 +200,13 @@ product-small a b h i = let e : a * b ≤ 128 * 33554431 = mul-le-mul h i in ome
 
 -- The node of names and arguments that stand is what the rules make.
 pub named-made : (W : List ℕ) (given : Given) (b : Begin) (n : Named) (l : Listed) (opt : ℕ) (N : List ℕ) (a : Answer) (N' : List ℕ)
-    → Makes W given b (n .choices + n .scale * (n .count + 4096 * opt)) (l .kids) (l .m) N a N'
+    → Makes W given b (n .choices + n .scale * (n .count + counts * opt)) (l .kids) (l .m) N a N'
     → opt ≡ optList (l .there) (l .kids .count) → n .count ≤ longest → l .kids .count ≤ longest
     → (text : List ℕ) (B : Was) (x : Naming) (ts : Opt (List Placed)) (M O : List ℕ)
     → BuiltAt B (namesRun (namesOf x) ⊕ runsOpt 0 ts) (l .kids) (l .m) N M O → b .name ≡ B .named → NamingIs n x
     → l .there ≡ isThere ts → l .kids .count ≡ count ts → AllOpt 0 ts
     → Says 0 B (make (givenOf text W given) (nameCount x ∷ count ts ∷ []) (namedNode (b .first) (end (givenOf text W given) (view (l .m) O)) x ts) (view (l .m) O)) a N' M O
-named-made W given b n l opt N a N' f o h i text B x ts M O built m is there counts nodes =
+named-made W given b n l opt N a N' f o h i text B x ts M O built m is there many nodes =
     says-same
     (lists-short g (nameCount x) (count ts) (namedNode (b .first) (end g s) x ts) s (omega (arith, is .count)) (omega arith)
     ∙ ap (λ (t : Placed). make g [] t s) (named-tree (b .first) (end g s) x ts))
@@ -218,7 +219,7 @@ named-made W given b n l opt N a N' f o h i text B x ts M O built m is there cou
     s : State
     s = view (l .m) O
 
-    choices : n .choices + n .scale * (n .count + 4096 * opt) ≡ nameChoices x + nameScale x * (nameCount x + 4096 * optList (isThere ts) (count ts))
+    choices : n .choices + n .scale * (n .count + counts * opt) ≡ nameChoices x + nameScale x * (nameCount x + counts * optList (isThere ts) (count ts))
     choices =
-        ap₂ (λ (c d : ℕ). c + d * (n .count + 4096 * opt)) (is .choices) (is .scale)
-        ∙ ap₂ (λ (c d : ℕ). nameChoices x + nameScale x * (c + 4096 * d)) (is .count) (o ∙ ap₂ optList there counts)
+        ap₂ (λ (c d : ℕ). c + d * (n .count + counts * opt)) (is .choices) (is .scale)
+        ∙ ap₂ (λ (c d : ℕ). nameChoices x + nameScale x * (c + counts * d)) (is .count) (o ∙ ap₂ optList there many)

@@ -11,7 +11,7 @@ use Rattle.words.specs.Test.{test}
 use Rattle.keys.specs.Placed as node
 use Rattle.keys.specs.Form.{Form, right}
 use Rattle.keys.specs.Key.{nodeTable}
-use Rattle.keys.specs.Limits.{countWidth}
+use Rattle.keys.specs.Limits.{countWidth, counts}
 use Rattle.keys.specs.Table.{opt, args, when, times, spelling as spellingForm}
 use Rattle.keys.specs.Placed.{Placed, tree, join, bit, spell, spellings, entries, listedNames, maybeList, Spelling, Opt}
 use Rattle.keys.specs.Store.{Run, done, name, plant, packed, _⊕_}
@@ -160,7 +160,7 @@ listed-packed f l ts h = ap packed (plant-spellings f l (argued ts)) ∙ packed-
 
 -- Its names, children and choices.
 pub named-shape : (x : Naming) (ts : Opt (List Placed)) → AllOpt 0 ts
-    → Shape 0 (nameTag x) (nameContent x ts) (namesRun (namesOf x) ⊕ runsOpt 0 ts) (nameChoices x + nameScale x * (nameCount x + 4096 * optList (isThere ts) (count ts)))
+    → Shape 0 (nameTag x) (nameContent x ts) (namesRun (namesOf x) ⊕ runsOpt 0 ts) (nameChoices x + nameScale x * (nameCount x + counts * optList (isThere ts) (count ts)))
 named-shape (reference l) ts h =
     record { same = listed-same _ l ts; choices-are = omega (arith, listed-packed (when (leb 1 (length (spellings l))) (times (length (spellings l)) spellingForm)) l ts h, length-spellings l); allowed-is = tt }
 named-shape (typeof l) ts h =

@@ -7,7 +7,7 @@ use lib.ListN.{length}
 use Rattle.words.specs.Kind.{LParen, RParen, Str, Comma, Import, Typeof}
 use Rattle.words.specs.Test.{test}
 use Rattle.words.specs.Limits.{mostTokens}
-use Rattle.keys.specs.Limits.{recordWords}
+use Rattle.keys.specs.Limits.{recordWords, tags}
 use Rattle.keys.specs.Bits.{unit}
 use Rattle.keys.specs.Placed as node
 use Rattle.keys.specs.Placed.{Placed, Spelling, Opt}
@@ -48,11 +48,11 @@ nameCount (import b x l) = length l
 abbrev pub nameChoices : Naming → ℕ
 nameChoices (reference l) = 1
 nameChoices (typeof l) = 17
-nameChoices (import b x l) = 18 + 64 * unit b
+nameChoices (import b x l) = 18 + tags * unit b
 
 abbrev pub nameScale : Naming → ℕ
-nameScale (reference l) = 64
-nameScale (typeof l) = 64
+nameScale (reference l) = tags
+nameScale (typeof l) = tags
 nameScale (import b x l) = 128
 
 -- The node of it and its arguments.
@@ -103,7 +103,7 @@ pub record NamingIs (n : Named) (x : Naming) : Type 0 where
 pub record Dotted (choices : ℕ) (make : List Spelling → Naming) : Type 0 where
   pub names-are : (l : List Spelling) → namesOf (make l) ≡ l
   pub choices-are : (l : List Spelling) → nameChoices (make l) ≡ choices
-  pub scale-is : (l : List Spelling) → nameScale (make l) ≡ 64
+  pub scale-is : (l : List Spelling) → nameScale (make l) ≡ tags
   pub count-is : (l : List Spelling) → nameCount (make l) ≡ length l
 
 -- Names with dots from a mark on, by any such maker: what the rules read, from any text that is spelled so.
@@ -115,7 +115,7 @@ StartsDotted W choices m M n M' =
 -- The same of an import after its word, by whether a typeof stood before it.
 abbrev pub StartsImport : (W : List ℕ) (choices : ℕ) (m : Mark) (M : List ℕ) (n : Named) (M' : List ℕ) → Type 0
 StartsImport W choices m M n M' =
-    (text O : List ℕ) (given : Given) (isTypeof : Bool) → choices ≡ 18 + 64 * unit isTypeof → Spelt text W
+    (text O : List ℕ) (given : Given) (isTypeof : Bool) → choices ≡ 18 + tags * unit isTypeof → Spelt text W
     → SaysNames namesOf (NamingIs n) (importHead (givenOf text W given) isTypeof (view m O)) (n .why) m (n .m) M M' O
 
 -- They are small.

@@ -2,6 +2,7 @@
 use mathlib.Core.Path.{_≡_}
 use mathlib.Core.List.{List, []}
 use Prim.Native.Nat.{ℕ, _+_, _*_}
+use Rattle.keys.specs.Limits.{tags}
 use Rattle.words.specs.Kind.{RCurly, LBrack, RBrack, Question, Semicolon, In, Readonly}
 use Rattle.keys.specs.Placed.{Placed, tree, Spelling}
 use Rattle.keys.specs.Store.{Run}
@@ -40,7 +41,7 @@ mappedMiddle g s = expect g RBrack s λ q. modifier g Question q
 
 -- The choices of a mapped type: readonly, the bit of its name type, `?`, the bit of its type.
 abbrev pub mappedChoices : (readonly named question typed : ℕ) → ℕ
-mappedChoices readonly named question typed = 14 + 64 * (readonly + 4 * (named + 2 * (question + 4 * typed)))
+mappedChoices readonly named question typed = 14 + tags * (readonly + 4 * (named + 2 * (question + 4 * typed)))
 
 -- A node that ends with a mark due here, which a semicolon may stand before if it is a mapped type's.
 abbrev pub MakesClosed : (close : rule.Given → State → (State → Result Placed) → Result Placed) (W : List ℕ) (given : Given) (b : Begin) (choices : ℕ) (k : Kids) (m : Mark) (N : List ℕ) (a : Answer) (N' : List ℕ) → Type 0

@@ -7,6 +7,7 @@ use native.Mathlib.Omega.{arith}
 use lib.ListN.{length}
 use lib.Dec.{eqb}
 use borrow.Author.Tests.{eq-eqb, ne-eqb, eqb-true, lt-leb, le-leb}
+use Rattle.keys.specs.Limits.{tags}
 use Rattle.words.specs.Test.{_and_, _or_, between, among}
 use Rattle.words.specs.Cursor.{wholeKind, kindAt, sameLine}
 use Rattle.words.specs.Class as class
@@ -320,14 +321,14 @@ module _ (g : Given) (b : ℕ) (t : Placed) (s : State) (e : stands g RParen s �
 
 -- ---- Shapes
 
-pub shape-keyword : (k : ℕ) → Shape 0 2 (number k) done (2 + 64 * k)
+pub shape-keyword : (k : ℕ) → Shape 0 2 (number k) done (2 + tags * k)
 shape-keyword k = record { same = refl; choices-are = omega arith; allowed-is = shows (packed (plant nodeTable (nodeTable .row 0 2) (number k) done)) k (omega arith) }
 
 -- A literal that is spelled, and true or false.
-pub shape-literal : (k : ℕ) (s : Spelling) → Shape 0 3 (pick k (literalSpelling (present s))) (nameRun s) (3 + 64 * k)
+pub shape-literal : (k : ℕ) (s : Spelling) → Shape 0 3 (pick k (literalSpelling (present s))) (nameRun s) (3 + tags * k)
 shape-literal k s = record { same = refl; choices-are = omega arith; allowed-is = tt }
 
-pub shape-truth : (k : ℕ) → Shape 0 3 (pick k (literalSpelling absent)) done (3 + 64 * k)
+pub shape-truth : (k : ℕ) → Shape 0 3 (pick k (literalSpelling absent)) done (3 + tags * k)
 shape-truth k = record { same = refl; choices-are = omega arith; allowed-is = tt }
 
 pub shape-parens : {u : Placed} → IsNode 0 u → Shape 0 4 u (runIn 0 u) 4

@@ -5,6 +5,7 @@ use mathlib.Core.List.{List, [], _∷_, _++_}
 use Prim.Native.Nat.{ℕ, suc, _+_, _*_}
 use native.Mathlib.Omega.{arith}
 use lib.ListN.{length}
+use Rattle.keys.specs.Limits.{tags, counts}
 use Rattle.keys.specs.Bits.{unit}
 use Rattle.keys.specs.Key.{nodeTable}
 use Rattle.keys.specs.Table.{times, type, spelling, _⊗_}
@@ -22,10 +23,10 @@ pub shape-conditional : {a b c d : Placed} → IsNode 0 a → IsNode 0 b → IsN
     → Shape 0 9 (join a (join b (join c d))) (((runIn 0 a ⊕ runIn 0 b) ⊕ runIn 0 c) ⊕ runIn 0 d) 9
 shape-conditional (node w) (node x) (node y) (node z) = record { same = refl; choices-are = refl; allowed-is = tt }
 
-pub shape-union : (t : Placed) (l : List Placed) → AllNodes 0 (t ∷ l) → Shape 0 5 (listed (t ∷ l)) (runs 0 (t ∷ l)) (5 + 64 * length (t ∷ l))
+pub shape-union : (t : Placed) (l : List Placed) → AllNodes 0 (t ∷ l) → Shape 0 5 (listed (t ∷ l)) (runs 0 (t ∷ l)) (5 + tags * length (t ∷ l))
 shape-union t l h = shape-list 5 0 1 (t ∷ l) refl tt (le-leb 1 (length (t ∷ l)) (omega arith)) h
 
-pub shape-intersection : (t : Placed) (l : List Placed) → AllNodes 0 (t ∷ l) → Shape 0 6 (listed (t ∷ l)) (runs 0 (t ∷ l)) (6 + 64 * length (t ∷ l))
+pub shape-intersection : (t : Placed) (l : List Placed) → AllNodes 0 (t ∷ l) → Shape 0 6 (listed (t ∷ l)) (runs 0 (t ∷ l)) (6 + tags * length (t ∷ l))
 shape-intersection t l h = shape-list 6 0 1 (t ∷ l) refl tt (le-leb 1 (length (t ∷ l)) (omega arith)) h
 
 -- Whether the subject of a predicate is this.
@@ -82,13 +83,13 @@ plant-pieces (p ∷ l) h = by (h .0) (plant-pieces l (h .1))
         (ap (λ (x : Run). Rattle.keys.specs.Store.kid f e (Rattle.keys.specs.Store.chose 6 tag (plant nodeTable (nodeTable .row 0 tag) q done)) (name (p .1 .0) (p .1 .1) x)) (r .0), r .1)
 
 pub shape-template : (s : Spelling) (l : List (Placed × Spelling)) → AllPieces l
-    → Shape 0 15 (pick (length l) (join (spell s) (entries (pieces l)))) (nameRun s ⊕ pieceRuns l) (15 + 64 * length l)
+    → Shape 0 15 (pick (length l) (join (spell s) (entries (pieces l)))) (nameRun s ⊕ pieceRuns l) (15 + tags * length l)
 shape-template s l h =
     let b = plant-pieces l h in
     record {
       same = ap (name (s .0) (s .1)) (b .0);
       choices-are =
-          (let z : 15 + 64 * length l ≡ 15 + 64 * (length l + 4096 * 0) = omega arith in z)
-          ∙ ap (λ (n : ℕ). 15 + 64 * (length l + 4096 * n)) (sym (b .1));
+          (let z : 15 + tags * length l ≡ 15 + tags * (length l + counts * 0) = omega arith in z)
+          ∙ ap (λ (n : ℕ). 15 + tags * (length l + counts * n)) (sym (b .1));
       allowed-is = shows (packed (plant nodeTable (nodeTable .row 0 15) (pick (length l) (join (spell s) (entries (pieces l)))) done)) (length l) (omega (arith, b .1));
     }

@@ -8,7 +8,7 @@ use Rattle.words.specs.Limits.{mostTokens}
 use Rattle.words.specs.Kind.{RParen, Minus, Str, NumberLiteral, BigIntLiteral, NoSubstitutionTemplate}
 use Rattle.words.specs.Test.{_or_, test, among}
 use Rattle.keys.specs.Bits.{unit}
-use Rattle.keys.specs.Limits.{recordWords}
+use Rattle.keys.specs.Limits.{recordWords, tags}
 use Rattle.keys.specs.Placed as node
 use Rattle.keys.specs.Placed.{Placed, tree, present}
 use Rattle.rules.specs.State as rule
@@ -48,11 +48,11 @@ SpeaksSubject from W m M q M' = (text O : List ℕ) (given : Given) → Spelt te
 
 -- The choices of a predicate up to its type.
 abbrev pub predicateChoices : (asserts isThis : Bool) → ℕ
-predicateChoices asserts isThis = 16 + 64 * (unit asserts + 2 * unit isThis)
+predicateChoices asserts isThis = 16 + tags * (unit asserts + 2 * unit isThis)
 
 -- The choices of a literal that is spelled, or of a template with no type.
 abbrev pub literalChoices : ℕ → ℕ
-literalChoices k = test (among (Str ∷ NumberLiteral ∷ BigIntLiteral ∷ []) k) (λ _. 3 + 64 * position k primary.literals) (λ _. 15)
+literalChoices k = test (among (Str ∷ NumberLiteral ∷ BigIntLiteral ∷ []) k) (λ _. 3 + tags * position k primary.literals) (λ _. 15)
 
 -- A node of the token at m may be put.
 abbrev pub MayPutToken : (W N : List ℕ) (given : Given) (m : Mark) → Type 0

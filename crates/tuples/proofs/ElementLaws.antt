@@ -11,7 +11,7 @@ use lib.ListN.{length, take, drop, getD, set, length-append}
 use lib.Seq.{getD-take, getD-drop, getD-at, getD-append-add, take-set-lt, set-at, length-take-le}
 use Rattle.words.specs.Test.{_and_, _or_, between, among}
 use Rattle.keys.specs.Bits.{unit}
-use Rattle.keys.specs.Limits.{countWidth, recordWords, halfWord}
+use Rattle.keys.specs.Limits.{countWidth, recordWords, halfWord, tags}
 use Rattle.keys.specs.Form.{Form, never, height}
 use Rattle.keys.specs.Key.{nodeTable}
 use Rattle.keys.specs.Table.{rows, type, underRest, namedRow}
@@ -34,8 +34,8 @@ both-hold true b h = (tt, h)
 both-hold false b h = absurd h
 
 -- The tag of a type.
-type-tag : (tag : ℕ) (p : Placed) → T (allowed 0 tag p) → T (ltb tag 64 and not (between 20 22 tag))
-type-tag tag p h = both-hold (ltb tag 64 and not (between 20 22 tag)) (not (among (2 ∷ 15 ∷ []) tag) or showsChosen tag p) h .0
+type-tag : (tag : ℕ) (p : Placed) → T (allowed 0 tag p) → T (ltb tag tags and not (between 20 22 tag))
+type-tag tag p h = both-hold (ltb tag tags and not (between 20 22 tag)) (not (among (2 ∷ 15 ∷ []) tag) or showsChosen tag p) h .0
 
 pub is-true : (b : Bool) → T b → b ≡ true
 is-true true h = refl
@@ -70,7 +70,7 @@ module _ (tag first end : ℕ) (p : Placed) (h : T (allowed 0 tag p)) where
   as-run f = kid first end (chose 6 tag (plant nodeTable f p done)) done
 
   outside : T (not (between 20 22 tag))
-  outside = both-hold (ltb tag 64) (not (between 20 22 tag)) (type-tag tag p h) .1
+  outside = both-hold (ltb tag tags) (not (between 20 22 tag)) (type-tag tag p h) .1
 
   same-one : runIn 1 (tree tag first end p) ≡ runIn 0 (tree tag first end p)
   same-one = ap as-run (rows-same type underRest namedRow never never never tag outside)
@@ -102,13 +102,13 @@ element-named (is-node {tag = tag} {first = f} {end = e} {p = p} a) = by (eqb ta
 -- ---- What a type is as an element
 
 -- A tag has six bits.
-pub tag-below : (c tag : ℕ) (p : Placed) → T (allowed c tag p) → tag < 64
-tag-below zero tag p h = ltb-true tag 64 (is-true (ltb tag 64) (both-hold (ltb tag 64) (not (between 20 22 tag)) (type-tag tag p h) .0))
-tag-below (suc c) tag p h = ltb-true tag 64 (is-true (ltb tag 64) (both-hold (ltb tag 64) (not (eqb tag 22) or showsAsked p) h .0))
+pub tag-below : (c tag : ℕ) (p : Placed) → T (allowed c tag p) → tag < tags
+tag-below zero tag p h = ltb-true tag tags (is-true (ltb tag tags) (both-hold (ltb tag tags) (not (between 20 22 tag)) (type-tag tag p h) .0))
+tag-below (suc c) tag p h = ltb-true tag tags (is-true (ltb tag tags) (both-hold (ltb tag tags) (not (eqb tag 22) or showsAsked p) h .0))
 
 -- A type may stand as an element.
 allowed-more : (tag : ℕ) (p : Placed) → T (allowed 0 tag p) → T (allowed 1 tag p)
-allowed-more tag p h = by (ltb tag 64) (eqb tag 22) (λ e. eqb-true tag 22 e) (type-tag tag p h)
+allowed-more tag p h = by (ltb tag tags) (eqb tag 22) (λ e. eqb-true tag 22 e) (type-tag tag p h)
   where
     by : (a b : Bool) → (b ≡ true → tag ≡ 22) → T (a and not (between 20 22 tag)) → T (a and (not b or showsAsked p))
     by false b i u = absurd u
@@ -201,14 +201,14 @@ last-set {B} ss f e w k j r {used} {named} {noted} {N} {M} {O} d h some =
 
 -- The tag of the node that was read last.
 pub last-tag : {B : Was} (ss : List Spelling) (c tag f e : ℕ) (p : Placed) {used named noted : ℕ} {N M O : List ℕ} → Laid B (namesRun ss ⊕ runIn c (tree tag f e p)) used named noted N M O
-    → nodeTable .tagWidth c ≡ 6 → tag < 64 → used * 4 ≤ length N → 1 ≤ used → lastWord N used % 64 ≡ tag
+    → nodeTable .tagWidth c ≡ 6 → tag < tags → used * 4 ≤ length N → 1 ≤ used → lastWord N used % tags ≡ tag
 last-tag ss c tag f e p d w b h some =
-    ap (λ (x : ℕ). x % 64) (last-word ss f e (chose (nodeTable .tagWidth c) tag (plant nodeTable (nodeTable .row c tag) p done)) d h some) ∙ ap (λ (i : ℕ). (tag + 2 ^ i * packed (plant nodeTable (nodeTable .row c tag) p done)) % 64) w
-    ∙ (let z : (tag + 64 * packed (plant nodeTable (nodeTable .row c tag) p done)) % 64 ≡ tag = omega arith in z)
+    ap (λ (x : ℕ). x % tags) (last-word ss f e (chose (nodeTable .tagWidth c) tag (plant nodeTable (nodeTable .row c tag) p done)) d h some) ∙ ap (λ (i : ℕ). (tag + 2 ^ i * packed (plant nodeTable (nodeTable .row c tag) p done)) % tags) w
+    ∙ (let z : (tag + tags * packed (plant nodeTable (nodeTable .row c tag) p done)) % tags ≡ tag = omega arith in z)
 
 module _ (used : ℕ) (N : List ℕ) (h : used * 4 ≤ length N) (some : 1 ≤ used) where
   -- No `?` node stands last: nothing changes.
-  pub converts-none : (lastWord N used % 64 ≡ 24 → ⊥) → Converts used N false N
+  pub converts-none : (lastWord N used % tags ≡ 24 → ⊥) → Converts used N false N
   converts-none n B ss t named noted M O i d = by i d
     where
       by : {t : Placed} → IsNode 0 t → Laid B (namesRun ss ⊕ runIn 0 t) used named noted N M O → (false ≡ isAsked t) × Laid B (namesRun ss ⊕ runIn 1 (asElement t)) used named noted N M O
@@ -220,15 +220,15 @@ module _ (used : ℕ) (N : List ℕ) (h : used * 4 ≤ length N) (some : 1 ≤ u
           )
 
   -- One stands last: its tag is set.
-  pub converts-one : lastWord N used % 64 ≡ 24 → Converts used N true (set N (used * 4 - 4) (lastWord N used - 4))
+  pub converts-one : lastWord N used % tags ≡ 24 → Converts used N true (set N (used * 4 - 4) (lastWord N used - 4))
   converts-one y B ss t named noted M O i d = by i d
     where
       set-tag : (f e : ℕ) (p : Placed) → Laid B (namesRun ss ⊕ runIn 0 (tree 24 f e p)) used named noted N M O
           → Laid B (namesRun ss ⊕ runIn 1 (tree 20 f e p)) used named noted (set N (used * 4 - 4) (lastWord N used - 4)) M O
       set-tag f e p d =
           let x : ℕ = packed (plant nodeTable type p done) in
-          let word : lastWord N used ≡ 24 + 64 * x = last-word ss f e (chose 6 24 (plant nodeTable type p done)) d h some in
-          let less : lastWord N used - 4 ≡ 20 + 64 * x = omega arith in
+          let word : lastWord N used ≡ 24 + tags * x = last-word ss f e (chose 6 24 (plant nodeTable type p done)) d h some in
+          let less : lastWord N used - 4 ≡ 20 + tags * x = omega arith in
           subst (λ (v : ℕ). Laid B (namesRun ss ⊕ runIn 1 (tree 20 f e p)) used named noted (set N (used * 4 - 4) v) M O) (sym less) (last-set ss f e 6 24 20 (plant nodeTable type p done) d h some)
 
       by : {t : Placed} → IsNode 0 t → Laid B (namesRun ss ⊕ runIn 0 t) used named noted N M O
@@ -253,10 +253,10 @@ and-both false b = refl
 
 module _ {B : Was} {e : Placed} {high : ℕ} {m : Mark} {N M O : List ℕ} (h : m .used * 4 ≤ length N) (some : 1 ≤ m .used) where
   -- The last record's tag is the element's.
-  pub element-tag : Stands 1 B e high m N M O → lastWord N (m .used) % 64 ≡ node.tagOf e
+  pub element-tag : Stands 1 B e high m N M O → lastWord N (m .used) % tags ≡ node.tagOf e
   element-tag s = by (s .is-node) (s .laid)
     where
-      by : {e : Placed} → IsNode 1 e → Laid B (runIn 1 e) (m .used) (m .named) (m .noted) N M O → lastWord N (m .used) % 64 ≡ node.tagOf e
+      by : {e : Placed} → IsNode 1 e → Laid B (runIn 1 e) (m .used) (m .named) (m .noted) N M O → lastWord N (m .used) % tags ≡ node.tagOf e
       by (is-node {tag = tag} {first = f} {end = l} {p = p} a) d = last-tag [] 1 tag f l p d refl (tag-below 1 tag p (a .0)) h some
 
   -- Its first and end byte are those of the record.
@@ -277,22 +277,22 @@ module _ {B : Was} {e : Placed} {high : ℕ} {m : Mark} {N M O : List ℕ} (h : 
   pub element-optional : Stands 1 B e high m N M O → optionalWord (lastWord N (m .used)) ≡ tuple.isOptionalElement e
   element-optional s = by (s .is-node) (s .laid)
     where
-      asks : (tag : ℕ) (p : Placed) (x w : ℕ) → w ≡ tag + 64 * x → T (allowed 1 tag p) → x ≡ packed (plant nodeTable (nodeTable .row 1 tag) p done)
-          → (eqb tag 22 and eqb (w / 64 % 2) 1) ≡ (eqb tag 22 && isSet (second p))
+      asks : (tag : ℕ) (p : Placed) (x w : ℕ) → w ≡ tag + tags * x → T (allowed 1 tag p) → x ≡ packed (plant nodeTable (nodeTable .row 1 tag) p done)
+          → (eqb tag 22 and eqb (w / tags % 2) 1) ≡ (eqb tag 22 && isSet (second p))
       asks tag p x w i a j = go (eqb tag 22) refl
         where
-          low : tag < 64
+          low : tag < tags
           low = tag-below 1 tag p a
 
-          shows : (b : Bool) → T (ltb tag 64 and (not b or showsAsked p)) → b ≡ true → T (showsAsked p)
-          shows true u z = both-hold (ltb tag 64) (showsAsked p) u .1
+          shows : (b : Bool) → T (ltb tag tags and (not b or showsAsked p)) → b ≡ true → T (showsAsked p)
+          shows true u z = both-hold (ltb tag tags) (showsAsked p) u .1
           shows false u z = absurd (let q : _≡_ {A = ℕ} 0 1 = cc in omega arith)
 
-          go : (b : Bool) → eqb tag 22 ≡ b → (b and eqb (w / 64 % 2) 1) ≡ (b && isSet (second p))
+          go : (b : Bool) → eqb tag 22 ≡ b → (b and eqb (w / tags % 2) 1) ≡ (b && isSet (second p))
           go false z = refl
           go true z =
               let same : x ≡ packed (plant nodeTable namedRow p done) = j ∙ ap (λ (k : ℕ). packed (plant nodeTable (nodeTable .row 1 k) p done)) (eqb-true tag 22 z) in
-              let div : w / 64 ≡ x = omega (arith, low) in
+              let div : w / tags ≡ x = omega (arith, low) in
               let bit : x % 2 ≡ unit (isSet (second p)) =
               ap (λ (k : ℕ). k % 2) same ∙ eqb-true (packed (plant nodeTable namedRow p done) % 2) (unit (isSet (second p))) (is-true (showsAsked p) (shows (eqb tag 22) a z)) in
               ap (λ (k : ℕ). eqb (k % 2) 1) div ∙ odd-unit (isSet (second p)) x bit
@@ -301,7 +301,7 @@ module _ {B : Was} {e : Placed} {high : ℕ} {m : Mark} {N M O : List ℕ} (h : 
       by (is-node {tag = tag} {first = f} {end = l} {p = p} a) d =
           let t = last-tag [] 1 tag f l p d refl (tag-below 1 tag p (a .0)) h some in
           let w = lastWord N (m .used) in
-          ap (λ (k : ℕ). eqb k 20 or (eqb k 22 and eqb (w / 64 % 2) 1)) t
+          ap (λ (k : ℕ). eqb k 20 or (eqb k 22 and eqb (w / tags % 2) 1)) t
           ∙ ap (λ (b : Bool). eqb tag 20 or b) (asks tag p (packed (plant nodeTable (nodeTable .row 1 tag) p done)) w (last-word [] f l (chose 6 tag (plant nodeTable (nodeTable .row 1 tag) p done)) d h some) (a .0) refl)
 
 -- ---- Shapes
@@ -323,7 +323,7 @@ member-shape x asked (is-node {tag = tag} {first = f} {end = e} {p = p} a) =
       allowed-is = shows (eqb tag 24) asked;
     }
   where
-    choices : (b asked : Bool) → memberChoices asked ≡ 22 + 64 * (unit asked + 2 * packed (runIn 3 (optionalIf b (tree tag f e p))))
+    choices : (b asked : Bool) → memberChoices asked ≡ 22 + tags * (unit asked + 2 * packed (runIn 3 (optionalIf b (tree tag f e p))))
     choices true asked = omega arith
     choices false asked = omega arith
 
@@ -336,11 +336,11 @@ member-shape x asked (is-node {tag = tag} {first = f} {end = e} {p = p} a) =
 -- ---- Whether a record's word says optional, by what its tests answer
 
 module _ (w : ℕ) where
-  pub optional-tag : w % 64 ≡ 20 → true ≡ optionalWord w
-  optional-tag e = ap (λ (b : Bool). b or (eqb (w % 64) 22 and eqb (w / 64 % 2) 1)) (sym (eq-eqb (w % 64) 20 e))
+  pub optional-tag : w % tags ≡ 20 → true ≡ optionalWord w
+  optional-tag e = ap (λ (b : Bool). b or (eqb (w % tags) 22 and eqb (w / tags % 2) 1)) (sym (eq-eqb (w % tags) 20 e))
 
-  pub optional-not : (w % 64 ≡ 20 → ⊥) → (w % 64 ≡ 22 → ⊥) → false ≡ optionalWord w
-  optional-not n k = ap₂ (λ (b c : Bool). b or (c and eqb (w / 64 % 2) 1)) (sym (ne-eqb (w % 64) 20 n)) (sym (ne-eqb (w % 64) 22 k))
+  pub optional-not : (w % tags ≡ 20 → ⊥) → (w % tags ≡ 22 → ⊥) → false ≡ optionalWord w
+  optional-not n k = ap₂ (λ (b c : Bool). b or (c and eqb (w / tags % 2) 1)) (sym (ne-eqb (w % tags) 20 n)) (sym (ne-eqb (w % tags) 22 k))
 
-  pub optional-bit : (w % 64 ≡ 20 → ⊥) → w % 64 ≡ 22 → eqb (w / 64 % 2) 1 ≡ optionalWord w
-  optional-bit n e = ap₂ (λ (b c : Bool). b or (c and eqb (w / 64 % 2) 1)) (sym (ne-eqb (w % 64) 20 n)) (sym (eq-eqb (w % 64) 22 e))
+  pub optional-bit : (w % tags ≡ 20 → ⊥) → w % tags ≡ 22 → eqb (w / tags % 2) 1 ≡ optionalWord w
+  optional-bit n e = ap₂ (λ (b c : Bool). b or (c and eqb (w / tags % 2) 1)) (sym (ne-eqb (w % tags) 20 n)) (sym (eq-eqb (w % tags) 22 e))

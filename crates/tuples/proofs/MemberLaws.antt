@@ -10,7 +10,7 @@ use lib.ListN.{length}
 use Rattle.words.specs.Limits.{tallest}
 use Rattle.words.specs.Test.{_and_, _or_, test}
 use Rattle.words.specs.Cursor.{endByte}
-use Rattle.keys.specs.Limits.{tooTall, noRoom}
+use Rattle.keys.specs.Limits.{tooTall, noRoom, tags}
 use Rattle.keys.specs.Form.{height}
 use Rattle.keys.specs.Placed as node
 use Rattle.keys.specs.Placed.{Placed, Opt, absent, present, tree, bare, join, spell, bit, Spelling, asElement}
@@ -249,7 +249,7 @@ module _ (given : Given) (latest : Latest) (m : Mark) (N O : List ℕ) (h : m .u
       reported text W (present o) e i = absurd (let q : _≡_ {A = ℕ} 0 1 = cc in omega arith)
 
   -- It is a rest.
-  pub checks-rest : optionalWord (lastWord N (m .used)) ≡ false → lastWord N (m .used) % 64 ≡ 21 → Checks given latest m N O (record { why = 0; latest = latest; m = m }) O
+  pub checks-rest : optionalWord (lastWord N (m .used)) ≡ false → lastWord N (m .used) % tags ≡ 21 → Checks given latest m N O (record { why = 0; latest = latest; m = m }) O
   checks-rest n y =
       record {
         done = λ _ text W B o e high M i s.
@@ -263,7 +263,7 @@ module _ (given : Given) (latest : Latest) (m : Mark) (N O : List ℕ) (h : m .u
       }
 
   -- It is neither: the diagnostic stands at the bytes of its record and at those of the latest one.
-  pub checks-other : (place : Place) (a : Answer) (O' : List ℕ) → optionalWord (lastWord N (m .used)) ≡ false → latest .there ≡ true → (lastWord N (m .used) % 64 ≡ 21 → ⊥)
+  pub checks-other : (place : Place) (a : Answer) (O' : List ℕ) → optionalWord (lastWord N (m .used)) ≡ false → latest .there ≡ true → (lastWord N (m .used) % tags ≡ 21 → ⊥)
       → place .first ≡ firstAt N (m .used - 1) → place .end ≡ endAt N (m .used - 1)
       → Reports true given (noteBoth requiredAfterOptional (place .first) (place .end) (latest .place .first) (latest .place .end)) m O a O'
       → Checks given latest m N O (record { why = a .why; latest = latest; m = a .m }) O'

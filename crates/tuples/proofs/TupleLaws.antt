@@ -7,6 +7,7 @@ use native.Mathlib.Omega.{arith}
 use borrow.Author.Tests.{eqb-true}
 use lib.Dec.{eqb, leb·zero}
 use lib.ListN.{length}
+use Rattle.keys.specs.Limits.{tags}
 use Rattle.words.specs.Test.{_and_, _or_, test}
 use Rattle.words.specs.Kind.{LBrack, RBrack, Question, Colon, Dot3}
 use Rattle.words.specs.Class as class
@@ -107,5 +108,5 @@ unfolding tuple.tuple rule.list
 tuple-is g T s e = rw e
 
 -- The node of a tuple has the count of its elements for its choice.
-pub tuple-shape : (l : List Placed) → AllNodes 1 l → Shape 0 19 (listed l) (runs 1 l) (19 + 64 * length l)
+pub tuple-shape : (l : List Placed) → AllNodes 1 l → Shape 0 19 (listed l) (runs 1 l) (19 + tags * length l)
 tuple-shape l a = shape-list 19 1 0 l refl tt (leb·zero (length l)) a

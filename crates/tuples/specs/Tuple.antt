@@ -11,7 +11,7 @@ use Rattle.words.specs.Class as class
 use Rattle.words.specs.Test.{_and_, _or_, test}
 use Rattle.words.specs.Cursor.{wholeKind, kindAt, firstByte}
 use Rattle.keys.specs.Bits.{unit}
-use Rattle.keys.specs.Limits.{recordWords}
+use Rattle.keys.specs.Limits.{recordWords, tags}
 use Rattle.keys.specs.Placed as node
 use Rattle.keys.specs.Placed.{Placed, tree, Spelling, Opt, absent, present}
 use Rattle.keys.specs.Store.{_⊕_}
@@ -120,7 +120,7 @@ restAfter g l e q =
 
 -- The choices of a member.
 abbrev pub memberChoices : Bool → ℕ
-memberChoices asked = 22 + 64 * unit asked
+memberChoices asked = 22 + tags * unit asked
 
 -- ---- What is asked before a node is put
 
@@ -177,7 +177,7 @@ MakesElement W given l a N O r N' O' =
 
 -- Whether a record's first word says that an element is optional, with or without a label.
 abbrev pub optionalWord : ℕ → Bool
-optionalWord w = eqb (w % 64) 20 or (eqb (w % 64) 22 and eqb (w / 64 % 2) 1)
+optionalWord w = eqb (w % tags) 20 or (eqb (w % tags) 22 and eqb (w / tags % 2) 1)
 
 -- The first word of the node that was read last.
 abbrev pub lastWord : List ℕ → ℕ → ℕ

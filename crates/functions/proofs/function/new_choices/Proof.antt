@@ -3,6 +3,7 @@ use Prim.Native.Nat.{_*_, _≤_}
 use native.Mathlib.Nat.{mul-le-mul}
 use native.Mathlib.Omega.{arith}
 use borrow.Author.Needs.{needs}
+use Rattle.marks.specs.Node.{listChoices}
 use Rattle.functions.proofs.function.new_choices.Statement.{statement}
 use Rattle.functions.proofs.function.new_choices.Tie as tie
 
@@ -35,7 +36,7 @@ returns c =
     let opt-list = c .before .opt-list in
     let list-scale = c .list-scale in
     let same : args .rest ≤ args .rest = omega arith in
-    let most : list-scale .result * args .rest ≤ 8192 * args .rest = mul-le-mul (list-scale .ensures .1) same in
+    let most : list-scale .result * args .rest ≤ listChoices * args .rest = mul-le-mul (list-scale .ensures .1) same in
     (rw (opt-list .ensures .0, list-scale .ensures .0), omega (arith, most, opt-list .ensures .1))
 
 pub new-choices-spec : {M : Type 1} → statement M

@@ -21,13 +21,11 @@ module _ (t : ℕ) where
   pub ty-requires : lts.Need-ty-requires (R t) (child-at t) child.Post
   ty-requires c κs =
       let pre = c .before .before .before .before .before .before .before .pre in
-      (omega (arith, pre), ready (pre .1 .0) (omega (arith, pre)) (omega (arith, pre)))
+      (omega arith, ready (pre .1 .0) (omega arith) (omega arith))
 
   pub refused-requires : lts.Need-refused-requires (R t) (child-at t) child.Post
   refused-requires c κs =
-      let pre = c .before .before .before .before .before .before .before .before .before .before .before .before .before .before .pre in
-      let ty = c .before .before .before .before .before .before .ty in
-      omega (arith, pre, ty .ensures .1 .0, ty .kept)
+      omega arith
 
   pub same-length : lts.Need-same-length (R t) (child-at t) child.Post
   same-length c =
@@ -52,7 +50,7 @@ module _ (t : ℕ) where
       let pre = c .before .before .before .before .before .before .before .before .before .before .before .before .before .before .before .before .pre in
       let ty = c .before .before .before .before .before .before .before .before .ty in
       let if1 = c .before .before .if1 in
-      (omega (arith, pre, ty .ensures .1 .0, ty .ensures .1 .1 (if1 .left), ty .kept), omega (arith, pre, ty .ensures .1 .0, ty .ensures .1 .1 (if1 .left), ty .kept), omega (arith, pre, ty .ensures .1 .0, ty .ensures .1 .1 (if1 .left), ty .kept), omega (arith, pre, ty .ensures .1 .0, ty .ensures .1 .1 (if1 .left), ty .kept))
+      (omega (arith, pre, ty .ensures .1 .0, ty .ensures .1 .1 (if1 .left), ty .kept), omega arith, omega arith, omega arith)
 
   pub same-length-3 : lts.Need-same-length-3 (R t) (child-at t) child.Post
   same-length-3 c =
@@ -72,4 +70,4 @@ module _ (t : ℕ) where
       let ty = c .before .before .before .before .before .before .before .before .before .before .before .ty in
       let if1 = c .before .before .before .before .before .if1 in
       let link = c .before .before .link in
-      (λ B t b. child-read (args .m) b (ty .ensures .0) (if1 .left) (omega (arith, ty .kept)) (link .ensures .0), (omega (arith, pre, ty .ensures .1 .0, ty .ensures .1 .1 (if1 .left), link .ensures .1), λ z. (omega (arith, pre, ty .ensures .1 .0, ty .ensures .1 .1 (if1 .left), link .ensures .1), link .ensures .1 .1, refl)))
+      (λ B t b. child-read (args .m) b (ty .ensures .0) (if1 .left) (omega arith) (link .ensures .0), (omega arith, λ z. (omega (arith, pre, ty .ensures .1 .0, ty .ensures .1 .1 (if1 .left), link .ensures .1), link .ensures .1 .1, refl)))

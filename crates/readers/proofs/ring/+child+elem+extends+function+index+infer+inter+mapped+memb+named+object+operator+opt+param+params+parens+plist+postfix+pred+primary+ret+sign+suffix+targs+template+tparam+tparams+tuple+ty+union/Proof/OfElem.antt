@@ -61,8 +61,8 @@ module _ (t : ℕ) where
         omega (arith, ty .ensures .1 .1 (if1 .left)),
         omega arith,
         omega arith,
-        omega (arith, ty .ensures .1 .1 (if1 .left)),
-        omega (arith, element-head .ensures .1 .1),
+        omega arith,
+        omega arith,
       )
 
   pub same-length-3 : lts.Need-same-length-3 (R t) (elem-at t) elem.Post

@@ -30,20 +30,16 @@ module _ (t : ℕ) where
   pub function-head-requires : lts.Need-function-head-requires (R t) (function-at t) function.Post
   function-head-requires c κs =
       let pre = c .before .before .before .before .pre in
-      (pre .1 .sound, omega (arith, pre))
+      (pre .1 .sound, omega arith)
 
   pub tparams-requires : lts.Need-tparams-requires (R t) (function-at t) function.Post
   tparams-requires c κs =
       let pre = c .before .before .before .before .before .before .before .before .pre in
-      let function-head = c .before .before .before .function-head in
-      (omega (arith, pre, function-head .ensures .1), ready (pre .1) (omega (arith, pre, function-head .ensures .1)) (omega (arith, pre, function-head .ensures .1)))
+      (omega arith, ready (pre .1) (omega arith) (omega arith))
 
   pub refused-requires : lts.Need-refused-requires (R t) (function-at t) function.Post
   refused-requires c κs =
-      let pre = c .before .before .before .before .before .before .before .before .before .before .before .before .before .before .before .pre in
-      let function-head = c .before .before .before .before .before .before .before .before .before .before .function-head in
-      let tparams = c .before .before .before .before .before .before .tparams in
-      omega (arith, pre, function-head .ensures .1, tparams .ensures .1 .0, tparams .kept)
+      omega arith
 
   pub same-length : lts.Need-same-length (R t) (function-at t) function.Post
   same-length c =
@@ -71,16 +67,11 @@ module _ (t : ℕ) where
       let function-head = c .before .before .before .before .before .before .before .before .before .before .before .before .before .before .function-head in
       let tparams = c .before .before .before .before .before .before .before .before .before .before .tparams in
       let if1 = c .before .before .before .before .if1 in
-      (omega (arith, pre, function-head .ensures .1, tparams .ensures .1 .0, tparams .ensures .1 .1 (if1 .left)), (ready (pre .1) (omega (arith, pre, function-head .ensures .1, tparams .ensures .1 .0, tparams .ensures .1 .1 (if1 .left), tparams .kept)) (omega (arith, pre, function-head .ensures .1, tparams .ensures .1 .0, tparams .ensures .1 .1 (if1 .left))), omega (arith, pre, function-head .ensures .1, tparams .ensures .1 .0, tparams .ensures .1 .1 (if1 .left))))
+      (omega (arith, pre, function-head .ensures .1, tparams .ensures .1 .0, tparams .ensures .1 .1 (if1 .left)), (ready (pre .1) (omega arith) (omega arith), omega arith))
 
   pub refused-requires-2 : lts.Need-refused-requires-2 (R t) (function-at t) function.Post
   refused-requires-2 c κs =
-      let pre = c .before .before .before .before .before .before .before .before .before .before .before .before .before .before .before .before .before .before .before .before .before .before .before .before .before .before .pre in
-      let function-head = c .before .before .before .before .before .before .before .before .before .before .before .before .before .before .before .before .before .before .before .before .before .function-head in
-      let tparams = c .before .before .before .before .before .before .before .before .before .before .before .before .before .before .before .before .before .tparams in
-      let if1 = c .before .before .before .before .before .before .before .before .before .before .before .if1 in
-      let params = c .before .before .before .before .before .before .params in
-      omega (arith, pre, function-head .ensures .1, tparams .ensures .1 .0, tparams .ensures .1 .1 (if1 .left), tparams .kept, params .ensures .1 .0, params .kept)
+      omega arith
 
   pub same-length-3 : lts.Need-same-length-3 (R t) (function-at t) function.Post
   same-length-3 c =
@@ -112,14 +103,7 @@ module _ (t : ℕ) where
 
   pub refused-requires-3 : lts.Need-refused-requires-3 (R t) (function-at t) function.Post
   refused-requires-3 c κs =
-      let pre = c .before .before .before .before .before .before .before .before .before .before .before .before .before .before .before .before .before .before .before .before .before .before .before .before .before .before .before .before .before .pre in
-      let function-head = c .before .before .before .before .before .before .before .before .before .before .before .before .before .before .before .before .before .before .before .before .before .before .before .before .function-head in
-      let tparams = c .before .before .before .before .before .before .before .before .before .before .before .before .before .before .before .before .before .before .before .before .tparams in
-      let if1 = c .before .before .before .before .before .before .before .before .before .before .before .before .before .before .if1 in
-      let params = c .before .before .before .before .before .before .before .before .before .params in
-      let if2 = c .before .before .before .if2 in
-      let kind-at = c .before .kind-at in
-      omega (arith, pre, function-head .ensures .1, tparams .ensures .1 .0, tparams .ensures .1 .1 (if1 .left), tparams .kept, params .ensures .1 .0, params .ensures .1 .1 (if2 .left), params .kept, kind-at .ensures .1)
+      omega arith
 
   pub same-length-5 : lts.Need-same-length-5 (R t) (function-at t) function.Post
   same-length-5 c =
@@ -150,13 +134,7 @@ module _ (t : ℕ) where
   pub add-t29 : lts.Need-add-t29 (R t) (function-at t) function.Post
   add-t29 c =
       let pre = c .before .before .before .before .before .before .before .before .before .before .before .before .before .before .before .before .before .before .before .before .before .before .before .before .before .before .before .before .before .before .pre in
-      let function-head = c .before .before .before .before .before .before .before .before .before .before .before .before .before .before .before .before .before .before .before .before .before .before .before .before .before .function-head in
-      let tparams = c .before .before .before .before .before .before .before .before .before .before .before .before .before .before .before .before .before .before .before .before .before .tparams in
-      let if1 = c .before .before .before .before .before .before .before .before .before .before .before .before .before .before .before .if1 in
-      let params = c .before .before .before .before .before .before .before .before .before .before .params in
-      let if2 = c .before .before .before .before .if2 in
-      let kind-at = c .before .before .kind-at in
-      omega (arith, pre, function-head .ensures .1, tparams .ensures .1 .0, tparams .ensures .1 .1 (if1 .left), params .ensures .1 .0, params .ensures .1 .1 (if2 .left), kind-at .ensures .1)
+      omega arith
 
   pub ret-requires : lts.Need-ret-requires (R t) (function-at t) function.Post
   ret-requires c κs =
@@ -167,7 +145,7 @@ module _ (t : ℕ) where
       let params = c .before .before .before .before .before .before .before .before .before .before .before .before .before .params in
       let if2 = c .before .before .before .before .before .before .before .if2 in
       let kind-at = c .before .before .before .before .before .kind-at in
-      (omega (arith, pre, function-head .ensures .1, tparams .ensures .1 .0, tparams .ensures .1 .1 (if1 .left), params .ensures .1 .0, params .ensures .1 .1 (if2 .left), kind-at .ensures .1), ready (pre .1) (omega (arith, pre, function-head .ensures .1, tparams .ensures .1 .0, tparams .ensures .1 .1 (if1 .left), tparams .kept, params .ensures .1 .0, params .ensures .1 .1 (if2 .left), params .kept, kind-at .ensures .1)) (omega (arith, pre, function-head .ensures .1, tparams .ensures .1 .0, tparams .ensures .1 .1 (if1 .left), params .ensures .1 .0, params .ensures .1 .1 (if2 .left), kind-at .ensures .1)))
+      (omega (arith, pre, function-head .ensures .1, tparams .ensures .1 .0, tparams .ensures .1 .1 (if1 .left), params .ensures .1 .0, params .ensures .1 .1 (if2 .left), kind-at .ensures .1), ready (pre .1) (omega arith) (omega arith))
 
   pub same-length-7 : lts.Need-same-length-7 (R t) (function-at t) function.Post
   same-length-7 c =
@@ -209,7 +187,7 @@ module _ (t : ℕ) where
       let kind-at = c .before .before .before .before .before .before .before .before .before .before .before .before .before .kind-at in
       let ret = c .before .before .before .before .before .before .before .ret in
       let if4 = c .before .if4 in
-      (omega (arith, pre, function-head .ensures .1, tparams .ensures .1 .0, tparams .ensures .1 .1 (if1 .left), tparams .kept, params .ensures .1 .0, params .ensures .1 .1 (if2 .left), params .kept, kind-at .ensures .1, ret .ensures .1 .0, ret .ensures .1 .1 (if4 .left), ret .kept), omega (arith, pre, function-head .ensures .1, tparams .ensures .1 .0, tparams .ensures .1 .1 (if1 .left), tparams .kept, params .ensures .1 .0, params .ensures .1 .1 (if2 .left), params .kept, kind-at .ensures .1, ret .ensures .1 .0, ret .ensures .1 .1 (if4 .left), ret .kept), omega (arith, pre, function-head .ensures .1, tparams .ensures .1 .0, tparams .ensures .1 .1 (if1 .left), tparams .kept, params .ensures .1 .0, params .ensures .1 .1 (if2 .left), params .kept, kind-at .ensures .1, ret .ensures .1 .0, ret .ensures .1 .1 (if4 .left), ret .kept), omega (arith, pre, function-head .ensures .1, tparams .ensures .1 .0, tparams .ensures .1 .1 (if1 .left), tparams .kept, params .ensures .1 .0, params .ensures .1 .1 (if2 .left), params .kept, kind-at .ensures .1, ret .ensures .1 .0, ret .ensures .1 .1 (if4 .left), ret .kept))
+      (omega (arith, pre, function-head .ensures .1, tparams .ensures .1 .0, tparams .ensures .1 .1 (if1 .left), tparams .kept, params .ensures .1 .0, params .ensures .1 .1 (if2 .left), params .kept, kind-at .ensures .1, ret .ensures .1 .0, ret .ensures .1 .1 (if4 .left), ret .kept), omega arith, omega arith, omega arith)
 
   pub function-node-requires : lts.Need-function-node-requires (R t) (function-at t) function.Post
   function-node-requires c κs =
@@ -223,7 +201,7 @@ module _ (t : ℕ) where
       let ret = c .before .before .before .before .before .before .before .before .before .before .before .before .ret in
       let if4 = c .before .before .before .before .before .before .if4 in
       let with = c .before .before .before .before .with in
-      (pre .1 .sound, omega (arith, pre, function-head .ensures .1, tparams .ensures .1 .0, tparams .ensures .1 .1 (if1 .left), tparams .kept, params .ensures .1 .0, params .ensures .1 .1 (if2 .left), params .kept, kind-at .ensures .1, ret .ensures .1 .0, ret .ensures .1 .1 (if4 .left), ret .kept, with .kept, ap (λ (x : This). x .bits) (with .ensures .0 .2), same-mark (with .ensures .0 .3), with .ensures .1), omega (arith, pre, function-head .ensures .1, tparams .ensures .1 .0, tparams .ensures .1 .1 (if1 .left), tparams .kept, params .ensures .1 .0, params .ensures .1 .1 (if2 .left), params .kept, kind-at .ensures .1, ret .ensures .1 .0, ret .ensures .1 .1 (if4 .left), ret .kept, with .kept, ap (λ (x : This). x .bits) (with .ensures .0 .2), same-mark (with .ensures .0 .3), with .ensures .1), omega (arith, pre, function-head .ensures .1, tparams .ensures .1 .0, tparams .ensures .1 .1 (if1 .left), tparams .kept, params .ensures .1 .0, params .ensures .1 .1 (if2 .left), params .kept, kind-at .ensures .1, ret .ensures .1 .0, ret .ensures .1 .1 (if4 .left), ret .kept, with .kept, ap (λ (x : This). x .bits) (with .ensures .0 .2), same-mark (with .ensures .0 .3), with .ensures .1), omega (arith, pre, function-head .ensures .1, tparams .ensures .1 .0, tparams .ensures .1 .1 (if1 .left), tparams .kept, params .ensures .1 .0, params .ensures .1 .1 (if2 .left), params .kept, kind-at .ensures .1, ret .ensures .1 .0, ret .ensures .1 .1 (if4 .left), ret .kept, with .kept, ap (λ (x : This). x .bits) (with .ensures .0 .2), same-mark (with .ensures .0 .3), with .ensures .1), omega (arith, pre, function-head .ensures .1, tparams .ensures .1 .0, tparams .ensures .1 .1 (if1 .left), tparams .kept, params .ensures .1 .0, params .ensures .1 .1 (if2 .left), params .kept, kind-at .ensures .1, ret .ensures .1 .0, ret .ensures .1 .1 (if4 .left), ret .kept, with .kept, ap (λ (x : This). x .bits) (with .ensures .0 .2), same-mark (with .ensures .0 .3), with .ensures .1), omega (arith, pre, function-head .ensures .1, tparams .ensures .1 .0, tparams .ensures .1 .1 (if1 .left), tparams .kept, params .ensures .1 .0, params .ensures .1 .1 (if2 .left), params .kept, kind-at .ensures .1, ret .ensures .1 .0, ret .ensures .1 .1 (if4 .left), ret .kept, with .kept, ap (λ (x : This). x .bits) (with .ensures .0 .2), same-mark (with .ensures .0 .3), with .ensures .1))
+      (pre .1 .sound, omega (arith, pre, function-head .ensures .1, tparams .ensures .1 .0, tparams .ensures .1 .1 (if1 .left), tparams .kept, params .ensures .1 .0, params .ensures .1 .1 (if2 .left), params .kept, kind-at .ensures .1, ret .ensures .1 .0, ret .ensures .1 .1 (if4 .left), ret .kept, with .kept, ap (λ (x : This). x .bits) (with .ensures .0 .2), same-mark (with .ensures .0 .3), with .ensures .1), omega (arith, pre, function-head .ensures .1, tparams .ensures .1 .0, tparams .ensures .1 .1 (if1 .left), tparams .kept, params .ensures .1 .0, params .ensures .1 .1 (if2 .left), params .kept, kind-at .ensures .1, ret .ensures .1 .0, ret .ensures .1 .1 (if4 .left), ret .kept, with .kept, ap (λ (x : This). x .bits) (with .ensures .0 .2), same-mark (with .ensures .0 .3), with .ensures .1), omega (arith, pre, function-head .ensures .1, tparams .ensures .1 .0, tparams .ensures .1 .1 (if1 .left), tparams .kept, params .ensures .1 .0, params .ensures .1 .1 (if2 .left), params .kept, kind-at .ensures .1, ret .ensures .1 .0, ret .ensures .1 .1 (if4 .left), ret .kept, with .kept, ap (λ (x : This). x .bits) (with .ensures .0 .2), same-mark (with .ensures .0 .3), with .ensures .1), omega (arith, pre, function-head .ensures .1, tparams .ensures .1 .0, tparams .ensures .1 .1 (if1 .left), tparams .kept, params .ensures .1 .0, params .ensures .1 .1 (if2 .left), params .kept, kind-at .ensures .1, ret .ensures .1 .0, ret .ensures .1 .1 (if4 .left), ret .kept, with .kept, ap (λ (x : This). x .bits) (with .ensures .0 .2), same-mark (with .ensures .0 .3), with .ensures .1), omega arith, omega arith)
 
   pub same-length-9 : lts.Need-same-length-9 (R t) (function-at t) function.Post
   same-length-9 c =

@@ -108,7 +108,7 @@ module _ (t : ℕ) where
             (infer-head .ensures .0 text s .done (if1 .left)) (args .nodes .now) (at .ensures .0 .0)
             (at .ensures .0 .1)
             (is-not-here (args .words .now) (infer-head .result .m) (kind-at .ensures .0) (if2 .taken)) (none .ensures) (put .ensures .0),
-        (omega (arith, pre), λ z. omega (arith, z)),
+        (omega arith, λ z. omega arith),
       )
 
   pub open-trials-requires : lts.Need-open-trials-requires (R t) (infer-at t) infer.Post
@@ -164,15 +164,13 @@ module _ (t : ℕ) where
   pub add-t22 : lts.Need-add-t22 (R t) (infer-at t) infer.Post
   add-t22 c =
       let pre = c .before .before .before .before .before .before .before .before .before .before .before .before .before .before .before .before .before .before .before .before .before .before .before .pre in
-      omega (arith, pre)
+      omega arith
 
   pub ty-requires : lts.Need-ty-requires (R t) (infer-at t) infer.Post
   ty-requires c κs =
       let pre = c .before .before .before .before .before .before .before .before .before .before .before .before .before .before .before .before .before .before .before .before .before .before .before .before .before .before .pre in
       let infer-head = c .before .before .before .before .before .before .before .before .before .before .before .before .before .before .before .before .before .before .before .infer-head in
-      let kind-at = c .before .before .before .before .before .before .before .before .before .before .before .before .kind-at in
-      let if2 = c .before .before .before .before .before .before .before .before .before .before .before .if2 in
-      (omega (arith, pre, infer-head .ensures .1), ready (pre .1 .0) (omega (arith, pre)) (omega (arith, pre, infer-head .ensures .1, kind-at .ensures .1, if2 .left)))
+      (omega arith, ready (pre .1 .0) (omega arith) (omega arith))
 
   pub same-length-5 : lts.Need-same-length-5 (R t) (infer-at t) infer.Post
   same-length-5 c =
@@ -208,7 +206,7 @@ module _ (t : ℕ) where
             (infer-head .ensures .0 text s .done (if1 .left)) (args .nodes .now) (at .ensures .0 .0)
             (at .ensures .0 .1)
             (is-here (args .words .now) (infer-head .result .m) (kind-at .ensures .0) (if2 .left)) (open-trials .ensures) (sym (many-trials .ensures) ∙ if3 .left) (with-trial .ensures) (set-trials .ensures) (ty .ensures .0) (if4 .taken),
-        (omega (arith, ty .ensures .1 .0), λ z. absurd (if4 .taken z)),
+        (omega arith, λ z. absurd (if4 .taken z)),
       )
 
   pub set-trials-requires-2 : lts.Need-set-trials-requires-2 (R t) (infer-at t) infer.Post
@@ -227,14 +225,14 @@ module _ (t : ℕ) where
       let ty = c .before .before .before .before .before .before .before .before .before .before .before .ty in
       let if4 = c .before .before .before .before .before .if4 in (
         pre .1 .0 .sound,
-        omega (arith, ty .kept, pre),
-        omega (arith, ty .ensures .1 .0, ty .ensures .1 .1 (if4 .left), at .ensures .0, at .ensures .1, infer-head .kept, infer-head .ensures .1, pre),
-        omega (arith, ty .ensures .1 .0),
+        omega arith,
+        omega arith,
+        omega arith,
         omega (arith, ty .ensures .1 .0, ty .ensures .1 .1 (if4 .left), at .ensures .0, at .ensures .1, infer-head .kept, infer-head .ensures .1, pre),
         omega (arith, ty .ensures .1 .1 (if4 .left)),
-        omega (arith, ty .ensures .1 .0),
-        omega (arith, ty .ensures .1 .1 (if4 .left), at .ensures .0, at .ensures .1, pre),
-        omega (arith, ty .ensures .1 .1 (if4 .left), at .ensures .0, at .ensures .1, pre),
+        omega arith,
+        omega arith,
+        omega arith,
       )
 
   pub same-length-7 : lts.Need-same-length-7 (R t) (infer-at t) infer.Post
@@ -276,5 +274,5 @@ module _ (t : ℕ) where
             (at .ensures .0 .1)
             (is-here (args .words .now) (infer-head .result .m) (kind-at .ensures .0) (if2 .left)) (open-trials .ensures) (sym (many-trials .ensures) ∙ if3 .left) (with-trial .ensures) (set-trials .ensures) (ty .ensures .0) (if4 .left) (set-trials2 .ensures) (omega (arith, infer-head .ensures .1, pre))
             (dropped .ensures) (infer-node .ensures .0),
-        (omega (arith, infer-node .ensures .1), λ z. omega (arith, infer-node .ensures .1, infer-head .ensures .1, pre, z)),
+        (omega arith, λ z. omega (arith, infer-node .ensures .1, infer-head .ensures .1, pre, z)),
       )

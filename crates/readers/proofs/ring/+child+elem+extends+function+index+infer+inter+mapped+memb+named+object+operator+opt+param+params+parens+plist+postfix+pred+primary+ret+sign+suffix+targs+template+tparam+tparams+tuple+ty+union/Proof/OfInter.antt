@@ -54,8 +54,7 @@ module _ (t : ℕ) where
 
   pub kind-after-requires : lts.Need-kind-after-requires (R t) (inter-at t) inter.Post Inv-loop μ-loop
   kind-after-requires c κs =
-      let pre = c .before .before .before .before .before .pre in
-      omega (arith, pre)
+      omega arith
 
   pub is-lone-requires : lts.Need-is-lone-requires (R t) (inter-at t) inter.Post Inv-loop μ-loop
   is-lone-requires c κs =
@@ -70,7 +69,7 @@ module _ (t : ℕ) where
       let is-lone = c .before .before .before .is-lone in
       let if1 = c .before .before .if1 in
       let is = lone-at (kind-at .ensures .0) (kind-after .ensures .0) (is-lone .ensures) (if1 .taken) in
-      ((pre .1 .sound, omega (arith, pre), omega (arith, pre), omega (arith, pre, lone-there (kindAt (args .words .now) (args .m .at) (args .m .half)) (wholeKind (args .words .now) (args .m .at + 1)) is, kind-at .ensures)), is)
+      ((pre .1 .sound, omega arith, omega arith, omega (arith, pre, lone-there (kindAt (args .words .now) (args .m .at) (args .m .half)) (wholeKind (args .words .now) (args .m .at + 1)) is, kind-at .ensures)), is)
 
   pub same-length : lts.Need-same-length (R t) (inter-at t) inter.Post Inv-loop μ-loop
   same-length c =
@@ -87,12 +86,12 @@ module _ (t : ℕ) where
       let pre = c .before .before .before .before .before .before .before .before .before .before .before .before .before .before .before .pre in
       let args = c .before .before .before .before .before .before .before .before .before .before .before .before .before .before .before .args in
       let lone = c .before .before .before .before .lone in
-      (lone .ensures .0 (args .text .now) (args .notes .now) (below (args .given) (givenOf (args .text .now) (args .words .now) (args .given))) (args .on) (pre .1 .spelt), (omega (arith, lone .ensures .1), λ z. omega (arith, pre, lone .ensures .1, z)))
+      (lone .ensures .0 (args .text .now) (args .notes .now) (below (args .given) (givenOf (args .text .now) (args .words .now) (args .given))) (args .on) (pre .1 .spelt), (omega arith, λ z. omega arith))
 
   pub past-requires : lts.Need-past-requires (R t) (inter-at t) inter.Post Inv-loop μ-loop
   past-requires c κs =
       let pre = c .before .before .before .before .before .before .before .before .pre in
-      (pre .1 .sound, omega (arith, pre), omega (arith, pre))
+      (pre .1 .sound, omega arith, omega arith)
 
   pub none-requires : lts.Need-none-requires (R t) (inter-at t) inter.Post Inv-loop μ-loop
   none-requires c κs =
@@ -104,15 +103,12 @@ module _ (t : ℕ) where
       let args = c .before .before .before .before .before .before .before .before .before .before .args in
       let past = c .before .past in
       let none = c .none in
-      (omega (arith, pre, past .ensures .1, same-kids (none .ensures)), omega (arith, pre, past .ensures .1, same-kids (none .ensures)), parts-start (args .text .now) (args .words .now) (args .given) (below (args .given) (givenOf (args .text .now) (args .words .now) (args .given))) Amp 6 (operators.operator (givenOf (args .text .now) (args .words .now) (args .given)) (below (args .given) (givenOf (args .text .now) (args .words .now) (args .given))) (args .on)) (args .m) (past .result) (args .nodes .now) (args .names .now) (args .notes .now) (intersection-is (givenOf (args .text .now) (args .words .now) (args .given)) (below (args .given) (givenOf (args .text .now) (args .words .now) (args .given))) (args .on) (view (args .m) (args .notes .now))) (past .ensures .0) (past .ensures .1) (none .ensures))
+      (omega arith, omega (arith, pre, past .ensures .1, same-kids (none .ensures)), parts-start (args .text .now) (args .words .now) (args .given) (below (args .given) (givenOf (args .text .now) (args .words .now) (args .given))) Amp 6 (operators.operator (givenOf (args .text .now) (args .words .now) (args .given)) (below (args .given) (givenOf (args .text .now) (args .words .now) (args .given))) (args .on)) (args .m) (past .result) (args .nodes .now) (args .names .now) (args .notes .now) (intersection-is (givenOf (args .text .now) (args .words .now) (args .given)) (below (args .given) (givenOf (args .text .now) (args .words .now) (args .given))) (args .on) (view (args .m) (args .notes .now))) (past .ensures .0) (past .ensures .1) (none .ensures))
 
   pub operator-requires : lts.Need-operator-requires (R t) (inter-at t) inter.Post Inv-loop μ-loop
   operator-requires c κs =
       let pre = c .before .before .before .before .before .before .before .before .before .before .before .before .before .before .pre in
-      let past = c .before .before .before .before .before .past in
-      let none = c .before .before .before .before .none in
-      let loop = c .before .before .before .loop in
-      (omega (arith, pre, past .ensures .1, same-kids (none .ensures), loop .inv .0, loop .inv .1), ready (pre .1) (omega (arith, pre, past .ensures .1, same-kids (none .ensures), loop .inv .0, loop .inv .1)) (omega (arith, pre, past .ensures .1, same-kids (none .ensures), loop .inv .0, loop .inv .1)))
+      (omega arith, ready (pre .1) (omega arith) (omega arith))
 
   pub same-length-3 : lts.Need-same-length-3 (R t) (inter-at t) inter.Post Inv-loop μ-loop
   same-length-3 c =
@@ -128,14 +124,11 @@ module _ (t : ℕ) where
 
   pub returns-2 : lts.Need-returns-2 (R t) (inter-at t) inter.Post Inv-loop μ-loop
   returns-2 c =
-      let pre = c .before .before .before .before .before .before .before .before .before .before .before .before .before .before .before .before .before .before .before .before .before .pre in
       let args = c .before .before .before .before .before .before .before .before .before .before .before .before .before .before .before .before .before .before .before .before .before .args in
-      let past = c .before .before .before .before .before .before .before .before .before .before .before .before .past in
-      let none = c .before .before .before .before .before .before .before .before .before .before .before .none in
       let loop = c .before .before .before .before .before .before .before .before .before .before .loop in
       let operator = c .before .before .before .before .before .before .operator in
       let if2 = c .if2 in
-      (part-refused (args .text .now) (args .words .now) (args .given) (below (args .given) (givenOf (args .text .now) (args .words .now) (args .given))) Amp 6 (operators.operator (givenOf (args .text .now) (args .words .now) (args .given)) (below (args .given) (givenOf (args .text .now) (args .words .now) (args .given))) (args .on)) (args .m) (args .notes .now) (loop .inv .2) (operator .ensures .0) (if2 .taken), (omega (arith, pre, past .ensures .1, same-kids (none .ensures), operator .ensures .1 .0, loop .inv .0, loop .inv .1), λ z. absurd (if2 .taken z)))
+      (part-refused (args .text .now) (args .words .now) (args .given) (below (args .given) (givenOf (args .text .now) (args .words .now) (args .given))) Amp 6 (operators.operator (givenOf (args .text .now) (args .words .now) (args .given)) (below (args .given) (givenOf (args .text .now) (args .words .now) (args .given))) (args .on)) (args .m) (args .notes .now) (loop .inv .2) (operator .ensures .0) (if2 .taken), (omega arith, λ z. absurd (if2 .taken z)))
 
   pub kind-at-requires-2 : lts.Need-kind-at-requires-2 (R t) (inter-at t) inter.Post Inv-loop μ-loop
   kind-at-requires-2 c κs =
@@ -150,7 +143,7 @@ module _ (t : ℕ) where
       let operator = c .before .before .before .before .before .before .before .before .before .before .operator in
       let if2 = c .before .before .before .before .if2 in
       let kind-at2 = c .before .before .kind-at2 in
-      ((pre .1 .sound, omega (arith, pre, past .ensures .1, same-kids (none .ensures), operator .ensures .1 .0, operator .ensures .1 .1 (if2 .left), operator .kept, kind-at2 .ensures .1, loop .inv .0, loop .inv .1), omega (arith, pre, past .ensures .1, same-kids (none .ensures), operator .ensures .1 .0, operator .ensures .1 .1 (if2 .left), kind-at2 .ensures .1, loop .inv .0, loop .inv .1), omega (arith, pre, past .ensures .1, same-kids (none .ensures), operator .ensures .1 .0, operator .ensures .1 .1 (if2 .left), kind-at2 .ensures .1, loop .inv .0, loop .inv .1), omega (arith, pre, past .ensures .1, same-kids (none .ensures), operator .ensures .1 .0, operator .ensures .1 .1 (if2 .left), kind-at2 .ensures .1, loop .inv .0, loop .inv .1)), (omega (arith, pre, past .ensures .1, same-kids (none .ensures), operator .ensures .1 .0, operator .ensures .1 .1 (if2 .left), kind-at2 .ensures .1, loop .inv .0, loop .inv .1), omega (arith, pre, past .ensures .1, same-kids (none .ensures), operator .ensures .1 .0, operator .ensures .1 .1 (if2 .left), kind-at2 .ensures .1, loop .inv .0, loop .inv .1), omega (arith, pre, past .ensures .1, same-kids (none .ensures), operator .ensures .1 .0, operator .ensures .1 .1 (if2 .left), kind-at2 .ensures .1, loop .inv .0, loop .inv .1), omega arith))
+      ((pre .1 .sound, omega arith, omega arith, omega arith, omega (arith, pre, past .ensures .1, same-kids (none .ensures), operator .ensures .1 .0, operator .ensures .1 .1 (if2 .left), kind-at2 .ensures .1, loop .inv .0, loop .inv .1)), (omega arith, omega arith, omega arith, omega arith))
 
   pub same-length-5 : lts.Need-same-length-5 (R t) (inter-at t) inter.Post Inv-loop μ-loop
   same-length-5 c =
@@ -177,7 +170,7 @@ module _ (t : ℕ) where
       let kind-at2 = c .before .before .before .before .before .kind-at2 in
       let if3 = c .before .before .before .before .if3 in
       let joined = c .before .before .joined in
-      (parts-joined (args .text .now) (args .words .now) (args .given) (below (args .given) (givenOf (args .text .now) (args .words .now) (args .given))) Amp 6 (operators.operator (givenOf (args .text .now) (args .words .now) (args .given)) (below (args .given) (givenOf (args .text .now) (args .words .now) (args .given))) (args .on)) (args .m) (args .notes .now) (loop .inv .2) (operator .ensures .0) (if2 .left) (is-not-here (args .words .now) (operator .result .m) (kind-at2 .ensures .0) (if3 .taken)) (joined .ensures .0) (omega (arith, operator .kept)) refl shape-intersection, (omega (arith, pre, past .ensures .1, same-kids (none .ensures), operator .ensures .1 .0, operator .ensures .1 .1 (if2 .left), kind-at2 .ensures .1, joined .ensures .1, loop .inv .0, loop .inv .1), λ z. omega (arith, pre, past .ensures .1, same-kids (none .ensures), operator .ensures .1 .0, operator .ensures .1 .1 (if2 .left), kind-at2 .ensures .1, joined .ensures .1, loop .inv .0, loop .inv .1, z)))
+      (parts-joined (args .text .now) (args .words .now) (args .given) (below (args .given) (givenOf (args .text .now) (args .words .now) (args .given))) Amp 6 (operators.operator (givenOf (args .text .now) (args .words .now) (args .given)) (below (args .given) (givenOf (args .text .now) (args .words .now) (args .given))) (args .on)) (args .m) (args .notes .now) (loop .inv .2) (operator .ensures .0) (if2 .left) (is-not-here (args .words .now) (operator .result .m) (kind-at2 .ensures .0) (if3 .taken)) (joined .ensures .0) (omega arith) refl shape-intersection, (omega arith, λ z. omega (arith, pre, past .ensures .1, same-kids (none .ensures), operator .ensures .1 .0, operator .ensures .1 .1 (if2 .left), kind-at2 .ensures .1, joined .ensures .1, loop .inv .0, loop .inv .1, z)))
 
   pub link-requires : lts.Need-link-requires (R t) (inter-at t) inter.Post Inv-loop μ-loop
   link-requires c κs =
@@ -188,19 +181,12 @@ module _ (t : ℕ) where
       let operator = c .before .before .before .before .before .before .before .before .before .before .operator in
       let if2 = c .before .before .before .before .if2 in
       let kind-at2 = c .before .before .kind-at2 in
-      (omega (arith, pre, past .ensures .1, same-kids (none .ensures), operator .ensures .1 .0, operator .ensures .1 .1 (if2 .left), operator .kept, kind-at2 .ensures .1, loop .inv .0, loop .inv .1), omega (arith, pre, past .ensures .1, same-kids (none .ensures), operator .ensures .1 .0, operator .ensures .1 .1 (if2 .left), operator .kept, kind-at2 .ensures .1, loop .inv .0, loop .inv .1), omega (arith, pre, past .ensures .1, same-kids (none .ensures), operator .ensures .1 .0, operator .ensures .1 .1 (if2 .left), operator .kept, kind-at2 .ensures .1, loop .inv .0, loop .inv .1), omega (arith, pre, past .ensures .1, same-kids (none .ensures), operator .ensures .1 .0, operator .ensures .1 .1 (if2 .left), operator .kept, kind-at2 .ensures .1, loop .inv .0, loop .inv .1))
+      (omega (arith, pre, past .ensures .1, same-kids (none .ensures), operator .ensures .1 .0, operator .ensures .1 .1 (if2 .left), operator .kept, kind-at2 .ensures .1, loop .inv .0, loop .inv .1), omega arith, omega arith, omega arith)
 
   pub add-t27 : lts.Need-add-t27 (R t) (inter-at t) inter.Post Inv-loop μ-loop
   add-t27 c =
       let pre = c .before .before .before .before .before .before .before .before .before .before .before .before .before .before .before .before .before .before .before .before .before .before .before .before .before .before .before .before .before .pre in
-      let past = c .before .before .before .before .before .before .before .before .before .before .before .before .before .before .before .before .before .before .before .before .past in
-      let none = c .before .before .before .before .before .before .before .before .before .before .before .before .before .before .before .before .before .before .before .none in
-      let loop = c .before .before .before .before .before .before .before .before .before .before .before .before .before .before .before .before .before .before .loop in
-      let operator = c .before .before .before .before .before .before .before .before .before .before .before .before .before .before .operator in
-      let if2 = c .before .before .before .before .before .before .before .before .if2 in
-      let kind-at2 = c .before .before .before .before .before .before .kind-at2 in
-      let link = c .before .before .before .link in
-      omega (arith, pre, past .ensures .1, same-kids (none .ensures), operator .ensures .1 .0, operator .ensures .1 .1 (if2 .left), kind-at2 .ensures .1, link .ensures .1, loop .inv .0, loop .inv .1)
+      omega arith
 
   pub loop-less : lts.Need-loop-less (R t) (inter-at t) inter.Post Inv-loop μ-loop
   loop-less c =
@@ -226,4 +212,4 @@ module _ (t : ℕ) where
       let kind-at2 = c .before .before .before .before .before .before .kind-at2 in
       let if3 = c .before .before .before .before .before .if3 in
       let link = c .before .before .before .link in
-      (omega (arith, pre, past .ensures .1, same-kids (none .ensures), operator .ensures .1 .0, operator .ensures .1 .1 (if2 .left), operator .kept, kind-at2 .ensures .1, link .ensures .1, link .kept, loop .inv .0, loop .inv .1), omega (arith, pre, past .ensures .1, same-kids (none .ensures), operator .ensures .1 .0, operator .ensures .1 .1 (if2 .left), kind-at2 .ensures .1, link .ensures .1, loop .inv .0, loop .inv .1), parts-again (args .text .now) (args .words .now) (args .given) (below (args .given) (givenOf (args .text .now) (args .words .now) (args .given))) Amp 6 (operators.operator (givenOf (args .text .now) (args .words .now) (args .given)) (below (args .given) (givenOf (args .text .now) (args .words .now) (args .given))) (args .on)) (args .m) (args .notes .now) (loop .inv .2) (operator .ensures .0) (if2 .left) (is-here (args .words .now) (operator .result .m) (kind-at2 .ensures .0) (if3 .left)) refl (link .ensures .0) (link .ensures .1 .1) (omega (arith, operator .kept)) (omega (arith, pre, past .ensures .1, same-kids (none .ensures), operator .ensures .1 .0, operator .ensures .1 .1 (if2 .left), kind-at2 .ensures .1, link .ensures .1, loop .inv .0, loop .inv .1)) (omega (arith, pre, past .ensures .1, same-kids (none .ensures), operator .ensures .1 .0, operator .ensures .1 .1 (if2 .left), kind-at2 .ensures .1, link .ensures .1, loop .inv .0, loop .inv .1)))
+      (omega (arith, pre, past .ensures .1, same-kids (none .ensures), operator .ensures .1 .0, operator .ensures .1 .1 (if2 .left), operator .kept, kind-at2 .ensures .1, link .ensures .1, link .kept, loop .inv .0, loop .inv .1), omega arith, parts-again (args .text .now) (args .words .now) (args .given) (below (args .given) (givenOf (args .text .now) (args .words .now) (args .given))) Amp 6 (operators.operator (givenOf (args .text .now) (args .words .now) (args .given)) (below (args .given) (givenOf (args .text .now) (args .words .now) (args .given))) (args .on)) (args .m) (args .notes .now) (loop .inv .2) (operator .ensures .0) (if2 .left) (is-here (args .words .now) (operator .result .m) (kind-at2 .ensures .0) (if3 .left)) refl (link .ensures .0) (link .ensures .1 .1) (omega arith) (omega (arith, pre, past .ensures .1, same-kids (none .ensures), operator .ensures .1 .0, operator .ensures .1 .1 (if2 .left), kind-at2 .ensures .1, link .ensures .1, loop .inv .0, loop .inv .1)) (omega (arith, pre, past .ensures .1, same-kids (none .ensures), operator .ensures .1 .0, operator .ensures .1 .1 (if2 .left), kind-at2 .ensures .1, link .ensures .1, loop .inv .0, loop .inv .1)))

@@ -31,13 +31,11 @@ module _ (t : ℕ) where
   pub mapped-head-requires : lts.Need-mapped-head-requires (R t) (mapped-at t) mapped.Post
   mapped-head-requires c κs =
       let pre = c .before .before .before .before .before .pre in
-      (pre .1 .0 .classes-are, pre .1 .0 .sound, omega (arith, pre), omega (arith, pre))
+      (pre .1 .0 .classes-are, pre .1 .0 .sound, omega arith, omega arith)
 
   pub refused-requires : lts.Need-refused-requires (R t) (mapped-at t) mapped.Post
   refused-requires c κs =
-      let pre = c .before .before .before .before .before .before .before .before .before .before .pre in
-      let mapped-head = c .before .before .before .before .mapped-head in
-      omega (arith, pre, mapped-head .ensures .1, mapped-head .kept)
+      omega arith
 
   pub same-length : lts.Need-same-length (R t) (mapped-at t) mapped.Post
   same-length c =
@@ -62,15 +60,11 @@ module _ (t : ℕ) where
       let pre = c .before .before .before .before .before .before .before .before .before .before .before .before .before .before .pre in
       let mapped-head = c .before .before .before .before .before .before .before .before .mapped-head in
       let none = c .none in
-      (omega (arith, pre, mapped-head .ensures .1, same-kids (none .ensures)), (ready (pre .1 .0) (omega (arith, pre, mapped-head .ensures .1, mapped-head .kept, same-kids (none .ensures))) (omega (arith, pre, mapped-head .ensures .1, same-kids (none .ensures))), omega (arith, pre, mapped-head .ensures .1, same-kids (none .ensures))))
+      (omega arith, (ready (pre .1 .0) (omega arith) (omega arith), omega (arith, pre, mapped-head .ensures .1, same-kids (none .ensures))))
 
   pub refused-requires-2 : lts.Need-refused-requires-2 (R t) (mapped-at t) mapped.Post
   refused-requires-2 c κs =
-      let pre = c .before .before .before .before .before .before .before .before .before .before .before .before .before .before .before .before .before .before .before .before .before .pre in
-      let mapped-head = c .before .before .before .before .before .before .before .before .before .before .before .before .before .before .before .mapped-head in
-      let none = c .before .before .before .before .before .before .before .none in
-      let child = c .before .before .before .before .before .before .child in
-      omega (arith, pre, mapped-head .ensures .1, mapped-head .kept, same-kids (none .ensures), child .ensures .1 .0, child .kept)
+      omega arith
 
   pub same-length-2 : lts.Need-same-length-2 (R t) (mapped-at t) mapped.Post
   same-length-2 c =
@@ -102,17 +96,11 @@ module _ (t : ℕ) where
       let none = c .before .before .before .before .before .before .before .before .before .before .none in
       let child = c .before .before .before .before .before .before .before .before .before .child in
       let if2 = c .before .before .before .if2 in
-      (omega (arith, pre, mapped-head .ensures .1, same-kids (none .ensures), child .ensures .1 .0, child .ensures .1 .1 (if2 .left)), (ready (pre .1 .0) (omega (arith, pre, mapped-head .ensures .1, mapped-head .kept, same-kids (none .ensures), child .ensures .1 .0, child .ensures .1 .1 (if2 .left), child .kept)) (omega (arith, pre, mapped-head .ensures .1, same-kids (none .ensures), child .ensures .1 .0, child .ensures .1 .1 (if2 .left))), omega (arith, pre, mapped-head .ensures .1, same-kids (none .ensures), child .ensures .1 .0, child .ensures .1 .1 (if2 .left)), omega (arith, pre, mapped-head .ensures .1, same-kids (none .ensures), child .ensures .1 .0, child .ensures .1 .1 (if2 .left))))
+      (omega (arith, pre, mapped-head .ensures .1, same-kids (none .ensures), child .ensures .1 .0, child .ensures .1 .1 (if2 .left)), (ready (pre .1 .0) (omega arith) (omega arith), omega arith, omega arith))
 
   pub refused-requires-3 : lts.Need-refused-requires-3 (R t) (mapped-at t) mapped.Post
   refused-requires-3 c κs =
-      let pre = c .before .before .before .before .before .before .before .before .before .before .before .before .before .before .before .before .before .before .before .before .before .before .before .before .before .before .before .before .before .before .before .pre in
-      let mapped-head = c .before .before .before .before .before .before .before .before .before .before .before .before .before .before .before .before .before .before .before .before .before .before .before .before .before .mapped-head in
-      let none = c .before .before .before .before .before .before .before .before .before .before .before .before .before .before .before .before .before .none in
-      let child = c .before .before .before .before .before .before .before .before .before .before .before .before .before .before .before .before .child in
-      let if2 = c .before .before .before .before .before .before .before .before .before .before .if2 in
-      let opt = c .before .before .before .before .before .before .opt in
-      omega (arith, pre, mapped-head .ensures .1, mapped-head .kept, same-kids (none .ensures), child .ensures .1 .0, child .ensures .1 .1 (if2 .left), child .kept, opt .ensures .1 .0, opt .kept)
+      omega arith
 
   pub same-length-4 : lts.Need-same-length-4 (R t) (mapped-at t) mapped.Post
   same-length-4 c =
@@ -144,25 +132,11 @@ module _ (t : ℕ) where
   pub mapped-middle-requires : lts.Need-mapped-middle-requires (R t) (mapped-at t) mapped.Post
   mapped-middle-requires c κs =
       let pre = c .before .before .before .before .before .before .before .before .before .before .before .before .before .before .before .before .before .before .before .before .before .before .before .before .before .before .before .before .before .before .before .pre in
-      let mapped-head = c .before .before .before .before .before .before .before .before .before .before .before .before .before .before .before .before .before .before .before .before .before .before .before .before .before .mapped-head in
-      let none = c .before .before .before .before .before .before .before .before .before .before .before .before .before .before .before .before .before .none in
-      let child = c .before .before .before .before .before .before .before .before .before .before .before .before .before .before .before .before .child in
-      let if2 = c .before .before .before .before .before .before .before .before .before .before .if2 in
-      let opt = c .before .before .before .before .before .before .opt in
-      let if3 = c .if3 in
-      (pre .1 .0 .sound, omega (arith, pre, mapped-head .ensures .1, mapped-head .kept, same-kids (none .ensures), child .ensures .1 .0, child .ensures .1 .1 (if2 .left), child .kept, opt .ensures .1 .0, opt .ensures .1 .1 (if3 .left), opt .kept))
+      (pre .1 .0 .sound, omega arith)
 
   pub refused-requires-4 : lts.Need-refused-requires-4 (R t) (mapped-at t) mapped.Post
   refused-requires-4 c κs =
-      let pre = c .before .before .before .before .before .before .before .before .before .before .before .before .before .before .before .before .before .before .before .before .before .before .before .before .before .before .before .before .before .before .before .before .before .before .pre in
-      let mapped-head = c .before .before .before .before .before .before .before .before .before .before .before .before .before .before .before .before .before .before .before .before .before .before .before .before .before .before .before .before .mapped-head in
-      let none = c .before .before .before .before .before .before .before .before .before .before .before .before .before .before .before .before .before .before .before .before .none in
-      let child = c .before .before .before .before .before .before .before .before .before .before .before .before .before .before .before .before .before .before .before .child in
-      let if2 = c .before .before .before .before .before .before .before .before .before .before .before .before .before .if2 in
-      let opt = c .before .before .before .before .before .before .before .before .before .opt in
-      let if3 = c .before .before .before .if3 in
-      let mapped-middle = c .before .before .mapped-middle in
-      omega (arith, pre, mapped-head .ensures .1, mapped-head .kept, same-kids (none .ensures), child .ensures .1 .0, child .ensures .1 .1 (if2 .left), child .kept, opt .ensures .1 .0, opt .ensures .1 .1 (if3 .left), opt .kept, mapped-middle .ensures .1)
+      omega arith
 
   pub same-length-6 : lts.Need-same-length-6 (R t) (mapped-at t) mapped.Post
   same-length-6 c =
@@ -203,20 +177,11 @@ module _ (t : ℕ) where
       let opt = c .before .before .before .before .before .before .before .before .before .before .before .before .opt in
       let if3 = c .before .before .before .before .before .before .if3 in
       let mapped-middle = c .before .before .before .before .before .mapped-middle in
-      (omega (arith, pre, mapped-head .ensures .1, same-kids (none .ensures), child .ensures .1 .0, child .ensures .1 .1 (if2 .left), opt .ensures .1 .0, opt .ensures .1 .1 (if3 .left), mapped-middle .ensures .1), (ready (pre .1 .0) (omega (arith, pre, mapped-head .ensures .1, mapped-head .kept, same-kids (none .ensures), child .ensures .1 .0, child .ensures .1 .1 (if2 .left), child .kept, opt .ensures .1 .0, opt .ensures .1 .1 (if3 .left), opt .kept, mapped-middle .ensures .1)) (omega (arith, pre, mapped-head .ensures .1, same-kids (none .ensures), child .ensures .1 .0, child .ensures .1 .1 (if2 .left), opt .ensures .1 .0, opt .ensures .1 .1 (if3 .left), mapped-middle .ensures .1)), omega (arith, pre, mapped-head .ensures .1, same-kids (none .ensures), child .ensures .1 .0, child .ensures .1 .1 (if2 .left), opt .ensures .1 .0, opt .ensures .1 .1 (if3 .left), mapped-middle .ensures .1), omega (arith, pre, mapped-head .ensures .1, same-kids (none .ensures), child .ensures .1 .0, child .ensures .1 .1 (if2 .left), opt .ensures .1 .0, opt .ensures .1 .1 (if3 .left), mapped-middle .ensures .1)))
+      (omega (arith, pre, mapped-head .ensures .1, same-kids (none .ensures), child .ensures .1 .0, child .ensures .1 .1 (if2 .left), opt .ensures .1 .0, opt .ensures .1 .1 (if3 .left), mapped-middle .ensures .1), (ready (pre .1 .0) (omega arith) (omega arith), omega arith, omega arith))
 
   pub refused-requires-5 : lts.Need-refused-requires-5 (R t) (mapped-at t) mapped.Post
   refused-requires-5 c κs =
-      let pre = c .before .before .before .before .before .before .before .before .before .before .before .before .before .before .before .before .before .before .before .before .before .before .before .before .before .before .before .before .before .before .before .before .before .before .before .before .before .before .before .before .before .before .before .before .pre in
-      let mapped-head = c .before .before .before .before .before .before .before .before .before .before .before .before .before .before .before .before .before .before .before .before .before .before .before .before .before .before .before .before .before .before .before .before .before .before .before .before .before .before .mapped-head in
-      let none = c .before .before .before .before .before .before .before .before .before .before .before .before .before .before .before .before .before .before .before .before .before .before .before .before .before .before .before .before .before .before .none in
-      let child = c .before .before .before .before .before .before .before .before .before .before .before .before .before .before .before .before .before .before .before .before .before .before .before .before .before .before .before .before .before .child in
-      let if2 = c .before .before .before .before .before .before .before .before .before .before .before .before .before .before .before .before .before .before .before .before .before .before .before .if2 in
-      let opt = c .before .before .before .before .before .before .before .before .before .before .before .before .before .before .before .before .before .before .before .opt in
-      let if3 = c .before .before .before .before .before .before .before .before .before .before .before .before .before .if3 in
-      let mapped-middle = c .before .before .before .before .before .before .before .before .before .before .before .before .mapped-middle in
-      let opt2 = c .before .before .before .before .before .before .opt2 in
-      omega (arith, pre, mapped-head .ensures .1, mapped-head .kept, same-kids (none .ensures), child .ensures .1 .0, child .ensures .1 .1 (if2 .left), child .kept, opt .ensures .1 .0, opt .ensures .1 .1 (if3 .left), opt .kept, mapped-middle .ensures .1, opt2 .ensures .1 .0, opt2 .kept)
+      omega arith
 
   pub same-length-8 : lts.Need-same-length-8 (R t) (mapped-at t) mapped.Post
   same-length-8 c =
@@ -273,7 +238,7 @@ module _ (t : ℕ) where
       let if5 = c .before .before .if5 in
       let opt-bit = c .before .opt-bit in
       let opt-bit2 = c .opt-bit2 in
-      (omega (arith, pre, mapped-head .ensures .1, mapped-head .kept, same-kids (none .ensures), child .ensures .1 .0, child .ensures .1 .1 (if2 .left), child .kept, opt .ensures .1 .0, opt .ensures .1 .1 (if3 .left), opt .kept, mapped-middle .ensures .1, opt2 .ensures .1 .0, opt2 .ensures .1 .1 (if5 .left), opt2 .kept, opt-bit .ensures .1, opt-bit2 .ensures .1), omega (arith, pre, mapped-head .ensures .1, mapped-head .kept, same-kids (none .ensures), child .ensures .1 .0, child .ensures .1 .1 (if2 .left), child .kept, opt .ensures .1 .0, opt .ensures .1 .1 (if3 .left), opt .kept, mapped-middle .ensures .1, opt2 .ensures .1 .0, opt2 .ensures .1 .1 (if5 .left), opt2 .kept, opt-bit .ensures .1, opt-bit2 .ensures .1), omega (arith, pre, mapped-head .ensures .1, mapped-head .kept, same-kids (none .ensures), child .ensures .1 .0, child .ensures .1 .1 (if2 .left), child .kept, opt .ensures .1 .0, opt .ensures .1 .1 (if3 .left), opt .kept, mapped-middle .ensures .1, opt2 .ensures .1 .0, opt2 .ensures .1 .1 (if5 .left), opt2 .kept, opt-bit .ensures .1, opt-bit2 .ensures .1), omega (arith, pre, mapped-head .ensures .1, mapped-head .kept, same-kids (none .ensures), child .ensures .1 .0, child .ensures .1 .1 (if2 .left), child .kept, opt .ensures .1 .0, opt .ensures .1 .1 (if3 .left), opt .kept, mapped-middle .ensures .1, opt2 .ensures .1 .0, opt2 .ensures .1 .1 (if5 .left), opt2 .kept, opt-bit .ensures .1, opt-bit2 .ensures .1))
+      (omega arith, omega arith, omega arith, omega arith)
 
   pub at-requires : lts.Need-at-requires (R t) (mapped-at t) mapped.Post
   at-requires c κs =
@@ -306,7 +271,7 @@ module _ (t : ℕ) where
       let opt-bit = c .before .before .before .before .opt-bit in
       let opt-bit2 = c .before .before .before .opt-bit2 in
       let at = c .before .at in
-      (pre .1 .0 .sound, omega (arith, pre, mapped-head .ensures .1, mapped-head .kept, same-kids (none .ensures), child .ensures .1 .0, child .ensures .1 .1 (if2 .left), child .kept, opt .ensures .1 .0, opt .ensures .1 .1 (if3 .left), opt .kept, mapped-middle .ensures .1, opt2 .ensures .1 .0, opt2 .ensures .1 .1 (if5 .left), opt2 .kept, opt-bit .ensures .1, opt-bit2 .ensures .1, at .ensures .0, at .ensures .1), omega (arith, pre, mapped-head .ensures .1, mapped-head .kept, same-kids (none .ensures), child .ensures .1 .0, child .ensures .1 .1 (if2 .left), child .kept, opt .ensures .1 .0, opt .ensures .1 .1 (if3 .left), opt .kept, mapped-middle .ensures .1, opt2 .ensures .1 .0, opt2 .ensures .1 .1 (if5 .left), opt2 .kept, opt-bit .ensures .1, opt-bit2 .ensures .1, at .ensures .0, at .ensures .1), omega (arith, pre, mapped-head .ensures .1, mapped-head .kept, same-kids (none .ensures), child .ensures .1 .0, child .ensures .1 .1 (if2 .left), child .kept, opt .ensures .1 .0, opt .ensures .1 .1 (if3 .left), opt .kept, mapped-middle .ensures .1, opt2 .ensures .1 .0, opt2 .ensures .1 .1 (if5 .left), opt2 .kept, opt-bit .ensures .1, opt-bit2 .ensures .1, at .ensures .0, at .ensures .1), omega (arith, pre, mapped-head .ensures .1, mapped-head .kept, same-kids (none .ensures), child .ensures .1 .0, child .ensures .1 .1 (if2 .left), child .kept, opt .ensures .1 .0, opt .ensures .1 .1 (if3 .left), opt .kept, mapped-middle .ensures .1, opt2 .ensures .1 .0, opt2 .ensures .1 .1 (if5 .left), opt2 .kept, opt-bit .ensures .1, opt-bit2 .ensures .1, at .ensures .0, at .ensures .1), omega (arith, pre, mapped-head .ensures .1, mapped-head .kept, same-kids (none .ensures), child .ensures .1 .0, child .ensures .1 .1 (if2 .left), child .kept, opt .ensures .1 .0, opt .ensures .1 .1 (if3 .left), opt .kept, mapped-middle .ensures .1, opt2 .ensures .1 .0, opt2 .ensures .1 .1 (if5 .left), opt2 .kept, opt-bit .ensures .1, opt-bit2 .ensures .1, at .ensures .0, at .ensures .1))
+      (pre .1 .0 .sound, omega (arith, pre, mapped-head .ensures .1, mapped-head .kept, same-kids (none .ensures), child .ensures .1 .0, child .ensures .1 .1 (if2 .left), child .kept, opt .ensures .1 .0, opt .ensures .1 .1 (if3 .left), opt .kept, mapped-middle .ensures .1, opt2 .ensures .1 .0, opt2 .ensures .1 .1 (if5 .left), opt2 .kept, opt-bit .ensures .1, opt-bit2 .ensures .1, at .ensures .0, at .ensures .1), omega (arith, pre, mapped-head .ensures .1, mapped-head .kept, same-kids (none .ensures), child .ensures .1 .0, child .ensures .1 .1 (if2 .left), child .kept, opt .ensures .1 .0, opt .ensures .1 .1 (if3 .left), opt .kept, mapped-middle .ensures .1, opt2 .ensures .1 .0, opt2 .ensures .1 .1 (if5 .left), opt2 .kept, opt-bit .ensures .1, opt-bit2 .ensures .1, at .ensures .0, at .ensures .1), omega (arith, pre, mapped-head .ensures .1, mapped-head .kept, same-kids (none .ensures), child .ensures .1 .0, child .ensures .1 .1 (if2 .left), child .kept, opt .ensures .1 .0, opt .ensures .1 .1 (if3 .left), opt .kept, mapped-middle .ensures .1, opt2 .ensures .1 .0, opt2 .ensures .1 .1 (if5 .left), opt2 .kept, opt-bit .ensures .1, opt-bit2 .ensures .1, at .ensures .0, at .ensures .1), omega arith, omega (arith, pre, mapped-head .ensures .1, mapped-head .kept, same-kids (none .ensures), child .ensures .1 .0, child .ensures .1 .1 (if2 .left), child .kept, opt .ensures .1 .0, opt .ensures .1 .1 (if3 .left), opt .kept, mapped-middle .ensures .1, opt2 .ensures .1 .0, opt2 .ensures .1 .1 (if5 .left), opt2 .kept, opt-bit .ensures .1, opt-bit2 .ensures .1, at .ensures .0, at .ensures .1))
 
   pub same-length-10 : lts.Need-same-length-10 (R t) (mapped-at t) mapped.Post
   same-length-10 c =

@@ -30,7 +30,7 @@ module _ (t : ℕ) where
   pub member-head-requires : lts.Need-member-head-requires (R t) (memb-at t) memb.Post
   member-head-requires c κs =
       let pre = c .before .before .before .before .before .pre in
-      ((pre .1 .classes-are, pre .1 .sound, omega (arith, pre), omega (arith, pre)), pre .1 .spelt)
+      ((pre .1 .classes-are, pre .1 .sound, omega arith, omega arith), pre .1 .spelt)
 
   pub refused-requires : lts.Need-refused-requires (R t) (memb-at t) memb.Post
   refused-requires c κs =
@@ -58,9 +58,7 @@ module _ (t : ℕ) where
   pub index-requires : lts.Need-index-requires (R t) (memb-at t) memb.Post
   index-requires c κs =
       let pre = c .before .before .before .before .before .before .before .before .before .before .before .before .before .before .before .before .before .pre in
-      let member-head = c .before .before .before .before .before .before .before .before .before .before .before .member-head in
-      let at = c .before .before .before .before .before .before .at in
-      (omega (arith, pre, member-head .ensures .1), (ready (pre .1) (omega arith) (omega (arith, pre, member-head .ensures .1)), omega (arith, member-head .ensures .1), record { first = omega (arith, at .ensures); name = omega (arith, at .ensures, pre) }, omega (arith, member-head .ensures .1)))
+      (omega arith, (ready (pre .1) (omega arith) (omega arith), omega arith, record { first = omega arith; name = omega arith }, omega arith))
 
   pub same-length-2 : lts.Need-same-length-2 (R t) (memb-at t) memb.Post
   same-length-2 c =
@@ -81,14 +79,12 @@ module _ (t : ℕ) where
       let at = c .before .before .before .before .before .before .before .before .before .before .before .at in
       let if2 = c .before .before .before .before .before .before .before .before .if2 in
       let index = c .before .before .before .before .index in
-      (member-index (args .text .now) (args .words .now) (args .given) _ (member-head .ensures .0 (args .notes .now) (args .given) .done (if1 .left)) (at .ensures .0 .0) (if2 .taken) (λ readonly laid choices. index .ensures .0 _ readonly laid (at .ensures .0 .1) choices), (omega (arith, index .ensures .1 .0), λ z. omega (arith, index .ensures .1 .1 z, member-head .ensures .1)))
+      (member-index (args .text .now) (args .words .now) (args .given) _ (member-head .ensures .0 (args .notes .now) (args .given) .done (if1 .left)) (at .ensures .0 .0) (if2 .taken) (λ readonly laid choices. index .ensures .0 _ readonly laid (at .ensures .0 .1) choices), (omega arith, λ z. omega (arith, index .ensures .1 .1 z, member-head .ensures .1)))
 
   pub sign-requires : lts.Need-sign-requires (R t) (memb-at t) memb.Post
   sign-requires c κs =
       let pre = c .before .before .before .before .before .before .before .before .before .before .before .before .before .before .before .before .before .before .before .pre in
-      let member-head = c .before .before .before .before .before .before .before .before .before .before .before .before .before .member-head in
-      let at = c .before .before .before .before .before .before .before .before .at in
-      (omega (arith, pre, member-head .ensures .1), (ready (pre .1) (omega arith) (omega (arith, pre, member-head .ensures .1)), record { first = omega (arith, at .ensures); name = omega (arith, at .ensures, pre) }, omega (arith, member-head .ensures .1)))
+      (omega arith, (ready (pre .1) (omega arith) (omega arith), record { first = omega arith; name = omega arith }, omega arith))
 
   pub same-length-4 : lts.Need-same-length-4 (R t) (memb-at t) memb.Post
   same-length-4 c =
@@ -110,7 +106,7 @@ module _ (t : ℕ) where
       let if2 = c .before .before .before .before .before .before .before .before .before .before .if2 in
       let if3 = c .before .before .before .before .before .before .before .before .if3 in
       let sign = c .before .before .before .before .sign in
-      (member-signature (args .text .now) (args .words .now) (args .given) _ (member-head .ensures .0 (args .notes .now) (args .given) .done (if1 .left)) (at .ensures .0 .0) (if2 .left) (if3 .taken) (λ x laid choices. sign .ensures .0 _ x laid (at .ensures .0 .1) choices), (omega (arith, sign .ensures .1 .0), λ z. omega (arith, sign .ensures .1 .1 z, member-head .ensures .1)))
+      (member-signature (args .text .now) (args .words .now) (args .given) _ (member-head .ensures .0 (args .notes .now) (args .given) .done (if1 .left)) (at .ensures .0 .0) (if2 .left) (if3 .taken) (λ x laid choices. sign .ensures .0 _ x laid (at .ensures .0 .1) choices), (omega arith, λ z. omega (arith, sign .ensures .1 .1 z, member-head .ensures .1)))
 
   pub none-requires : lts.Need-none-requires (R t) (memb-at t) memb.Post
   none-requires c κs =
@@ -121,7 +117,7 @@ module _ (t : ℕ) where
       let pre = c .before .before .before .before .before .before .before .before .before .before .before .before .before .before .before .before .before .before .before .before .pre in
       let member-head = c .before .before .before .before .before .before .before .before .before .before .before .before .before .before .member-head in
       let none = c .none in
-      (omega (arith, pre, member-head .ensures .1), (ready (pre .1) (omega arith) (omega (arith, pre, member-head .ensures .1)), omega arith, omega (arith, same-kids (none .ensures))))
+      (omega arith, (ready (pre .1) (omega arith) (omega arith), omega arith, omega (arith, same-kids (none .ensures))))
 
   pub refused-requires-2 : lts.Need-refused-requires-2 (R t) (memb-at t) memb.Post
   refused-requires-2 c κs =
@@ -154,14 +150,13 @@ module _ (t : ℕ) where
   pub property-choices-requires : lts.Need-property-choices-requires (R t) (memb-at t) memb.Post
   property-choices-requires c κs =
       let member-head = c .before .before .before .before .before .before .before .before .before .before .before .before .before .before .before .before .before .before .before .before .before .member-head in
-      omega (arith, member-head .ensures .1)
+      omega arith
 
   pub member-node-requires : lts.Need-member-node-requires (R t) (memb-at t) memb.Post
   member-node-requires c κs =
       let pre = c .before .before .before .before .before .before .before .before .before .before .before .before .before .before .before .before .before .before .before .before .before .before .before .before .before .before .before .before .before .pre in
       let at = c .before .before .before .before .before .before .before .before .before .before .before .before .before .before .before .before .before .before .at in
-      let opt = c .before .before .before .before .before .before .before .before .opt in
-      (pre .1 .sound, omega (arith, pre, opt .kept), omega (arith, opt .ensures .1 .0), omega (arith, opt .ensures .1 .0), omega (arith, at .ensures), omega (arith, at .ensures, pre))
+      (pre .1 .sound, omega arith, omega arith, omega arith, omega arith, omega arith)
 
   pub same-length-8 : lts.Need-same-length-8 (R t) (memb-at t) memb.Post
   same-length-8 c =
@@ -187,4 +182,4 @@ module _ (t : ℕ) where
       let if4 = c .before .before .before .before .before .if4 in
       let property-choices = c .before .before .before .before .property-choices in
       let member-node = c .before .before .member-node in
-      (member-property (args .text .now) (args .words .now) (args .given) _ (member-head .ensures .0 (args .notes .now) (args .given) .done (if1 .left)) (at .ensures .0 .0) (if3 .left) (λ readonly k question laid choices. let o = (opt .ensures .0 _ _ (built-as (none .ensures) (built-names (k .spelling ∷ []) laid))) .done (if4 .left) in says-same (property-typed _ _ _ readonly k question _ (o .is)) (member-node .ensures .0 (args .text .now) _ _ 0 (propertyContent readonly k question (o .tree)) _ _ (o .built) (at .ensures .0 .1) (property-shaped readonly k question (o .tree) (opt .result .there) (o .is-opt) choices (property-choices .ensures) (o .there-is)))), (omega (arith, member-node .ensures .1), λ z. omega (arith, member-node .ensures .1, member-head .ensures .1, opt .ensures .1 .1 (if4 .left), if1 .left, if3 .left, z)))
+      (member-property (args .text .now) (args .words .now) (args .given) _ (member-head .ensures .0 (args .notes .now) (args .given) .done (if1 .left)) (at .ensures .0 .0) (if3 .left) (λ readonly k question laid choices. let o = (opt .ensures .0 _ _ (built-as (none .ensures) (built-names (k .spelling ∷ []) laid))) .done (if4 .left) in says-same (property-typed _ _ _ readonly k question _ (o .is)) (member-node .ensures .0 (args .text .now) _ _ 0 (propertyContent readonly k question (o .tree)) _ _ (o .built) (at .ensures .0 .1) (property-shaped readonly k question (o .tree) (opt .result .there) (o .is-opt) choices (property-choices .ensures) (o .there-is)))), (omega arith, λ z. omega (arith, member-node .ensures .1, member-head .ensures .1, opt .ensures .1 .1 (if4 .left), if1 .left, if3 .left, z)))

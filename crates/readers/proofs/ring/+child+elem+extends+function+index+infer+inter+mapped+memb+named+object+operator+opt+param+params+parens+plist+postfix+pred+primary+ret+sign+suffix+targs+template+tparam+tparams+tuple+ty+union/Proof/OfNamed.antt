@@ -105,7 +105,7 @@ module _ (t : ℕ) where
         omega arith,
         omega arith,
         omega arith,
-        omega (arith, targs .ensures .1 .1 (if2 .left), named-head .ensures .1),
+        omega arith,
       )
 
   pub same-length-4 : lts.Need-same-length-4 (R t) (named-at t) named.Post

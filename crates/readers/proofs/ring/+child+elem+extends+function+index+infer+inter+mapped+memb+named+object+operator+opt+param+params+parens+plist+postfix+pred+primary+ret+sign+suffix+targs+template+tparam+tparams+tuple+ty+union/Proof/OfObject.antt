@@ -110,7 +110,7 @@ module _ (t : ℕ) where
       let memb = c .before .before .before .before .before .before .before .before .before .before .before .memb in
       let if2 = c .before .before .before .before .before .if2 in
       let link = c .before .before .link in
-      (omega (arith, memb .ensures .1 .0, memb .kept, memb .ensures .1 .1 (if2 .left), loop .inv .0, loop .inv .1, same-kids (none .ensures)), omega (arith, link .ensures .1), λ curly. object-again _ _ _ (loop .inv .2 curly) (is-not-here (args .words .now) (loop .p) (kind-at .ensures .0) (if1 .taken)) (memb .ensures .0 .done (if2 .left)) (omega (arith, memb .ensures .1 .1 (if2 .left), memb .ensures .1 .0)) (omega (arith, memb .ensures .1 .0)) (link .ensures .0) (link .ensures .1 .1) (omega (arith, memb .kept)))
+      (omega (arith, memb .ensures .1 .0, memb .kept, memb .ensures .1 .1 (if2 .left), loop .inv .0, loop .inv .1, same-kids (none .ensures)), omega arith, λ curly. object-again _ _ _ (loop .inv .2 curly) (is-not-here (args .words .now) (loop .p) (kind-at .ensures .0) (if1 .taken)) (memb .ensures .0 .done (if2 .left)) (omega (arith, memb .ensures .1 .1 (if2 .left), memb .ensures .1 .0)) (omega arith) (link .ensures .0) (link .ensures .1 .1) (omega arith))
 
   pub add-t15-2 : lts.Need-add-t15-2 (R t) (object-at t) object.Post Inv-loop μ-loop
   add-t15-2 c =
@@ -119,7 +119,7 @@ module _ (t : ℕ) where
   pub at-requires : lts.Need-at-requires (R t) (object-at t) object.Post Inv-loop μ-loop
   at-requires c κs =
       let pre = c .before .before .before .before .before .before .before .before .before .before .pre in
-      (pre .1 .0 .sound, omega (arith, pre))
+      (pre .1 .0 .sound, omega arith)
 
   pub put-list-requires : lts.Need-put-list-requires (R t) (object-at t) object.Post Inv-loop μ-loop
   put-list-requires c κs =
@@ -146,4 +146,4 @@ module _ (t : ℕ) where
       let if1 = c .before .before .before .before .before .before .if1 in
       let at = c .before .before .before .before .at in
       let put-list = c .before .before .put-list in
-      (λ curly. says-same (object-closed _ _ _ (loop .inv .2 curly) (at .ensures .0 .0) (is-here (args .words .now) (loop .p) (kind-at .ensures .0) (if1 .left))) (put-list .ensures .0 (args .text .now) _ _ _ _ _ ((loop .inv .2 curly) .built) (at .ensures .0 .1) (object-listed _ _ _ (loop .inv .2 curly))), (omega (arith, put-list .ensures .1), λ z. omega (arith, pre, put-list .ensures .1)))
+      (λ curly. says-same (object-closed _ _ _ (loop .inv .2 curly) (at .ensures .0 .0) (is-here (args .words .now) (loop .p) (kind-at .ensures .0) (if1 .left))) (put-list .ensures .0 (args .text .now) _ _ _ _ _ ((loop .inv .2 curly) .built) (at .ensures .0 .1) (object-listed _ _ _ (loop .inv .2 curly))), (omega arith, λ z. omega arith))

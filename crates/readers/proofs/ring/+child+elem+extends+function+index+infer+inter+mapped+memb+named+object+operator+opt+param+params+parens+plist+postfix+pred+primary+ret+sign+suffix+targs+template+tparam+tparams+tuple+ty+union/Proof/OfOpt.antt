@@ -23,23 +23,19 @@ module _ (t : ℕ) where
 
   pub returns : lts.Need-returns (R t) (opt-at t) opt.Post
   returns c =
-      let pre = c .before .before .before .before .before .before .pre in
       let args = c .before .before .before .before .before .before .args in
       let kind-at = c .before .kind-at in
       let if1 = c .if1 in
-      (λ B t b. option-absent (givenOf (args .text .now) (args .words .now) (args .given)) (args .mark) ((below (args .given) (givenOf (args .text .now) (args .words .now) (args .given))) (args .on)) (args .m) (is-not-here (args .words .now) (args .m) (kind-at .ensures .0) (if1 .taken)) b, (omega (arith, pre, kind-at .ensures .1), λ z. omega (arith, pre, kind-at .ensures .1)))
+      (λ B t b. option-absent (givenOf (args .text .now) (args .words .now) (args .given)) (args .mark) ((below (args .given) (givenOf (args .text .now) (args .words .now) (args .given))) (args .on)) (args .m) (is-not-here (args .words .now) (args .m) (kind-at .ensures .0) (if1 .taken)) b, (omega arith, λ z. omega arith))
 
   pub add-t13 : lts.Need-add-t13 (R t) (opt-at t) opt.Post
   add-t13 c =
-      let pre = c .before .before .before .before .before .before .before .pre in
-      let kind-at = c .before .before .kind-at in
-      omega (arith, pre, kind-at .ensures .1)
+      omega arith
 
   pub child-requires : lts.Need-child-requires (R t) (opt-at t) opt.Post
   child-requires c κs =
       let pre = c .before .before .before .before .before .before .before .before .before .before .pre in
-      let kind-at = c .before .before .before .before .before .kind-at in
-      (omega (arith, pre, kind-at .ensures .1), (ready (pre .1 .0) (omega (arith, pre, kind-at .ensures .1)) (omega (arith, pre, kind-at .ensures .1)), omega (arith, pre, kind-at .ensures .1)))
+      (omega arith, (ready (pre .1 .0) (omega arith) (omega arith), omega arith))
 
   pub same-length : lts.Need-same-length (R t) (opt-at t) opt.Post
   same-length c =
@@ -58,4 +54,4 @@ module _ (t : ℕ) where
       let kind-at = c .before .before .before .before .before .before .before .before .before .before .kind-at in
       let if1 = c .before .before .before .before .before .before .before .before .before .if1 in
       let child = c .before .before .before .before .child in
-      (λ B t b. option-there (givenOf (args .text .now) (args .words .now) (args .given)) (args .mark) ((below (args .given) (givenOf (args .text .now) (args .words .now) (args .given))) (args .on)) (args .m) (args .notes .now) (is-here (args .words .now) (args .m) (kind-at .ensures .0) (if1 .left)) (λ z. child .ensures .1 .1 z .2) (child .ensures .0 B t b), (omega (arith, pre, kind-at .ensures .1, child .ensures .1 .0), λ z. omega (arith, pre, kind-at .ensures .1, child .ensures .1 .0, child .ensures .1 .1 z .0)))
+      (λ B t b. option-there (givenOf (args .text .now) (args .words .now) (args .given)) (args .mark) ((below (args .given) (givenOf (args .text .now) (args .words .now) (args .given))) (args .on)) (args .m) (args .notes .now) (is-here (args .words .now) (args .m) (kind-at .ensures .0) (if1 .left)) (λ z. child .ensures .1 .1 z .2) (child .ensures .0 B t b), (omega arith, λ z. omega (arith, pre, kind-at .ensures .1, child .ensures .1 .0, child .ensures .1 .1 z .0)))

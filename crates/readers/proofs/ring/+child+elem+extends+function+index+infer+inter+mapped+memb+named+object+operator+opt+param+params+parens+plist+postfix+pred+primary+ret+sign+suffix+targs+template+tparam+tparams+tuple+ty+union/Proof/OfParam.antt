@@ -29,13 +29,11 @@ module _ (t : ℕ) where
   pub param-head-requires : lts.Need-param-head-requires (R t) (param-at t) param.Post
   param-head-requires c κs =
       let pre = c .before .before .before .before .before .pre in
-      (pre .1 .classes-are, pre .1 .sound, omega (arith, pre), omega (arith, pre))
+      (pre .1 .classes-are, pre .1 .sound, omega arith, omega arith)
 
   pub refused-requires : lts.Need-refused-requires (R t) (param-at t) param.Post
   refused-requires c κs =
-      let pre = c .before .before .before .before .before .before .before .before .before .before .pre in
-      let param-head = c .before .before .before .before .param-head in
-      omega (arith, pre, param-head .ensures .1, param-head .kept)
+      omega arith
 
   pub same-length : lts.Need-same-length (R t) (param-at t) param.Post
   same-length c =
@@ -60,15 +58,11 @@ module _ (t : ℕ) where
       let pre = c .before .before .before .before .before .before .before .before .before .before .before .before .before .before .pre in
       let param-head = c .before .before .before .before .before .before .before .before .param-head in
       let none = c .none in
-      (omega (arith, pre, param-head .ensures .1, same-kids (none .ensures)), (ready (pre .1) (omega (arith, pre, param-head .ensures .1, param-head .kept, same-kids (none .ensures))) (omega (arith, pre, param-head .ensures .1, same-kids (none .ensures))), omega (arith, pre, param-head .ensures .1, same-kids (none .ensures)), omega (arith, pre, param-head .ensures .1, same-kids (none .ensures))))
+      (omega arith, (ready (pre .1) (omega arith) (omega arith), omega arith, omega (arith, pre, param-head .ensures .1, same-kids (none .ensures))))
 
   pub refused-requires-2 : lts.Need-refused-requires-2 (R t) (param-at t) param.Post
   refused-requires-2 c κs =
-      let pre = c .before .before .before .before .before .before .before .before .before .before .before .before .before .before .before .before .before .before .before .before .before .pre in
-      let param-head = c .before .before .before .before .before .before .before .before .before .before .before .before .before .before .before .param-head in
-      let none = c .before .before .before .before .before .before .before .none in
-      let opt = c .before .before .before .before .before .before .opt in
-      omega (arith, pre, param-head .ensures .1, param-head .kept, same-kids (none .ensures), opt .ensures .1 .0, opt .kept)
+      omega arith
 
   pub same-length-2 : lts.Need-same-length-2 (R t) (param-at t) param.Post
   same-length-2 c =
@@ -99,13 +93,7 @@ module _ (t : ℕ) where
 
   pub mul-choices : lts.Need-mul-choices (R t) (param-at t) param.Post
   mul-choices c =
-      let pre = c .before .before .before .before .before .before .before .before .before .before .before .before .before .before .before .before .before .before .before .before .before .before .pre in
-      let param-head = c .before .before .before .before .before .before .before .before .before .before .before .before .before .before .before .before .param-head in
-      let none = c .before .before .before .before .before .before .before .before .none in
-      let opt = c .before .before .before .before .before .before .before .opt in
-      let if2 = c .before .if2 in
-      let opt-bit = c .opt-bit in
-      omega (arith, pre, param-head .ensures .1, same-kids (none .ensures), opt .ensures .1 .0, opt .ensures .1 .1 (if2 .left), opt-bit .ensures .1)
+      omega arith
 
   pub add-choices : lts.Need-add-choices (R t) (param-at t) param.Post
   add-choices c =
@@ -115,28 +103,17 @@ module _ (t : ℕ) where
       let opt = c .before .before .before .before .before .before .before .before .opt in
       let if2 = c .before .before .if2 in
       let opt-bit = c .before .opt-bit in
-      omega (arith, pre, param-head .ensures .1, same-kids (none .ensures), opt .ensures .1 .0, opt .ensures .1 .1 (if2 .left), opt-bit .ensures .1)
+      omega arith
 
   pub at-requires : lts.Need-at-requires (R t) (param-at t) param.Post
   at-requires c κs =
       let pre = c .before .before .before .before .before .before .before .before .before .before .before .before .before .before .before .before .before .before .before .before .before .before .before .before .pre in
-      let param-head = c .before .before .before .before .before .before .before .before .before .before .before .before .before .before .before .before .before .before .param-head in
-      let none = c .before .before .before .before .before .before .before .before .before .before .none in
-      let opt = c .before .before .before .before .before .before .before .before .before .opt in
-      let if2 = c .before .before .before .if2 in
-      let opt-bit = c .before .before .opt-bit in
-      (pre .1 .sound, omega (arith, pre, param-head .ensures .1, same-kids (none .ensures), opt .ensures .1 .0, opt .ensures .1 .1 (if2 .left), opt-bit .ensures .1))
+      (pre .1 .sound, omega arith)
 
   pub put-requires : lts.Need-put-requires (R t) (param-at t) param.Post
   put-requires c κs =
       let pre = c .before .before .before .before .before .before .before .before .before .before .before .before .before .before .before .before .before .before .before .before .before .before .before .before .before .pre in
-      let param-head = c .before .before .before .before .before .before .before .before .before .before .before .before .before .before .before .before .before .before .before .param-head in
-      let none = c .before .before .before .before .before .before .before .before .before .before .before .none in
-      let opt = c .before .before .before .before .before .before .before .before .before .before .opt in
-      let if2 = c .before .before .before .before .if2 in
-      let opt-bit = c .before .before .before .opt-bit in
-      let at = c .at in
-      (pre .1 .sound, omega (arith, pre, param-head .ensures .1, param-head .kept, same-kids (none .ensures), opt .ensures .1 .0, opt .ensures .1 .1 (if2 .left), opt .kept, opt-bit .ensures .1, at .ensures .0, at .ensures .1), omega (arith, pre, param-head .ensures .1, param-head .kept, same-kids (none .ensures), opt .ensures .1 .0, opt .ensures .1 .1 (if2 .left), opt .kept, opt-bit .ensures .1, at .ensures .0, at .ensures .1), omega (arith, pre, param-head .ensures .1, param-head .kept, same-kids (none .ensures), opt .ensures .1 .0, opt .ensures .1 .1 (if2 .left), opt .kept, opt-bit .ensures .1, at .ensures .0, at .ensures .1), omega (arith, pre, param-head .ensures .1, param-head .kept, same-kids (none .ensures), opt .ensures .1 .0, opt .ensures .1 .1 (if2 .left), opt .kept, opt-bit .ensures .1, at .ensures .0, at .ensures .1), omega (arith, pre, param-head .ensures .1, param-head .kept, same-kids (none .ensures), opt .ensures .1 .0, opt .ensures .1 .1 (if2 .left), opt .kept, opt-bit .ensures .1, at .ensures .0, at .ensures .1))
+      (pre .1 .sound, omega arith, omega arith, omega arith, omega arith, omega arith)
 
   pub same-length-4 : lts.Need-same-length-4 (R t) (param-at t) param.Post
   same-length-4 c =
@@ -162,4 +139,4 @@ module _ (t : ℕ) where
       let opt-bit = c .before .before .before .before .before .before .opt-bit in
       let at = c .before .before .before .at in
       let put = c .before .before .put in
-      (let head = param-head .ensures .0 (args .text .now) (args .notes .now) (args .given) (pre .1 .spelt) .done (if1 .left) in let x = opt .ensures .0 _ _ (built-spoken (none .ensures) (head .spoken)) .done (if2 .left) in let rest = here (args .words .now) Dot3 (args .m) in says-same (parameter-is _ _ _ ∙ then-read _ (head .is) ∙ then-read _ (x .is) ∙ make-first _ _ _ _ _ (at .ensures .0 .0)) (put .ensures .0 (args .text .now) 5 _ _ 0 _ _ _ (x .built) (at .ensures .0 .1) (shape-as (omega (arith, opt-bit .ensures .0, param-head .ensures .1, x .there-is)) (shape-parameter rest (head .what .0) (head .what .1) (x .tree) (x .is-opt)))), (omega (arith, pre, param-head .ensures .1, same-kids (none .ensures), opt .ensures .1 .0, opt .ensures .1 .1 (if2 .left), opt-bit .ensures .1, at .ensures .0, at .ensures .1, put .ensures .1), λ z. omega (arith, pre, param-head .ensures .1, same-kids (none .ensures), opt .ensures .1 .0, opt .ensures .1 .1 (if2 .left), opt-bit .ensures .1, at .ensures .0, at .ensures .1, put .ensures .1, z)))
+      (let head = param-head .ensures .0 (args .text .now) (args .notes .now) (args .given) (pre .1 .spelt) .done (if1 .left) in let x = opt .ensures .0 _ _ (built-spoken (none .ensures) (head .spoken)) .done (if2 .left) in let rest = here (args .words .now) Dot3 (args .m) in says-same (parameter-is _ _ _ ∙ then-read _ (head .is) ∙ then-read _ (x .is) ∙ make-first _ _ _ _ _ (at .ensures .0 .0)) (put .ensures .0 (args .text .now) 5 _ _ 0 _ _ _ (x .built) (at .ensures .0 .1) (shape-as (omega arith) (shape-parameter rest (head .what .0) (head .what .1) (x .tree) (x .is-opt)))), (omega arith, λ z. omega (arith, pre, param-head .ensures .1, same-kids (none .ensures), opt .ensures .1 .0, opt .ensures .1 .1 (if2 .left), opt-bit .ensures .1, at .ensures .0, at .ensures .1, put .ensures .1, z)))

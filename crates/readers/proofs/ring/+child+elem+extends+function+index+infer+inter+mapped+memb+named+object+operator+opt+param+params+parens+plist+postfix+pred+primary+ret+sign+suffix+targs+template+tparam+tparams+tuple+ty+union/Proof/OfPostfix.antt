@@ -69,7 +69,7 @@ module _ (t : ℕ) where
   pub at-requires : lts.Need-at-requires (R t) (postfix-at t) postfix.Post Inv-loop μ-loop
   at-requires c κs =
       let pre = c .before .before .before .before .before .before .before .before .before .before .before .before .before .before .before .pre in
-      (pre .1 .sound, omega (arith, pre))
+      (pre .1 .sound, omega arith)
 
   pub loop-holds : lts.Need-loop-holds (R t) (postfix-at t) postfix.Post Inv-loop μ-loop
   loop-holds c =
@@ -102,7 +102,7 @@ module _ (t : ℕ) where
       let suffixed = c .before .before .before .before .suffixed in
       let if2 = c .before .before .before .if2 in (
         omega (arith, primary .ensures .1 .1 (if1 .left)),
-        (ready (pre .1) (omega arith) (omega arith), suffixed-inside (givenOf [] (args .words .now) (args .given)) (view (loop .p) []) (sym (suffixed .ensures [] [] (args .given)) ∙ if2 .taken), omega arith, omega arith, omega (arith, at .ensures .0, at .ensures .1, pre)),
+        (ready (pre .1) (omega arith) (omega arith), suffixed-inside (givenOf [] (args .words .now) (args .given)) (view (loop .p) []) (sym (suffixed .ensures [] [] (args .given)) ∙ if2 .taken), omega arith, omega arith, omega arith),
       )
 
   pub same-length-3 : lts.Need-same-length-3 (R t) (postfix-at t) postfix.Post Inv-loop μ-loop

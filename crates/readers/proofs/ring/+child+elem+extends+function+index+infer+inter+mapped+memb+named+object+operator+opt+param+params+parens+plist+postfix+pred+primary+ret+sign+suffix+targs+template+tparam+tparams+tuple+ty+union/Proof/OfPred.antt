@@ -33,7 +33,7 @@ module _ (t : ℕ) where
   pub subject-requires : lts.Need-subject-requires (R t) (pred-at t) pred.Post
   subject-requires c κs =
       let pre = c .before .before .before .before .before .pre in
-      (pre .1 .0 .sound, omega (arith, pre), omega (arith, pre))
+      (pre .1 .0 .sound, omega arith, omega arith)
 
   pub none-requires : lts.Need-none-requires (R t) (pred-at t) pred.Post
   none-requires c κs =
@@ -44,15 +44,11 @@ module _ (t : ℕ) where
       let pre = c .before .before .before .before .before .before .before .before .before .before .before .before .pre in
       let subject = c .before .before .before .before .before .before .subject in
       let none = c .none in
-      (omega (arith, pre, subject .ensures .1 .1, same-kids (none .ensures)), (ready (pre .1 .0) (omega (arith, pre, subject .ensures .1 .1, same-kids (none .ensures))) (omega (arith, pre, subject .ensures .1 .1, same-kids (none .ensures))), omega (arith, pre, subject .ensures .1 .1, same-kids (none .ensures)), omega (arith, pre, subject .ensures .1 .1, same-kids (none .ensures))))
+      (omega arith, (ready (pre .1 .0) (omega arith) (omega arith), omega arith, omega (arith, pre, subject .ensures .1 .1, same-kids (none .ensures))))
 
   pub refused-requires : lts.Need-refused-requires (R t) (pred-at t) pred.Post
   refused-requires c κs =
-      let pre = c .before .before .before .before .before .before .before .before .before .before .before .before .before .before .before .before .before .before .before .pre in
-      let subject = c .before .before .before .before .before .before .before .before .before .before .before .before .before .subject in
-      let none = c .before .before .before .before .before .before .before .none in
-      let opt = c .before .before .before .before .before .before .opt in
-      omega (arith, pre, subject .ensures .1 .1, same-kids (none .ensures), opt .ensures .1 .0, opt .kept)
+      omega arith
 
   pub same-length : lts.Need-same-length (R t) (pred-at t) pred.Post
   same-length c =
@@ -78,12 +74,7 @@ module _ (t : ℕ) where
 
   pub mul-choices : lts.Need-mul-choices (R t) (pred-at t) pred.Post
   mul-choices c =
-      let pre = c .before .before .before .before .before .before .before .before .before .before .before .before .before .before .before .before .before .before .before .pre in
-      let subject = c .before .before .before .before .before .before .before .before .before .before .before .before .before .subject in
-      let none = c .before .before .before .before .before .before .before .none in
-      let opt = c .before .before .before .before .before .before .opt in
-      let if1 = c .if1 in
-      omega (arith, pre, subject .ensures .1 .1, same-kids (none .ensures), opt .ensures .1 .0, opt .ensures .1 .1 (if1 .left))
+      omega arith
 
   pub opt-bit-requires : lts.Need-opt-bit-requires (R t) (pred-at t) pred.Post
   opt-bit-requires c κs =
@@ -91,13 +82,7 @@ module _ (t : ℕ) where
 
   pub mul-choices-2 : lts.Need-mul-choices-2 (R t) (pred-at t) pred.Post
   mul-choices-2 c =
-      let pre = c .before .before .before .before .before .before .before .before .before .before .before .before .before .before .before .before .before .before .before .before .pre in
-      let subject = c .before .before .before .before .before .before .before .before .before .before .before .before .before .before .subject in
-      let none = c .before .before .before .before .before .before .before .before .none in
-      let opt = c .before .before .before .before .before .before .before .opt in
-      let if1 = c .before .if1 in
-      let opt-bit = c .opt-bit in
-      omega (arith, pre, subject .ensures .1 .1, same-kids (none .ensures), opt .ensures .1 .0, opt .ensures .1 .1 (if1 .left), opt-bit .ensures .1)
+      omega arith
 
   pub add-choices : lts.Need-add-choices (R t) (pred-at t) pred.Post
   add-choices c =
@@ -109,23 +94,12 @@ module _ (t : ℕ) where
   pub at-requires : lts.Need-at-requires (R t) (pred-at t) pred.Post
   at-requires c κs =
       let pre = c .before .before .before .before .before .before .before .before .before .before .before .before .before .before .before .before .before .before .before .before .before .before .pre in
-      let subject = c .before .before .before .before .before .before .before .before .before .before .before .before .before .before .before .before .subject in
-      let none = c .before .before .before .before .before .before .before .before .before .before .none in
-      let opt = c .before .before .before .before .before .before .before .before .before .opt in
-      let if1 = c .before .before .before .if1 in
-      let opt-bit = c .before .before .opt-bit in
-      (pre .1 .0 .sound, omega (arith, pre, subject .ensures .1 .1, same-kids (none .ensures), opt .ensures .1 .0, opt .ensures .1 .1 (if1 .left), opt-bit .ensures .1))
+      (pre .1 .0 .sound, omega arith)
 
   pub put-requires : lts.Need-put-requires (R t) (pred-at t) pred.Post
   put-requires c κs =
       let pre = c .before .before .before .before .before .before .before .before .before .before .before .before .before .before .before .before .before .before .before .before .before .before .before .pre in
-      let subject = c .before .before .before .before .before .before .before .before .before .before .before .before .before .before .before .before .before .subject in
-      let none = c .before .before .before .before .before .before .before .before .before .before .before .none in
-      let opt = c .before .before .before .before .before .before .before .before .before .before .opt in
-      let if1 = c .before .before .before .before .if1 in
-      let opt-bit = c .before .before .before .opt-bit in
-      let at = c .at in
-      (pre .1 .0 .sound, omega (arith, pre, subject .ensures .1 .1, same-kids (none .ensures), opt .ensures .1 .0, opt .ensures .1 .1 (if1 .left), opt .kept, opt-bit .ensures .1, at .ensures .0, at .ensures .1), omega (arith, pre, subject .ensures .1 .1, same-kids (none .ensures), opt .ensures .1 .0, opt .ensures .1 .1 (if1 .left), opt .kept, opt-bit .ensures .1, at .ensures .0, at .ensures .1), omega (arith, pre, subject .ensures .1 .1, same-kids (none .ensures), opt .ensures .1 .0, opt .ensures .1 .1 (if1 .left), opt .kept, opt-bit .ensures .1, at .ensures .0, at .ensures .1), omega (arith, pre, subject .ensures .1 .1, same-kids (none .ensures), opt .ensures .1 .0, opt .ensures .1 .1 (if1 .left), opt .kept, opt-bit .ensures .1, at .ensures .0, at .ensures .1), omega (arith, pre, subject .ensures .1 .1, same-kids (none .ensures), opt .ensures .1 .0, opt .ensures .1 .1 (if1 .left), opt .kept, opt-bit .ensures .1, at .ensures .0, at .ensures .1))
+      (pre .1 .0 .sound, omega arith, omega arith, omega arith, omega arith, omega arith)
 
   pub same-length-3 : lts.Need-same-length-3 (R t) (pred-at t) pred.Post
   same-length-3 c =
@@ -150,4 +124,4 @@ module _ (t : ℕ) where
       let opt-bit = c .before .before .before .before .before .before .opt-bit in
       let at = c .before .before .before .at in
       let put = c .before .before .put in
-      (let begins = predicate-starts _ _ (args .asserts) (args .m) (subject .result .m) (args .notes .now) (subject .ensures .1 .1) in let x = opt .ensures .0 _ _ (built-spoken (none .ensures) (subject .ensures .0 (args .text .now) (args .notes .now) (args .given) (pre .1 .0 .spelt))) .done (if1 .left) in let about = function.subject (givenOf (args .text .now) (args .words .now) (args .given)) (subjectAt (args .asserts) (view (args .m) (args .notes .now))) in let this-is = subject-this (args .text .now) (args .words .now) (args .given) (args .asserts) (args .m) (args .notes .now) in says-same (begins ∙ then-read _ (x .is) ∙ make-first _ _ _ _ _ (at .ensures .0 .0)) (put .ensures .0 (args .text .now) 0 _ _ 16 _ _ _ (x .built) (at .ensures .0 .1) (shape-as (omega (arith, ap (predicateChoices (args .asserts)) this-is, subject .ensures .1 .1, opt-bit .ensures .0, x .there-is)) (shape-predicate (args .asserts) about (x .tree) (x .is-opt)))), (omega (arith, pre, subject .ensures .1 .1, same-kids (none .ensures), opt .ensures .1 .0, opt .ensures .1 .1 (if1 .left), opt-bit .ensures .1, at .ensures .0, at .ensures .1, put .ensures .1), λ z. omega (arith, pre, subject .ensures .1 .1, same-kids (none .ensures), opt .ensures .1 .0, opt .ensures .1 .1 (if1 .left), opt-bit .ensures .1, at .ensures .0, at .ensures .1, put .ensures .1, z)))
+      (let begins = predicate-starts _ _ (args .asserts) (args .m) (subject .result .m) (args .notes .now) (subject .ensures .1 .1) in let x = opt .ensures .0 _ _ (built-spoken (none .ensures) (subject .ensures .0 (args .text .now) (args .notes .now) (args .given) (pre .1 .0 .spelt))) .done (if1 .left) in let about = function.subject (givenOf (args .text .now) (args .words .now) (args .given)) (subjectAt (args .asserts) (view (args .m) (args .notes .now))) in let this-is = subject-this (args .text .now) (args .words .now) (args .given) (args .asserts) (args .m) (args .notes .now) in says-same (begins ∙ then-read _ (x .is) ∙ make-first _ _ _ _ _ (at .ensures .0 .0)) (put .ensures .0 (args .text .now) 0 _ _ 16 _ _ _ (x .built) (at .ensures .0 .1) (shape-as (omega (arith, ap (predicateChoices (args .asserts)) this-is, subject .ensures .1 .1, opt-bit .ensures .0, x .there-is)) (shape-predicate (args .asserts) about (x .tree) (x .is-opt)))), (omega arith, λ z. omega (arith, pre, subject .ensures .1 .1, same-kids (none .ensures), opt .ensures .1 .0, opt .ensures .1 .1 (if1 .left), opt-bit .ensures .1, at .ensures .0, at .ensures .1, put .ensures .1, z)))

@@ -58,7 +58,7 @@ module _ (t : ℕ) where
             says-same (start-is (args .words .now) (args .m) (enum-told .given .1) (primary-start .ensures .0) text (args .notes .now)
             (args .given) _)
             (keyword .ensures .0 text _ _),
-        (omega arith, λ z. omega (arith, pre)),
+        (omega arith, λ z. omega arith),
       )
 
   pub enum-told-2 : lts.Need-enum-told-2 (R t) (primary-at t) primary.Post
@@ -95,7 +95,7 @@ module _ (t : ℕ) where
             let is = start-is (args .words .now) (args .m) (enum-told2 .given .1) (primary-start .ensures .0) text (args .notes .now)
             (args .given) _ in
             says-same (is .0) (literal .ensures .0 text _ s (is .1)),
-        (omega arith, λ z. omega (arith, pre)),
+        (omega arith, λ z. omega arith),
       )
 
   pub enum-told-3 : lts.Need-enum-told-3 (R t) (primary-at t) primary.Post

@@ -62,7 +62,7 @@ module _ (t : ℕ) where
       let pre = c .before .before .before .before .before .before .before .before .before .before .before .before .before .before .before .before .before .before .pre in
       let tparams = c .before .before .before .before .before .before .before .before .before .before .tparams in
       let if1 = c .before .before .before .before .if1 in
-      (omega (arith, pre, tparams .ensures .1 .0, tparams .ensures .1 .1 (if1 .left), tparams .kept), (ready (pre .1 .0) (omega (arith, pre, tparams .ensures .1 .0, tparams .ensures .1 .1 (if1 .left), tparams .kept)) (omega (arith, pre, tparams .ensures .1 .0, tparams .ensures .1 .1 (if1 .left), tparams .kept)), omega (arith, pre, tparams .ensures .1 .0, tparams .ensures .1 .1 (if1 .left), tparams .kept)))
+      (omega (arith, pre, tparams .ensures .1 .0, tparams .ensures .1 .1 (if1 .left), tparams .kept), (ready (pre .1 .0) (omega arith) (omega arith), omega arith))
 
   pub refused-requires-2 : lts.Need-refused-requires-2 (R t) (sign-at t) sign.Post
   refused-requires-2 c κs =
@@ -93,12 +93,7 @@ module _ (t : ℕ) where
 
   pub note-this-requires : lts.Need-note-this-requires (R t) (sign-at t) sign.Post
   note-this-requires c κs =
-      let pre = c .before .before .before .before .before .before .before .before .before .before .before .before .before .before .before .before .before .before .before .before .before .before .before .before .before .before .pre in
-      let tparams = c .before .before .before .before .before .before .before .before .before .before .before .before .before .before .before .before .before .before .tparams in
-      let if1 = c .before .before .before .before .before .before .before .before .before .before .before .before .if1 in
-      let params = c .before .before .before .before .before .before .before .params in
-      let if2 = c .before .if2 in
-      omega (arith, pre, tparams .ensures .1 .0, tparams .ensures .1 .1 (if1 .left), tparams .kept, params .ensures .1 .0, params .ensures .1 .1 (if2 .left), params .kept)
+      omega arith
 
   pub refused-requires-3 : lts.Need-refused-requires-3 (R t) (sign-at t) sign.Post
   refused-requires-3 c κs =
@@ -142,7 +137,7 @@ module _ (t : ℕ) where
       let if2 = c .before .before .before .before .before .before .before .before .if2 in
       let note-this = c .before .before .before .before .before .before .note-this in
       let kind-at = c .before .before .kind-at in
-      ((pre .1 .0 .sound, omega (arith, pre, tparams .ensures .1 .0, tparams .ensures .1 .1 (if1 .left), tparams .kept, params .ensures .1 .0, params .ensures .1 .1 (if2 .left), params .kept, note-this .ensures .1, kind-at .ensures .1), omega (arith, pre, tparams .ensures .1 .0, tparams .ensures .1 .1 (if1 .left), tparams .kept, params .ensures .1 .0, params .ensures .1 .1 (if2 .left), params .kept, note-this .ensures .1, kind-at .ensures .1), omega (arith, pre, tparams .ensures .1 .0, tparams .ensures .1 .1 (if1 .left), tparams .kept, params .ensures .1 .0, params .ensures .1 .1 (if2 .left), params .kept, note-this .ensures .1, kind-at .ensures .1), omega (arith, pre), omega (arith, pre)), omega (arith, pre), omega (arith, pre, tparams .ensures .1 .0, tparams .ensures .1 .1 (if1 .left), tparams .kept, params .ensures .1 .0, params .ensures .1 .1 (if2 .left), params .kept, note-this .ensures .1, kind-at .ensures .1))
+      ((pre .1 .0 .sound, omega arith, omega arith, omega arith, omega arith, omega arith), omega arith, omega arith)
 
   pub same-length-7 : lts.Need-same-length-7 (R t) (sign-at t) sign.Post
   same-length-7 c =
@@ -170,19 +165,12 @@ module _ (t : ℕ) where
       let kind-at = c .before .before .before .before .before .kind-at in
       let if4 = c .before .before .before .before .if4 in
       let signature-node = c .before .before .signature-node in
-      (λ B x d n e. let g = givenOf (args .text .now) (args .words .now) (args .given) in let T = below (args .given) g in let b = args .b .first in let s = view (args .m) (args .notes .now) in let l = tparams .ensures .0 .done (if1 .left) in let got = (params-as g T _ (construct-is x e) (params .ensures .0 _ _ (built-behind (signatureNames x) d (l .built)))) .done (if2 .left) in let step = note-this .ensures .0 (args .text .now) (args .words .now) x (got .what .this) (construct-is x e) (got .this-is) in says-same (sign-plain g T b x s (l .is) (got .is) (step .done (if3 .left)) (is-not-here (args .words .now) (note-this .result .m) (kind-at .ensures .0) (if4 .taken))) (sign-untyped (args .text .now) (args .words .now) (args .given) T (args .b) (note-this .result .m) x (l .list) got (built-stepped step (if3 .left) (got .built)) (l .each) (l .there-is) (l .count-is) n e (signature-node .ensures .0)), (omega (arith, signature-node .ensures .1), λ z. omega (arith, pre, tparams .ensures .1 .0, tparams .ensures .1 .1 (if1 .left), tparams .kept, params .ensures .1 .0, params .ensures .1 .1 (if2 .left), params .kept, note-this .ensures .1, kind-at .ensures .1, signature-node .ensures .1, z)))
+      (λ B x d n e. let g = givenOf (args .text .now) (args .words .now) (args .given) in let T = below (args .given) g in let b = args .b .first in let s = view (args .m) (args .notes .now) in let l = tparams .ensures .0 .done (if1 .left) in let got = (params-as g T _ (construct-is x e) (params .ensures .0 _ _ (built-behind (signatureNames x) d (l .built)))) .done (if2 .left) in let step = note-this .ensures .0 (args .text .now) (args .words .now) x (got .what .this) (construct-is x e) (got .this-is) in says-same (sign-plain g T b x s (l .is) (got .is) (step .done (if3 .left)) (is-not-here (args .words .now) (note-this .result .m) (kind-at .ensures .0) (if4 .taken))) (sign-untyped (args .text .now) (args .words .now) (args .given) T (args .b) (note-this .result .m) x (l .list) got (built-stepped step (if3 .left) (got .built)) (l .each) (l .there-is) (l .count-is) n e (signature-node .ensures .0)), (omega arith, λ z. omega (arith, pre, tparams .ensures .1 .0, tparams .ensures .1 .1 (if1 .left), tparams .kept, params .ensures .1 .0, params .ensures .1 .1 (if2 .left), params .kept, note-this .ensures .1, kind-at .ensures .1, signature-node .ensures .1, z)))
 
   pub add-t32 : lts.Need-add-t32 (R t) (sign-at t) sign.Post
   add-t32 c =
       let pre = c .before .before .before .before .before .before .before .before .before .before .before .before .before .before .before .before .before .before .before .before .before .before .before .before .before .before .before .before .before .before .before .before .before .pre in
-      let tparams = c .before .before .before .before .before .before .before .before .before .before .before .before .before .before .before .before .before .before .before .before .before .before .before .before .before .tparams in
-      let if1 = c .before .before .before .before .before .before .before .before .before .before .before .before .before .before .before .before .before .before .before .if1 in
-      let params = c .before .before .before .before .before .before .before .before .before .before .before .before .before .before .params in
-      let if2 = c .before .before .before .before .before .before .before .before .if2 in
-      let note-this = c .before .before .before .before .before .before .note-this in
-      let kind-at = c .before .before .kind-at in
-      let if4 = c .before .if4 in
-      omega (arith, pre, tparams .ensures .1 .0, tparams .ensures .1 .1 (if1 .left), tparams .kept, params .ensures .1 .0, params .ensures .1 .1 (if2 .left), params .kept, note-this .ensures .1, kind-at .ensures .1, if4 .left)
+      omega arith
 
   pub ret-requires : lts.Need-ret-requires (R t) (sign-at t) sign.Post
   ret-requires c κs =
@@ -194,7 +182,7 @@ module _ (t : ℕ) where
       let note-this = c .before .before .before .before .before .before .before .before .before .note-this in
       let kind-at = c .before .before .before .before .before .kind-at in
       let if4 = c .before .before .before .before .if4 in
-      (omega (arith, pre, tparams .ensures .1 .0, tparams .ensures .1 .1 (if1 .left), tparams .kept, params .ensures .1 .0, params .ensures .1 .1 (if2 .left), params .kept, note-this .ensures .1, kind-at .ensures .1, if4 .left), ready (pre .1 .0) (omega (arith, pre, tparams .ensures .1 .0, tparams .ensures .1 .1 (if1 .left), tparams .kept, params .ensures .1 .0, params .ensures .1 .1 (if2 .left), params .kept, note-this .ensures .1, kind-at .ensures .1, if4 .left)) (omega (arith, pre, tparams .ensures .1 .0, tparams .ensures .1 .1 (if1 .left), tparams .kept, params .ensures .1 .0, params .ensures .1 .1 (if2 .left), params .kept, note-this .ensures .1, kind-at .ensures .1, if4 .left)))
+      (omega (arith, pre, tparams .ensures .1 .0, tparams .ensures .1 .1 (if1 .left), tparams .kept, params .ensures .1 .0, params .ensures .1 .1 (if2 .left), params .kept, note-this .ensures .1, kind-at .ensures .1, if4 .left), ready (pre .1 .0) (omega arith) (omega arith))
 
   pub same-length-9 : lts.Need-same-length-9 (R t) (sign-at t) sign.Post
   same-length-9 c =
@@ -223,7 +211,7 @@ module _ (t : ℕ) where
       let if4 = c .before .before .before .before .before .before .before .before .before .before .before .if4 in
       let ret = c .before .before .before .before .before .before .ret in
       let if5 = c .if5 in
-      (λ B x d n e. let g = givenOf (args .text .now) (args .words .now) (args .given) in let T = below (args .given) g in let b = args .b .first in let s = view (args .m) (args .notes .now) in let l = tparams .ensures .0 .done (if1 .left) in let got = (params-as g T _ (construct-is x e) (params .ensures .0 _ _ (built-behind (signatureNames x) d (l .built)))) .done (if2 .left) in let step = note-this .ensures .0 (args .text .now) (args .words .now) x (got .what .this) (construct-is x e) (got .this-is) in says-stop (if5 .taken) (sign-stops g T b x s (l .is) (got .is) (step .done (if3 .left)) (is-here (args .words .now) (note-this .result .m) (kind-at .ensures .0) (if4 .left)) (ret .ensures .0 .refused (if5 .taken))), (omega (arith, ret .ensures .1 .0), λ z. absurd (if5 .taken z)))
+      (λ B x d n e. let g = givenOf (args .text .now) (args .words .now) (args .given) in let T = below (args .given) g in let b = args .b .first in let s = view (args .m) (args .notes .now) in let l = tparams .ensures .0 .done (if1 .left) in let got = (params-as g T _ (construct-is x e) (params .ensures .0 _ _ (built-behind (signatureNames x) d (l .built)))) .done (if2 .left) in let step = note-this .ensures .0 (args .text .now) (args .words .now) x (got .what .this) (construct-is x e) (got .this-is) in says-stop (if5 .taken) (sign-stops g T b x s (l .is) (got .is) (step .done (if3 .left)) (is-here (args .words .now) (note-this .result .m) (kind-at .ensures .0) (if4 .left)) (ret .ensures .0 .refused (if5 .taken))), (omega arith, λ z. absurd (if5 .taken z)))
 
   pub with-requires : lts.Need-with-requires (R t) (sign-at t) sign.Post
   with-requires c κs =
@@ -237,7 +225,7 @@ module _ (t : ℕ) where
       let if4 = c .before .before .before .before .before .before .before .before .before .before .before .before .if4 in
       let ret = c .before .before .before .before .before .before .before .ret in
       let if5 = c .before .if5 in
-      (omega (arith, pre, tparams .ensures .1 .0, tparams .ensures .1 .1 (if1 .left), tparams .kept, params .ensures .1 .0, params .ensures .1 .1 (if2 .left), params .kept, note-this .ensures .1, kind-at .ensures .1, if4 .left, ret .ensures .1 .0, ret .ensures .1 .1 (if5 .left), ret .kept), omega (arith, pre, tparams .ensures .1 .0, tparams .ensures .1 .1 (if1 .left), tparams .kept, params .ensures .1 .0, params .ensures .1 .1 (if2 .left), params .kept, note-this .ensures .1, kind-at .ensures .1, if4 .left, ret .ensures .1 .0, ret .ensures .1 .1 (if5 .left), ret .kept), omega (arith, pre, tparams .ensures .1 .0, tparams .ensures .1 .1 (if1 .left), tparams .kept, params .ensures .1 .0, params .ensures .1 .1 (if2 .left), params .kept, note-this .ensures .1, kind-at .ensures .1, if4 .left, ret .ensures .1 .0, ret .ensures .1 .1 (if5 .left), ret .kept), omega (arith, pre, tparams .ensures .1 .0, tparams .ensures .1 .1 (if1 .left), tparams .kept, params .ensures .1 .0, params .ensures .1 .1 (if2 .left), params .kept, note-this .ensures .1, kind-at .ensures .1, if4 .left, ret .ensures .1 .0, ret .ensures .1 .1 (if5 .left), ret .kept))
+      (omega (arith, pre, tparams .ensures .1 .0, tparams .ensures .1 .1 (if1 .left), tparams .kept, params .ensures .1 .0, params .ensures .1 .1 (if2 .left), params .kept, note-this .ensures .1, kind-at .ensures .1, if4 .left, ret .ensures .1 .0, ret .ensures .1 .1 (if5 .left), ret .kept), omega (arith, pre, tparams .ensures .1 .0, tparams .ensures .1 .1 (if1 .left), tparams .kept, params .ensures .1 .0, params .ensures .1 .1 (if2 .left), params .kept, note-this .ensures .1, kind-at .ensures .1, if4 .left, ret .ensures .1 .0, ret .ensures .1 .1 (if5 .left), ret .kept), omega (arith, pre, tparams .ensures .1 .0, tparams .ensures .1 .1 (if1 .left), tparams .kept, params .ensures .1 .0, params .ensures .1 .1 (if2 .left), params .kept, note-this .ensures .1, kind-at .ensures .1, if4 .left, ret .ensures .1 .0, ret .ensures .1 .1 (if5 .left), ret .kept), omega arith)
 
   pub signature-node-requires-2 : lts.Need-signature-node-requires-2 (R t) (sign-at t) sign.Post
   signature-node-requires-2 c κs =
@@ -252,7 +240,7 @@ module _ (t : ℕ) where
       let ret = c .before .before .before .before .before .before .before .before .before .before .before .ret in
       let if5 = c .before .before .before .before .before .if5 in
       let with = c .before .before .before .with in
-      ((pre .1 .0 .sound, omega (arith, pre, tparams .ensures .1 .0, tparams .ensures .1 .1 (if1 .left), tparams .kept, params .ensures .1 .0, params .ensures .1 .1 (if2 .left), params .kept, note-this .ensures .1, kind-at .ensures .1, if4 .left, ret .ensures .1 .0, ret .ensures .1 .1 (if5 .left), ret .kept, with .kept, ap (λ (x : This). x .bits) (with .ensures .0 .2), same-mark (with .ensures .0 .3), with .ensures .1), omega (arith, pre, tparams .ensures .1 .0, tparams .ensures .1 .1 (if1 .left), tparams .kept, params .ensures .1 .0, params .ensures .1 .1 (if2 .left), params .kept, note-this .ensures .1, kind-at .ensures .1, if4 .left, ret .ensures .1 .0, ret .ensures .1 .1 (if5 .left), ret .kept, with .kept, ap (λ (x : This). x .bits) (with .ensures .0 .2), same-mark (with .ensures .0 .3), with .ensures .1), omega (arith, pre, tparams .ensures .1 .0, tparams .ensures .1 .1 (if1 .left), tparams .kept, params .ensures .1 .0, params .ensures .1 .1 (if2 .left), params .kept, note-this .ensures .1, kind-at .ensures .1, if4 .left, ret .ensures .1 .0, ret .ensures .1 .1 (if5 .left), ret .kept, with .kept, ap (λ (x : This). x .bits) (with .ensures .0 .2), same-mark (with .ensures .0 .3), with .ensures .1), omega (arith, pre), omega (arith, pre)), omega (arith, pre), omega (arith, pre, tparams .ensures .1 .0, tparams .ensures .1 .1 (if1 .left), tparams .kept, params .ensures .1 .0, params .ensures .1 .1 (if2 .left), params .kept, note-this .ensures .1, kind-at .ensures .1, if4 .left, ret .ensures .1 .0, ret .ensures .1 .1 (if5 .left), ret .kept, with .kept, ap (λ (x : This). x .bits) (with .ensures .0 .2), same-mark (with .ensures .0 .3), with .ensures .1))
+      ((pre .1 .0 .sound, omega (arith, pre, tparams .ensures .1 .0, tparams .ensures .1 .1 (if1 .left), tparams .kept, params .ensures .1 .0, params .ensures .1 .1 (if2 .left), params .kept, note-this .ensures .1, kind-at .ensures .1, if4 .left, ret .ensures .1 .0, ret .ensures .1 .1 (if5 .left), ret .kept, with .kept, ap (λ (x : This). x .bits) (with .ensures .0 .2), same-mark (with .ensures .0 .3), with .ensures .1), omega (arith, pre, tparams .ensures .1 .0, tparams .ensures .1 .1 (if1 .left), tparams .kept, params .ensures .1 .0, params .ensures .1 .1 (if2 .left), params .kept, note-this .ensures .1, kind-at .ensures .1, if4 .left, ret .ensures .1 .0, ret .ensures .1 .1 (if5 .left), ret .kept, with .kept, ap (λ (x : This). x .bits) (with .ensures .0 .2), same-mark (with .ensures .0 .3), with .ensures .1), omega (arith, pre, tparams .ensures .1 .0, tparams .ensures .1 .1 (if1 .left), tparams .kept, params .ensures .1 .0, params .ensures .1 .1 (if2 .left), params .kept, note-this .ensures .1, kind-at .ensures .1, if4 .left, ret .ensures .1 .0, ret .ensures .1 .1 (if5 .left), ret .kept, with .kept, ap (λ (x : This). x .bits) (with .ensures .0 .2), same-mark (with .ensures .0 .3), with .ensures .1), omega arith, omega arith), omega arith, omega (arith, pre, tparams .ensures .1 .0, tparams .ensures .1 .1 (if1 .left), tparams .kept, params .ensures .1 .0, params .ensures .1 .1 (if2 .left), params .kept, note-this .ensures .1, kind-at .ensures .1, if4 .left, ret .ensures .1 .0, ret .ensures .1 .1 (if5 .left), ret .kept, with .kept, ap (λ (x : This). x .bits) (with .ensures .0 .2), same-mark (with .ensures .0 .3), with .ensures .1))
 
   pub same-length-11 : lts.Need-same-length-11 (R t) (sign-at t) sign.Post
   same-length-11 c =

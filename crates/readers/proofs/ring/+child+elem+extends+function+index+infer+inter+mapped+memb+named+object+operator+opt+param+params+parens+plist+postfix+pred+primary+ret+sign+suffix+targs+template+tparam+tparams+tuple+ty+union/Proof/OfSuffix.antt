@@ -37,15 +37,12 @@ module _ (t : ℕ) where
 
   pub add-t14 : lts.Need-add-t14 (R t) (suffix-at t) suffix.Post
   add-t14 c =
-      let pre = c .before .before .before .before .before .before .pre in
-      let kind-at = c .before .kind-at in
-      omega (arith, pre, kind-at .ensures .1)
+      omega arith
 
   pub put-about-requires : lts.Need-put-about-requires (R t) (suffix-at t) suffix.Post
   put-about-requires c κs =
       let pre = c .before .before .before .before .before .before .before .before .pre in
-      let kind-at = c .before .before .before .kind-at in
-      (pre .1 .0 .sound, omega (arith, pre, kind-at .ensures .1), omega (arith, pre, kind-at .ensures .1), omega (arith, pre, kind-at .ensures .1), omega (arith, pre, kind-at .ensures .1), omega (arith, pre, kind-at .ensures .1), omega (arith, pre, kind-at .ensures .1))
+      (pre .1 .0 .sound, omega arith, omega arith, omega arith, omega arith, omega arith, omega arith)
 
   pub same-length : lts.Need-same-length (R t) (suffix-at t) suffix.Post
   same-length c =
@@ -59,13 +56,12 @@ module _ (t : ℕ) where
       let kind-at = c .before .before .before .before .before .before .kind-at in
       let if1 = c .before .before .before .before .if1 in
       let put-about = c .before .before .put-about in
-      (λ B u h n. says-same (suffix-bang (givenOf (args .text .now) (args .words .now) (args .given)) (below (args .given) (givenOf (args .text .now) (args .words .now) (args .given))) (args .b .first) u (view (args .m) (args .notes .now)) (is-here (args .words .now) (args .m) (kind-at .ensures .0) (if1 .taken))) (put-about .ensures .0 (args .text .now) 0 B (runIn 0 u) 23 u (args .names .now) (args .notes .now) (built-child refl h) n (shape-non-null (h .is-node))), (omega (arith, pre, kind-at .ensures .1, put-about .ensures .1), λ z. omega (arith, pre, kind-at .ensures .1, put-about .ensures .1, z)))
+      (λ B u h n. says-same (suffix-bang (givenOf (args .text .now) (args .words .now) (args .given)) (below (args .given) (givenOf (args .text .now) (args .words .now) (args .given))) (args .b .first) u (view (args .m) (args .notes .now)) (is-here (args .words .now) (args .m) (kind-at .ensures .0) (if1 .taken))) (put-about .ensures .0 (args .text .now) 0 B (runIn 0 u) 23 u (args .names .now) (args .notes .now) (built-child refl h) n (shape-non-null (h .is-node))), (omega arith, λ z. omega arith))
 
   pub put-about-requires-2 : lts.Need-put-about-requires-2 (R t) (suffix-at t) suffix.Post
   put-about-requires-2 c κs =
       let pre = c .before .before .before .before .before .before .before .before .before .pre in
-      let kind-at = c .before .before .before .before .kind-at in
-      (pre .1 .0 .sound, omega (arith, pre, kind-at .ensures .1), omega (arith, pre, kind-at .ensures .1), omega (arith, pre, kind-at .ensures .1), omega (arith, pre, kind-at .ensures .1), omega (arith, pre, kind-at .ensures .1), omega (arith, pre, kind-at .ensures .1))
+      (pre .1 .0 .sound, omega arith, omega arith, omega arith, omega arith, omega arith, omega arith)
 
   pub same-length-2 : lts.Need-same-length-2 (R t) (suffix-at t) suffix.Post
   same-length-2 c =
@@ -80,19 +76,17 @@ module _ (t : ℕ) where
       let if1 = c .before .before .before .before .before .if1 in
       let if2 = c .before .before .before .before .if2 in
       let put-about2 = c .before .before .put-about2 in
-      (λ B u h n. says-same (suffix-asked (givenOf (args .text .now) (args .words .now) (args .given)) (below (args .given) (givenOf (args .text .now) (args .words .now) (args .given))) (args .b .first) u (view (args .m) (args .notes .now)) (is-not-here (args .words .now) (args .m) (kind-at .ensures .0) (if1 .left)) (is-here (args .words .now) (args .m) (kind-at .ensures .0) (if2 .taken))) (put-about2 .ensures .0 (args .text .now) 0 B (runIn 0 u) 24 u (args .names .now) (args .notes .now) (built-child refl h) n (shape-asked (h .is-node))), (omega (arith, pre, kind-at .ensures .1, put-about2 .ensures .1), λ z. omega (arith, pre, kind-at .ensures .1, put-about2 .ensures .1, z)))
+      (λ B u h n. says-same (suffix-asked (givenOf (args .text .now) (args .words .now) (args .given)) (below (args .given) (givenOf (args .text .now) (args .words .now) (args .given))) (args .b .first) u (view (args .m) (args .notes .now)) (is-not-here (args .words .now) (args .m) (kind-at .ensures .0) (if1 .left)) (is-here (args .words .now) (args .m) (kind-at .ensures .0) (if2 .taken))) (put-about2 .ensures .0 (args .text .now) 0 B (runIn 0 u) 24 u (args .names .now) (args .notes .now) (built-child refl h) n (shape-asked (h .is-node))), (omega arith, λ z. omega arith))
 
   pub starter-requires : lts.Need-starter-requires (R t) (suffix-at t) suffix.Post
   starter-requires c κs =
       let pre = c .before .before .before .before .before .before .before .before .pre in
-      let kind-at = c .before .before .before .kind-at in
-      (pre .1 .0 .classes-are, omega (arith, pre, kind-at .ensures .1))
+      (pre .1 .0 .classes-are, omega arith)
 
   pub array-requires : lts.Need-array-requires (R t) (suffix-at t) suffix.Post
   array-requires c κs =
       let pre = c .before .before .before .before .before .before .before .before .before .before .before .pre in
-      let kind-at = c .before .before .before .before .before .before .kind-at in
-      (pre .1 .0 .sound, omega (arith, pre, kind-at .ensures .1), omega (arith, pre, kind-at .ensures .1), omega (arith, pre, kind-at .ensures .1), omega (arith, pre, kind-at .ensures .1), omega (arith, pre, kind-at .ensures .1), omega (arith, pre, kind-at .ensures .1))
+      (pre .1 .0 .sound, omega arith, omega arith, omega arith, omega arith, omega arith, omega arith)
 
   pub same-length-3 : lts.Need-same-length-3 (R t) (suffix-at t) suffix.Post
   same-length-3 c =
@@ -101,7 +95,6 @@ module _ (t : ℕ) where
 
   pub returns-3 : lts.Need-returns-3 (R t) (suffix-at t) suffix.Post
   returns-3 c =
-      let pre = c .before .before .before .before .before .before .before .before .before .before .before .before .before .before .pre in
       let args = c .before .before .before .before .before .before .before .before .before .before .before .before .before .before .args in
       let kind-at = c .before .before .before .before .before .before .before .before .before .kind-at in
       let if1 = c .before .before .before .before .before .before .before .if1 in
@@ -109,28 +102,22 @@ module _ (t : ℕ) where
       let starter = c .before .before .before .before .before .starter in
       let if3 = c .before .before .before .before .if3 in
       let array = c .before .before .array in
-      (λ B u h n. says-same (suffix-array (givenOf (args .text .now) (args .words .now) (args .given)) (below (args .given) (givenOf (args .text .now) (args .words .now) (args .given))) (args .b .first) u (view (args .m) (args .notes .now)) (is-not-here (args .words .now) (args .m) (kind-at .ensures .0) (if1 .left)) (is-not-here (args .words .now) (args .m) (kind-at .ensures .0) (if2 .left)) (sym (starter .ensures) ∙ not-true _ (if3 .taken))) (array .ensures .0 (args .text .now) B u (args .names .now) (args .notes .now) (stands-on h) n), (omega (arith, pre, kind-at .ensures .1, array .ensures .1), λ z. omega (arith, pre, kind-at .ensures .1, array .ensures .1, z)))
+      (λ B u h n. says-same (suffix-array (givenOf (args .text .now) (args .words .now) (args .given)) (below (args .given) (givenOf (args .text .now) (args .words .now) (args .given))) (args .b .first) u (view (args .m) (args .notes .now)) (is-not-here (args .words .now) (args .m) (kind-at .ensures .0) (if1 .left)) (is-not-here (args .words .now) (args .m) (kind-at .ensures .0) (if2 .left)) (sym (starter .ensures) ∙ not-true _ (if3 .taken))) (array .ensures .0 (args .text .now) B u (args .names .now) (args .notes .now) (stands-on h) n), (omega arith, λ z. omega arith))
 
   pub one-requires : lts.Need-one-requires (R t) (suffix-at t) suffix.Post
   one-requires c κs =
-      let pre = c .before .before .before .before .before .before .before .before .before .before .before .before .before .pre in
-      let kind-at = c .before .before .before .before .before .before .before .before .kind-at in
-      omega (arith, pre, kind-at .ensures .1)
+      omega arith
 
   pub child-requires : lts.Need-child-requires (R t) (suffix-at t) suffix.Post
   child-requires c κs =
       let pre = c .before .before .before .before .before .before .before .before .before .before .before .before .before .before .pre in
       let kind-at = c .before .before .before .before .before .before .before .before .before .kind-at in
       let one = c .one in
-      (omega (arith, pre, kind-at .ensures .1, same-kids (one .ensures)), (ready (pre .1 .0) (omega (arith, pre, kind-at .ensures .1, same-kids (one .ensures))) (omega (arith, pre, kind-at .ensures .1, same-kids (one .ensures))), omega (arith, pre, kind-at .ensures .1, same-kids (one .ensures))))
+      (omega arith, (ready (pre .1 .0) (omega arith) (omega arith), omega (arith, pre, kind-at .ensures .1, same-kids (one .ensures))))
 
   pub refused-requires : lts.Need-refused-requires (R t) (suffix-at t) suffix.Post
   refused-requires c κs =
-      let pre = c .before .before .before .before .before .before .before .before .before .before .before .before .before .before .before .before .before .before .before .before .before .pre in
-      let kind-at = c .before .before .before .before .before .before .before .before .before .before .before .before .before .before .before .before .kind-at in
-      let one = c .before .before .before .before .before .before .before .one in
-      let child = c .before .before .before .before .before .before .child in
-      omega (arith, pre, kind-at .ensures .1, same-kids (one .ensures), child .ensures .1 .0, child .kept)
+      omega arith
 
   pub same-length-4 : lts.Need-same-length-4 (R t) (suffix-at t) suffix.Post
   same-length-4 c =
@@ -160,11 +147,7 @@ module _ (t : ℕ) where
   pub bracketed-requires : lts.Need-bracketed-requires (R t) (suffix-at t) suffix.Post
   bracketed-requires c κs =
       let pre = c .before .before .before .before .before .before .before .before .before .before .before .before .before .before .before .before .before .before .before .before .before .before .pre in
-      let kind-at = c .before .before .before .before .before .before .before .before .before .before .before .before .before .before .before .before .before .kind-at in
-      let one = c .before .before .before .before .before .before .before .before .one in
-      let child = c .before .before .before .before .before .before .before .child in
-      let if4 = c .before .if4 in
-      (pre .1 .0 .sound, omega (arith, pre, kind-at .ensures .1, same-kids (one .ensures), child .ensures .1 .0, child .ensures .1 .1 (if4 .left), child .kept), omega (arith, pre, kind-at .ensures .1, same-kids (one .ensures), child .ensures .1 .0, child .ensures .1 .1 (if4 .left), child .kept), omega (arith, pre, kind-at .ensures .1, same-kids (one .ensures), child .ensures .1 .0, child .ensures .1 .1 (if4 .left), child .kept), omega (arith, pre, kind-at .ensures .1, same-kids (one .ensures), child .ensures .1 .0, child .ensures .1 .1 (if4 .left), child .kept), omega (arith, pre, kind-at .ensures .1, same-kids (one .ensures), child .ensures .1 .0, child .ensures .1 .1 (if4 .left), child .kept))
+      (pre .1 .0 .sound, omega arith, omega arith, omega arith, omega arith, omega arith)
 
   pub same-length-6 : lts.Need-same-length-6 (R t) (suffix-at t) suffix.Post
   same-length-6 c =
@@ -190,4 +173,4 @@ module _ (t : ℕ) where
       let child = c .before .before .before .before .before .before .before .before .before .before .child in
       let if4 = c .before .before .before .before .if4 in
       let bracketed = c .before .before .bracketed in
-      (λ B u h n. let got = child .ensures .0 B _ (built-child (one .ensures) h) .done (if4 .left) in says-same ((suffix-index (givenOf (args .text .now) (args .words .now) (args .given)) (below (args .given) (givenOf (args .text .now) (args .words .now) (args .given))) (args .b .first) u (view (args .m) (args .notes .now)) (is-not-here (args .words .now) (args .m) (kind-at .ensures .0) (if1 .left)) (is-not-here (args .words .now) (args .m) (kind-at .ensures .0) (if2 .left)) (sym (starter .ensures) ∙ not-false _ (if3 .left))) ∙ then-read _ (got .is)) (bracketed .ensures .0 (args .text .now) B _ 8 (join u (got .tree)) _ _ (got .built) n (shape-indexed (h .is-node) (got .is-node))), (omega (arith, pre, kind-at .ensures .1, same-kids (one .ensures), child .ensures .1 .0, child .ensures .1 .1 (if4 .left), bracketed .ensures .1), λ z. omega (arith, pre, kind-at .ensures .1, same-kids (one .ensures), child .ensures .1 .0, child .ensures .1 .1 (if4 .left), bracketed .ensures .1, z)))
+      (λ B u h n. let got = child .ensures .0 B _ (built-child (one .ensures) h) .done (if4 .left) in says-same ((suffix-index (givenOf (args .text .now) (args .words .now) (args .given)) (below (args .given) (givenOf (args .text .now) (args .words .now) (args .given))) (args .b .first) u (view (args .m) (args .notes .now)) (is-not-here (args .words .now) (args .m) (kind-at .ensures .0) (if1 .left)) (is-not-here (args .words .now) (args .m) (kind-at .ensures .0) (if2 .left)) (sym (starter .ensures) ∙ not-false _ (if3 .left))) ∙ then-read _ (got .is)) (bracketed .ensures .0 (args .text .now) B _ 8 (join u (got .tree)) _ _ (got .built) n (shape-indexed (h .is-node) (got .is-node))), (omega arith, λ z. omega (arith, pre, kind-at .ensures .1, same-kids (one .ensures), child .ensures .1 .0, child .ensures .1 .1 (if4 .left), bracketed .ensures .1, z)))

@@ -84,7 +84,7 @@ module _ (t : ℕ) where
       let if1 = c .before .before .if1 in
       let opened = c .before .opened in
       let none = c .none in
-      (omega (arith, pre, same-kids (none .ensures), opened .ensures .0), omega (arith, pre, same-kids (none .ensures), opened .ensures .0), turn-starts (args .m) (opened .result) (none .ensures) (opened .ensures .0 .used-is) (opened .ensures .0 .named-is) (opened .ensures .0 .noted-is) (arguments-some _ _ _ (sym (opens .ensures .0 (args .text .now) (args .notes .now) (args .given)) ∙ not-false _ (if1 .left)) ∙ ap (looped (givenOf (args .text .now) (args .words .now) (args .given)) RAngle (λ l. (below (args .given) (givenOf (args .text .now) (args .words .now) (args .given))) true) (endArguments (givenOf (args .text .now) (args .words .now) (args .given)) (below (args .given) (givenOf (args .text .now) (args .words .now) (args .given))) (first (givenOf (args .text .now) (args .words .now) (args .given)) (view (args .m) (args .notes .now)))) (turns (givenOf (args .text .now) (args .words .now) (args .given))) []) (sym (opened .ensures .1 (args .text .now) (args .notes .now) (args .given)))))
+      (omega arith, omega (arith, pre, same-kids (none .ensures), opened .ensures .0), turn-starts (args .m) (opened .result) (none .ensures) (opened .ensures .0 .used-is) (opened .ensures .0 .named-is) (opened .ensures .0 .noted-is) (arguments-some _ _ _ (sym (opens .ensures .0 (args .text .now) (args .notes .now) (args .given)) ∙ not-false _ (if1 .left)) ∙ ap (looped (givenOf (args .text .now) (args .words .now) (args .given)) RAngle (λ l. (below (args .given) (givenOf (args .text .now) (args .words .now) (args .given))) true) (endArguments (givenOf (args .text .now) (args .words .now) (args .given)) (below (args .given) (givenOf (args .text .now) (args .words .now) (args .given))) (first (givenOf (args .text .now) (args .words .now) (args .given)) (view (args .m) (args .notes .now)))) (turns (givenOf (args .text .now) (args .words .now) (args .given))) []) (sym (opened .ensures .1 (args .text .now) (args .notes .now) (args .given)))))
 
   pub kind-at-requires : lts.Need-kind-at-requires (R t) (targs-at t) targs.Post Inv-loop μ-loop
   kind-at-requires c κs =
@@ -93,11 +93,7 @@ module _ (t : ℕ) where
   pub child-requires : lts.Need-child-requires (R t) (targs-at t) targs.Post Inv-loop μ-loop
   child-requires c κs =
       let pre = c .before .before .before .before .before .before .before .before .before .before .before .before .before .before .pre in
-      let opened = c .before .before .before .before .before .before .before .opened in
-      let none = c .before .before .before .before .before .before .none in
-      let loop = c .before .before .before .before .before .loop in
-      let kind-at = c .before .before .before .before .kind-at in
-      (omega (arith, pre, same-kids (none .ensures), kind-at .ensures .1, opened .ensures .0, loop .inv .0, loop .inv .1), (ready (pre .1) (omega (arith, pre, same-kids (none .ensures), kind-at .ensures .1, opened .ensures .0, loop .inv .0, loop .inv .1)) (omega (arith, pre, same-kids (none .ensures), kind-at .ensures .1, opened .ensures .0, loop .inv .0, loop .inv .1)), omega (arith, pre, same-kids (none .ensures), kind-at .ensures .1, opened .ensures .0, loop .inv .0, loop .inv .1)))
+      (omega arith, (ready (pre .1) (omega arith) (omega arith), omega arith))
 
   pub same-length : lts.Need-same-length (R t) (targs-at t) targs.Post Inv-loop μ-loop
   same-length c =
@@ -113,39 +109,22 @@ module _ (t : ℕ) where
 
   pub returns-2 : lts.Need-returns-2 (R t) (targs-at t) targs.Post Inv-loop μ-loop
   returns-2 c =
-      let pre = c .before .before .before .before .before .before .before .before .before .before .before .before .before .before .before .before .before .before .before .before .before .pre in
       let args = c .before .before .before .before .before .before .before .before .before .before .before .before .before .before .before .before .before .before .before .before .before .args in
-      let opened = c .before .before .before .before .before .before .before .before .before .before .before .before .before .before .opened in
-      let none = c .before .before .before .before .before .before .before .before .before .before .before .before .before .none in
       let loop = c .before .before .before .before .before .before .before .before .before .before .before .before .loop in
       let kind-at = c .before .before .before .before .before .before .before .before .before .before .before .kind-at in
       let if2 = c .before .before .before .before .before .before .before .before .before .before .if2 in
       let child = c .before .before .before .before .before .before .child in
       let if3 = c .if3 in
-      (let goes-on = is-not-here (args .words .now) (loop .p) (kind-at .ensures .0) (if2 .taken) in listed-stops (if3 .taken) (turn-refused _ _ _ _ (loop .p) (loop .inv .2) goes-on (child .ensures .0 _ _ (loop .inv .2 .built) .refused (if3 .taken))), (omega (arith, pre, same-kids (none .ensures), kind-at .ensures .1, child .ensures .1 .0, opened .ensures .0, loop .inv .0, loop .inv .1), λ z. absurd (if3 .taken z)))
+      (let goes-on = is-not-here (args .words .now) (loop .p) (kind-at .ensures .0) (if2 .taken) in listed-stops (if3 .taken) (turn-refused _ _ _ _ (loop .p) (loop .inv .2) goes-on (child .ensures .0 _ _ (loop .inv .2 .built) .refused (if3 .taken))), (omega arith, λ z. absurd (if3 .taken z)))
 
   pub past-comma-requires : lts.Need-past-comma-requires (R t) (targs-at t) targs.Post Inv-loop μ-loop
   past-comma-requires c κs =
       let pre = c .before .before .before .before .before .before .before .before .before .before .before .before .before .before .before .before .before .before .before .before .before .before .pre in
-      let opened = c .before .before .before .before .before .before .before .before .before .before .before .before .before .before .before .opened in
-      let none = c .before .before .before .before .before .before .before .before .before .before .before .before .before .before .none in
-      let loop = c .before .before .before .before .before .before .before .before .before .before .before .before .before .loop in
-      let kind-at = c .before .before .before .before .before .before .before .before .before .before .before .before .kind-at in
-      let child = c .before .before .before .before .before .before .before .child in
-      let if3 = c .before .if3 in
-      (pre .1 .sound, omega (arith, pre, same-kids (none .ensures), kind-at .ensures .1, child .ensures .1 .0, child .ensures .1 .1 (if3 .left), child .kept, opened .ensures .0, loop .inv .0, loop .inv .1))
+      (pre .1 .sound, omega arith)
 
   pub refused-requires : lts.Need-refused-requires (R t) (targs-at t) targs.Post Inv-loop μ-loop
   refused-requires c κs =
-      let pre = c .before .before .before .before .before .before .before .before .before .before .before .before .before .before .before .before .before .before .before .before .before .before .before .before .before .pre in
-      let opened = c .before .before .before .before .before .before .before .before .before .before .before .before .before .before .before .before .before .before .opened in
-      let none = c .before .before .before .before .before .before .before .before .before .before .before .before .before .before .before .before .before .none in
-      let loop = c .before .before .before .before .before .before .before .before .before .before .before .before .before .before .before .before .loop in
-      let kind-at = c .before .before .before .before .before .before .before .before .before .before .before .before .before .before .before .kind-at in
-      let child = c .before .before .before .before .before .before .before .before .before .before .child in
-      let if3 = c .before .before .before .before .if3 in
-      let past-comma = c .before .before .past-comma in
-      omega (arith, pre, same-kids (none .ensures), kind-at .ensures .1, child .ensures .1 .0, child .ensures .1 .1 (if3 .left), child .kept, opened .ensures .0, loop .inv .0, loop .inv .1, past-comma .ensures .1)
+      omega arith
 
   pub same-length-3 : lts.Need-same-length-3 (R t) (targs-at t) targs.Post Inv-loop μ-loop
   same-length-3 c =
@@ -200,26 +179,17 @@ module _ (t : ℕ) where
       let if3 = c .before .before .before .before .before .if3 in
       let past-comma = c .before .before .before .past-comma in
       let if4 = c .before .if4 in
-      (omega (arith, pre, same-kids (none .ensures), kind-at .ensures .1, child .ensures .1 .0, child .ensures .1 .1 (if3 .left), child .kept, opened .ensures .0, loop .inv .0, loop .inv .1, past-comma .ensures .1), omega (arith, pre, same-kids (none .ensures), kind-at .ensures .1, child .ensures .1 .0, child .ensures .1 .1 (if3 .left), opened .ensures .0, loop .inv .0, loop .inv .1, past-comma .ensures .1), let goes-on = is-not-here (args .words .now) (loop .p) (kind-at .ensures .0) (if2 .taken) in turn-child _ _ _ _ (loop .p) (loop .inv .2) goes-on (child .ensures .0 _ _ (loop .inv .2 .built) .done (if3 .left)) (child .ensures .1 .1 (if3 .left) .1) (past-comma .ensures .0) (if4 .left) (past-comma .ensures .1) (omega (arith, pre, same-kids (none .ensures), kind-at .ensures .1, child .ensures .1 .0, child .ensures .1 .1 (if3 .left), opened .ensures .0, loop .inv .0, loop .inv .1, past-comma .ensures .1)) (omega (arith, pre, same-kids (none .ensures), kind-at .ensures .1, child .ensures .1 .0, child .ensures .1 .1 (if3 .left), opened .ensures .0, loop .inv .0, loop .inv .1, past-comma .ensures .1)))
+      (omega (arith, pre, same-kids (none .ensures), kind-at .ensures .1, child .ensures .1 .0, child .ensures .1 .1 (if3 .left), child .kept, opened .ensures .0, loop .inv .0, loop .inv .1, past-comma .ensures .1), omega arith, let goes-on = is-not-here (args .words .now) (loop .p) (kind-at .ensures .0) (if2 .taken) in turn-child _ _ _ _ (loop .p) (loop .inv .2) goes-on (child .ensures .0 _ _ (loop .inv .2 .built) .done (if3 .left)) (child .ensures .1 .1 (if3 .left) .1) (past-comma .ensures .0) (if4 .left) (past-comma .ensures .1) (omega (arith, pre, same-kids (none .ensures), kind-at .ensures .1, child .ensures .1 .0, child .ensures .1 .1 (if3 .left), opened .ensures .0, loop .inv .0, loop .inv .1, past-comma .ensures .1)) (omega (arith, pre, same-kids (none .ensures), kind-at .ensures .1, child .ensures .1 .0, child .ensures .1 .1 (if3 .left), opened .ensures .0, loop .inv .0, loop .inv .1, past-comma .ensures .1)))
 
   pub first-byte-requires : lts.Need-first-byte-requires (R t) (targs-at t) targs.Post Inv-loop μ-loop
   first-byte-requires c κs =
       let pre = c .before .before .before .before .before .before .before .before .before .before .before .pre in
-      let opened = c .before .before .before .before .opened in
-      let none = c .before .before .before .none in
-      let loop = c .before .before .loop in
-      let kind-at = c .before .kind-at in
-      (pre .1 .sound, omega (arith, pre, same-kids (none .ensures), kind-at .ensures .1, opened .ensures .0, loop .inv .0, loop .inv .1))
+      (pre .1 .sound, omega arith)
 
   pub list-end-requires : lts.Need-list-end-requires (R t) (targs-at t) targs.Post Inv-loop μ-loop
   list-end-requires c κs =
       let pre = c .before .before .before .before .before .before .before .before .before .before .before .before .before .pre in
-      let opened = c .before .before .before .before .before .before .opened in
-      let none = c .before .before .before .before .before .none in
-      let loop = c .before .before .before .before .loop in
-      let kind-at = c .before .before .before .kind-at in
-      let first-byte = c .before .first-byte in
-      (pre .1 .sound, omega (arith, pre, same-kids (none .ensures), kind-at .ensures .1, opened .ensures .0, loop .inv .0, loop .inv .1, first-byte .ensures .1), omega (arith, pre, same-kids (none .ensures), kind-at .ensures .1, opened .ensures .0, loop .inv .0, loop .inv .1, first-byte .ensures .1), omega (arith, pre, same-kids (none .ensures), kind-at .ensures .1, opened .ensures .0, loop .inv .0, loop .inv .1, first-byte .ensures .1))
+      (pre .1 .sound, omega arith, omega arith, omega arith)
 
   pub same-length-5 : lts.Need-same-length-5 (R t) (targs-at t) targs.Post Inv-loop μ-loop
   same-length-5 c =
@@ -233,13 +203,11 @@ module _ (t : ℕ) where
 
   pub returns-4 : lts.Need-returns-4 (R t) (targs-at t) targs.Post Inv-loop μ-loop
   returns-4 c =
-      let pre = c .before .before .before .before .before .before .before .before .before .before .before .before .before .before .pre in
       let args = c .before .before .before .before .before .before .before .before .before .before .before .before .before .before .args in
       let opened = c .before .before .before .before .before .before .before .opened in
-      let none = c .before .before .before .before .before .before .none in
       let loop = c .before .before .before .before .before .loop in
       let kind-at = c .before .before .before .before .kind-at in
       let if2 = c .before .before .before .if2 in
       let first-byte = c .before .before .first-byte in
       let list-end = c .list-end in
-      (turn-ends (args .text .now) (args .words .now) (args .given) _ _ _ _ (loop .p) (loop .inv .2) (is-here (args .words .now) (loop .p) (kind-at .ensures .0) (if2 .left)) (first-byte .ensures .0) (list-end .ensures .0), (omega (arith, pre, same-kids (none .ensures), kind-at .ensures .1, opened .ensures .0, loop .inv .0, loop .inv .1, first-byte .ensures .1, list-end .ensures .1), λ z. omega (arith, pre, same-kids (none .ensures), kind-at .ensures .1, opened .ensures .0, loop .inv .0, loop .inv .1, first-byte .ensures .1, list-end .ensures .1, z)))
+      (turn-ends (args .text .now) (args .words .now) (args .given) _ _ _ _ (loop .p) (loop .inv .2) (is-here (args .words .now) (loop .p) (kind-at .ensures .0) (if2 .left)) (first-byte .ensures .0) (list-end .ensures .0), (omega arith, λ z. omega arith))

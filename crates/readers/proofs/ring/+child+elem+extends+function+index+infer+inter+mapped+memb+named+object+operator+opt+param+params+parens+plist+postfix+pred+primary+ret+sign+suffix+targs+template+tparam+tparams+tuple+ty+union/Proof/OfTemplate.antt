@@ -46,7 +46,7 @@ module _ (t : ℕ) where
   pub spell-requires : lts.Need-spell-requires (R t) (template-at t) template.Post Inv-loop μ-loop
   spell-requires c κs =
       let pre = c .before .before .before .before .before .pre in
-      (pre .1 .0 .sound, omega (arith, pre), omega (arith, pre))
+      (pre .1 .0 .sound, omega arith, omega arith)
 
   pub none-requires : lts.Need-none-requires (R t) (template-at t) template.Post Inv-loop μ-loop
   none-requires c κs =
@@ -65,16 +65,11 @@ module _ (t : ℕ) where
       let spell = c .before .before .before .before .before .before .before .spell in
       let none = c .before .before .before .before .none in
       let loop = c .before .before .before .loop in
-      (omega (arith, pre, same-kids (none .ensures), same-mark (spell .ensures .0), loop .inv .0, loop .inv .1), (ready (pre .1 .0) (omega (arith, pre, spell .kept, same-kids (none .ensures), same-mark (spell .ensures .0), loop .inv .0, loop .inv .1)) (omega (arith, pre, same-kids (none .ensures), same-mark (spell .ensures .0), loop .inv .0, loop .inv .1)), omega (arith, pre, same-kids (none .ensures), same-mark (spell .ensures .0), loop .inv .0, loop .inv .1)))
+      (omega (arith, pre, same-kids (none .ensures), same-mark (spell .ensures .0), loop .inv .0, loop .inv .1), (ready (pre .1 .0) (omega arith) (omega arith), omega arith))
 
   pub refused-requires : lts.Need-refused-requires (R t) (template-at t) template.Post Inv-loop μ-loop
   refused-requires c κs =
-      let pre = c .before .before .before .before .before .before .before .before .before .before .before .before .before .before .before .before .before .before .before .before .pre in
-      let spell = c .before .before .before .before .before .before .before .before .before .before .before .before .before .before .spell in
-      let none = c .before .before .before .before .before .before .before .before .before .before .before .none in
-      let loop = c .before .before .before .before .before .before .before .before .before .before .loop in
-      let child = c .before .before .before .before .before .before .child in
-      omega (arith, pre, spell .kept, same-kids (none .ensures), child .ensures .1 .0, child .kept, same-mark (spell .ensures .0), loop .inv .0, loop .inv .1)
+      omega arith
 
   pub same-length : lts.Need-same-length (R t) (template-at t) template.Post Inv-loop μ-loop
   same-length c =
@@ -108,25 +103,12 @@ module _ (t : ℕ) where
   pub spell-requires-2 : lts.Need-spell-requires-2 (R t) (template-at t) template.Post Inv-loop μ-loop
   spell-requires-2 c κs =
       let pre = c .before .before .before .before .before .before .before .before .before .before .before .before .before .before .before .before .before .before .before .before .before .before .before .before .before .pre in
-      let spell = c .before .before .before .before .before .before .before .before .before .before .before .before .before .before .before .before .before .before .before .spell in
-      let none = c .before .before .before .before .before .before .before .before .before .before .before .before .before .before .before .before .none in
-      let loop = c .before .before .before .before .before .before .before .before .before .before .before .before .before .before .before .loop in
-      let child = c .before .before .before .before .before .before .before .before .before .before .before .child in
-      let if1 = c .before .before .before .before .before .if1 in
-      let kind-at = c .before .before .kind-at in
-      (pre .1 .0 .sound, omega (arith, pre, spell .kept, same-kids (none .ensures), child .ensures .1 .0, child .ensures .1 .1 (if1 .left), child .kept, kind-at .ensures .1, same-mark (spell .ensures .0), loop .inv .0, loop .inv .1), omega (arith, pre, spell .kept, same-kids (none .ensures), child .ensures .1 .0, child .ensures .1 .1 (if1 .left), child .kept, kind-at .ensures .1, same-mark (spell .ensures .0), loop .inv .0, loop .inv .1))
+      (pre .1 .0 .sound, omega arith, omega arith)
 
   pub at-requires : lts.Need-at-requires (R t) (template-at t) template.Post Inv-loop μ-loop
   at-requires c κs =
       let pre = c .before .before .before .before .before .before .before .before .before .before .before .before .before .before .before .before .before .before .before .before .before .before .before .before .before .before .before .before .pre in
-      let spell = c .before .before .before .before .before .before .before .before .before .before .before .before .before .before .before .before .before .before .before .before .before .before .spell in
-      let none = c .before .before .before .before .before .before .before .before .before .before .before .before .before .before .before .before .before .before .before .none in
-      let loop = c .before .before .before .before .before .before .before .before .before .before .before .before .before .before .before .before .before .before .loop in
-      let child = c .before .before .before .before .before .before .before .before .before .before .before .before .before .before .child in
-      let if1 = c .before .before .before .before .before .before .before .before .if1 in
-      let kind-at = c .before .before .before .before .before .kind-at in
-      let spell2 = c .before .before .spell2 in
-      (pre .1 .0 .sound, omega (arith, pre, same-kids (none .ensures), child .ensures .1 .0, child .ensures .1 .1 (if1 .left), kind-at .ensures .1, same-mark (spell .ensures .0), loop .inv .0, loop .inv .1, same-mark (spell2 .ensures .0)))
+      (pre .1 .0 .sound, omega arith)
 
   pub put-list-requires : lts.Need-put-list-requires (R t) (template-at t) template.Post Inv-loop μ-loop
   put-list-requires c κs =
@@ -140,7 +122,7 @@ module _ (t : ℕ) where
       let if2 = c .before .before .before .before .before .before .if2 in
       let spell2 = c .before .before .before .before .spell2 in
       let at = c .before .at in
-      (pre .1 .0 .sound, omega (arith, pre, spell .kept, same-kids (none .ensures), child .ensures .1 .0, child .ensures .1 .1 (if1 .left), child .kept, kind-at .ensures .1, spell2 .kept, at .ensures .0, at .ensures .1, same-mark (spell .ensures .0), loop .inv .0, loop .inv .1, same-mark (spell2 .ensures .0)), omega (arith, if2, pre, same-kids (none .ensures), child .ensures .1 .0, child .ensures .1 .1 (if1 .left), kind-at .ensures .1, at .ensures .0, at .ensures .1, same-mark (spell .ensures .0), loop .inv .0, loop .inv .1, same-mark (spell2 .ensures .0)), omega (arith, pre, same-kids (none .ensures), child .ensures .1 .0, child .ensures .1 .1 (if1 .left), kind-at .ensures .1, at .ensures .0, at .ensures .1, same-mark (spell .ensures .0), loop .inv .0, loop .inv .1, same-mark (spell2 .ensures .0)), omega (arith, pre, same-kids (none .ensures), child .ensures .1 .0, child .ensures .1 .1 (if1 .left), kind-at .ensures .1, at .ensures .0, at .ensures .1, same-mark (spell .ensures .0), loop .inv .0, loop .inv .1, same-mark (spell2 .ensures .0)), omega (arith, pre, same-kids (none .ensures), child .ensures .1 .0, child .ensures .1 .1 (if1 .left), kind-at .ensures .1, at .ensures .0, at .ensures .1, same-mark (spell .ensures .0), loop .inv .0, loop .inv .1, same-mark (spell2 .ensures .0)), omega (arith, pre, same-kids (none .ensures), child .ensures .1 .0, child .ensures .1 .1 (if1 .left), kind-at .ensures .1, at .ensures .0, at .ensures .1, same-mark (spell .ensures .0), loop .inv .0, loop .inv .1, same-mark (spell2 .ensures .0)))
+      (pre .1 .0 .sound, omega arith, omega (arith, if2, pre, same-kids (none .ensures), child .ensures .1 .0, child .ensures .1 .1 (if1 .left), kind-at .ensures .1, at .ensures .0, at .ensures .1, same-mark (spell .ensures .0), loop .inv .0, loop .inv .1, same-mark (spell2 .ensures .0)), omega (arith, pre, same-kids (none .ensures), child .ensures .1 .0, child .ensures .1 .1 (if1 .left), kind-at .ensures .1, at .ensures .0, at .ensures .1, same-mark (spell .ensures .0), loop .inv .0, loop .inv .1, same-mark (spell2 .ensures .0)), omega arith, omega arith, omega arith)
 
   pub same-length-3 : lts.Need-same-length-3 (R t) (template-at t) template.Post Inv-loop μ-loop
   same-length-3 c =
@@ -175,14 +157,7 @@ module _ (t : ℕ) where
 
   pub refused-requires-2 : lts.Need-refused-requires-2 (R t) (template-at t) template.Post Inv-loop μ-loop
   refused-requires-2 c κs =
-      let pre = c .before .before .before .before .before .before .before .before .before .before .before .before .before .before .before .before .before .before .before .before .before .before .before .before .before .pre in
-      let spell = c .before .before .before .before .before .before .before .before .before .before .before .before .before .before .before .before .before .before .before .spell in
-      let none = c .before .before .before .before .before .before .before .before .before .before .before .before .before .before .before .before .none in
-      let loop = c .before .before .before .before .before .before .before .before .before .before .before .before .before .before .before .loop in
-      let child = c .before .before .before .before .before .before .before .before .before .before .before .child in
-      let if1 = c .before .before .before .before .before .if1 in
-      let kind-at = c .before .before .kind-at in
-      omega (arith, pre, spell .kept, same-kids (none .ensures), child .ensures .1 .0, child .ensures .1 .1 (if1 .left), child .kept, kind-at .ensures .1, same-mark (spell .ensures .0), loop .inv .0, loop .inv .1)
+      omega arith
 
   pub same-length-5 : lts.Need-same-length-5 (R t) (template-at t) template.Post Inv-loop μ-loop
   same-length-5 c =
@@ -215,13 +190,7 @@ module _ (t : ℕ) where
   pub spell-requires-3 : lts.Need-spell-requires-3 (R t) (template-at t) template.Post Inv-loop μ-loop
   spell-requires-3 c κs =
       let pre = c .before .before .before .before .before .before .before .before .before .before .before .before .before .before .before .before .before .before .before .before .before .before .before .before .before .before .pre in
-      let spell = c .before .before .before .before .before .before .before .before .before .before .before .before .before .before .before .before .before .before .before .before .spell in
-      let none = c .before .before .before .before .before .before .before .before .before .before .before .before .before .before .before .before .before .none in
-      let loop = c .before .before .before .before .before .before .before .before .before .before .before .before .before .before .before .before .loop in
-      let child = c .before .before .before .before .before .before .before .before .before .before .before .before .child in
-      let if1 = c .before .before .before .before .before .before .if1 in
-      let kind-at = c .before .before .before .kind-at in
-      (pre .1 .0 .sound, omega (arith, pre, spell .kept, same-kids (none .ensures), child .ensures .1 .0, child .ensures .1 .1 (if1 .left), child .kept, kind-at .ensures .1, same-mark (spell .ensures .0), loop .inv .0, loop .inv .1), omega (arith, pre, spell .kept, same-kids (none .ensures), child .ensures .1 .0, child .ensures .1 .1 (if1 .left), child .kept, kind-at .ensures .1, same-mark (spell .ensures .0), loop .inv .0, loop .inv .1))
+      (pre .1 .0 .sound, omega arith, omega arith)
 
   pub loop-less : lts.Need-loop-less (R t) (template-at t) template.Post Inv-loop μ-loop
   loop-less c =

@@ -27,13 +27,11 @@ module _ (t : ℕ) where
   pub type-param-head-requires : lts.Need-type-param-head-requires (R t) (tparam-at t) tparam.Post
   type-param-head-requires c κs =
       let pre = c .before .before .before .before .before .before .pre in
-      (pre .1 .classes-are, pre .1 .sound, omega (arith, pre))
+      (pre .1 .classes-are, pre .1 .sound, omega arith)
 
   pub refused-requires : lts.Need-refused-requires (R t) (tparam-at t) tparam.Post
   refused-requires c κs =
-      let pre = c .before .before .before .before .before .before .before .before .before .before .before .pre in
-      let type-param-head = c .before .before .before .before .type-param-head in
-      omega (arith, pre, type-param-head .ensures .1, type-param-head .kept)
+      omega arith
 
   pub same-length : lts.Need-same-length (R t) (tparam-at t) tparam.Post
   same-length c =
@@ -58,15 +56,11 @@ module _ (t : ℕ) where
       let pre = c .before .before .before .before .before .before .before .before .before .before .before .before .before .before .before .pre in
       let type-param-head = c .before .before .before .before .before .before .before .before .type-param-head in
       let none = c .before .before .before .none in
-      (omega (arith, pre, type-param-head .ensures .1, same-kids (none .ensures)), (ready (pre .1) (omega (arith, pre, type-param-head .ensures .1, type-param-head .kept, same-kids (none .ensures))) (omega (arith, pre, type-param-head .ensures .1, same-kids (none .ensures))), omega (arith, pre, type-param-head .ensures .1, same-kids (none .ensures)), omega (arith, pre, type-param-head .ensures .1, same-kids (none .ensures))))
+      (omega arith, (ready (pre .1) (omega arith) (omega arith), omega arith, omega (arith, pre, type-param-head .ensures .1, same-kids (none .ensures))))
 
   pub refused-requires-2 : lts.Need-refused-requires-2 (R t) (tparam-at t) tparam.Post
   refused-requires-2 c κs =
-      let pre = c .before .before .before .before .before .before .before .before .before .before .before .before .before .before .before .before .before .before .before .before .before .before .pre in
-      let type-param-head = c .before .before .before .before .before .before .before .before .before .before .before .before .before .before .before .type-param-head in
-      let none = c .before .before .before .before .before .before .before .before .before .before .none in
-      let opt = c .before .before .before .before .before .before .opt in
-      omega (arith, pre, type-param-head .ensures .1, type-param-head .kept, same-kids (none .ensures), opt .ensures .1 .0, opt .kept)
+      omega arith
 
   pub same-length-2 : lts.Need-same-length-2 (R t) (tparam-at t) tparam.Post
   same-length-2 c =
@@ -98,17 +92,11 @@ module _ (t : ℕ) where
       let none = c .before .before .before .before .before .before .before .before .before .before .before .before .before .none in
       let opt = c .before .before .before .before .before .before .before .before .before .opt in
       let if2 = c .before .before .before .if2 in
-      (omega (arith, pre, type-param-head .ensures .1, same-kids (none .ensures), opt .ensures .1 .0, opt .ensures .1 .1 (if2 .left)), (ready (pre .1) (omega (arith, pre, type-param-head .ensures .1, type-param-head .kept, same-kids (none .ensures), opt .ensures .1 .0, opt .ensures .1 .1 (if2 .left), opt .kept)) (omega (arith, pre, type-param-head .ensures .1, same-kids (none .ensures), opt .ensures .1 .0, opt .ensures .1 .1 (if2 .left))), omega (arith, pre, type-param-head .ensures .1, same-kids (none .ensures), opt .ensures .1 .0, opt .ensures .1 .1 (if2 .left)), omega (arith, pre, type-param-head .ensures .1, same-kids (none .ensures), opt .ensures .1 .0, opt .ensures .1 .1 (if2 .left))))
+      (omega (arith, pre, type-param-head .ensures .1, same-kids (none .ensures), opt .ensures .1 .0, opt .ensures .1 .1 (if2 .left)), (ready (pre .1) (omega arith) (omega arith), omega arith, omega arith))
 
   pub refused-requires-3 : lts.Need-refused-requires-3 (R t) (tparam-at t) tparam.Post
   refused-requires-3 c κs =
-      let pre = c .before .before .before .before .before .before .before .before .before .before .before .before .before .before .before .before .before .before .before .before .before .before .before .before .before .before .before .before .before .before .before .before .pre in
-      let type-param-head = c .before .before .before .before .before .before .before .before .before .before .before .before .before .before .before .before .before .before .before .before .before .before .before .before .before .type-param-head in
-      let none = c .before .before .before .before .before .before .before .before .before .before .before .before .before .before .before .before .before .before .before .before .none in
-      let opt = c .before .before .before .before .before .before .before .before .before .before .before .before .before .before .before .before .opt in
-      let if2 = c .before .before .before .before .before .before .before .before .before .before .if2 in
-      let opt2 = c .before .before .before .before .before .before .opt2 in
-      omega (arith, pre, type-param-head .ensures .1, type-param-head .kept, same-kids (none .ensures), opt .ensures .1 .0, opt .ensures .1 .1 (if2 .left), opt .kept, opt2 .ensures .1 .0, opt2 .kept)
+      omega arith
 
   pub same-length-4 : lts.Need-same-length-4 (R t) (tparam-at t) tparam.Post
   same-length-4 c =
@@ -147,42 +135,16 @@ module _ (t : ℕ) where
 
   pub mul-choices : lts.Need-mul-choices (R t) (tparam-at t) tparam.Post
   mul-choices c =
-      let pre = c .before .before .before .before .before .before .before .before .before .before .before .before .before .before .before .before .before .before .before .before .before .before .before .before .before .before .before .before .before .before .before .before .before .before .pre in
-      let type-param-head = c .before .before .before .before .before .before .before .before .before .before .before .before .before .before .before .before .before .before .before .before .before .before .before .before .before .before .before .type-param-head in
-      let none = c .before .before .before .before .before .before .before .before .before .before .before .before .before .before .before .before .before .before .before .before .before .before .none in
-      let opt = c .before .before .before .before .before .before .before .before .before .before .before .before .before .before .before .before .before .before .opt in
-      let if2 = c .before .before .before .before .before .before .before .before .before .before .before .before .if2 in
-      let opt2 = c .before .before .before .before .before .before .before .before .opt2 in
-      let if3 = c .before .before .if3 in
-      let opt-bit = c .before .opt-bit in
-      let opt-bit2 = c .opt-bit2 in
-      omega (arith, pre, type-param-head .ensures .1, same-kids (none .ensures), opt .ensures .1 .0, opt .ensures .1 .1 (if2 .left), opt2 .ensures .1 .0, opt2 .ensures .1 .1 (if3 .left), opt-bit .ensures .1, opt-bit2 .ensures .1)
+      omega arith
 
   pub add-choices : lts.Need-add-choices (R t) (tparam-at t) tparam.Post
   add-choices c =
-      let pre = c .before .before .before .before .before .before .before .before .before .before .before .before .before .before .before .before .before .before .before .before .before .before .before .before .before .before .before .before .before .before .before .before .before .before .pre in
-      let type-param-head = c .before .before .before .before .before .before .before .before .before .before .before .before .before .before .before .before .before .before .before .before .before .before .before .before .before .before .before .type-param-head in
-      let none = c .before .before .before .before .before .before .before .before .before .before .before .before .before .before .before .before .before .before .before .before .before .before .none in
-      let opt = c .before .before .before .before .before .before .before .before .before .before .before .before .before .before .before .before .before .before .opt in
-      let if2 = c .before .before .before .before .before .before .before .before .before .before .before .before .if2 in
-      let opt2 = c .before .before .before .before .before .before .before .before .opt2 in
-      let if3 = c .before .before .if3 in
-      let opt-bit = c .before .opt-bit in
-      let opt-bit2 = c .opt-bit2 in
-      omega (arith, pre, type-param-head .ensures .1, same-kids (none .ensures), opt .ensures .1 .0, opt .ensures .1 .1 (if2 .left), opt2 .ensures .1 .0, opt2 .ensures .1 .1 (if3 .left), opt-bit .ensures .1, opt-bit2 .ensures .1)
+      omega arith
 
   pub at-requires : lts.Need-at-requires (R t) (tparam-at t) tparam.Post
   at-requires c κs =
       let pre = c .before .before .before .before .before .before .before .before .before .before .before .before .before .before .before .before .before .before .before .before .before .before .before .before .before .before .before .before .before .before .before .before .before .before .before .pre in
-      let type-param-head = c .before .before .before .before .before .before .before .before .before .before .before .before .before .before .before .before .before .before .before .before .before .before .before .before .before .before .before .before .type-param-head in
-      let none = c .before .before .before .before .before .before .before .before .before .before .before .before .before .before .before .before .before .before .before .before .before .before .before .none in
-      let opt = c .before .before .before .before .before .before .before .before .before .before .before .before .before .before .before .before .before .before .before .opt in
-      let if2 = c .before .before .before .before .before .before .before .before .before .before .before .before .before .if2 in
-      let opt2 = c .before .before .before .before .before .before .before .before .before .opt2 in
-      let if3 = c .before .before .before .if3 in
-      let opt-bit = c .before .before .opt-bit in
-      let opt-bit2 = c .before .opt-bit2 in
-      (pre .1 .sound, omega (arith, pre, type-param-head .ensures .1, same-kids (none .ensures), opt .ensures .1 .0, opt .ensures .1 .1 (if2 .left), opt2 .ensures .1 .0, opt2 .ensures .1 .1 (if3 .left), opt-bit .ensures .1, opt-bit2 .ensures .1))
+      (pre .1 .sound, omega arith)
 
   pub put-requires : lts.Need-put-requires (R t) (tparam-at t) tparam.Post
   put-requires c κs =
@@ -196,7 +158,7 @@ module _ (t : ℕ) where
       let opt-bit = c .before .before .before .opt-bit in
       let opt-bit2 = c .before .before .opt-bit2 in
       let at = c .at in
-      (pre .1 .sound, omega (arith, pre, type-param-head .ensures .1, type-param-head .kept, same-kids (none .ensures), opt .ensures .1 .0, opt .ensures .1 .1 (if2 .left), opt .kept, opt2 .ensures .1 .0, opt2 .ensures .1 .1 (if3 .left), opt2 .kept, opt-bit .ensures .1, opt-bit2 .ensures .1, at .ensures .0, at .ensures .1), omega (arith, pre, type-param-head .ensures .1, type-param-head .kept, same-kids (none .ensures), opt .ensures .1 .0, opt .ensures .1 .1 (if2 .left), opt .kept, opt2 .ensures .1 .0, opt2 .ensures .1 .1 (if3 .left), opt2 .kept, opt-bit .ensures .1, opt-bit2 .ensures .1, at .ensures .0, at .ensures .1), omega (arith, pre, type-param-head .ensures .1, type-param-head .kept, same-kids (none .ensures), opt .ensures .1 .0, opt .ensures .1 .1 (if2 .left), opt .kept, opt2 .ensures .1 .0, opt2 .ensures .1 .1 (if3 .left), opt2 .kept, opt-bit .ensures .1, opt-bit2 .ensures .1, at .ensures .0, at .ensures .1), omega (arith, pre, type-param-head .ensures .1, type-param-head .kept, same-kids (none .ensures), opt .ensures .1 .0, opt .ensures .1 .1 (if2 .left), opt .kept, opt2 .ensures .1 .0, opt2 .ensures .1 .1 (if3 .left), opt2 .kept, opt-bit .ensures .1, opt-bit2 .ensures .1, at .ensures .0, at .ensures .1), omega (arith, pre, type-param-head .ensures .1, type-param-head .kept, same-kids (none .ensures), opt .ensures .1 .0, opt .ensures .1 .1 (if2 .left), opt .kept, opt2 .ensures .1 .0, opt2 .ensures .1 .1 (if3 .left), opt2 .kept, opt-bit .ensures .1, opt-bit2 .ensures .1, at .ensures .0, at .ensures .1))
+      (pre .1 .sound, omega (arith, pre, type-param-head .ensures .1, type-param-head .kept, same-kids (none .ensures), opt .ensures .1 .0, opt .ensures .1 .1 (if2 .left), opt .kept, opt2 .ensures .1 .0, opt2 .ensures .1 .1 (if3 .left), opt2 .kept, opt-bit .ensures .1, opt-bit2 .ensures .1, at .ensures .0, at .ensures .1), omega arith, omega (arith, pre, type-param-head .ensures .1, type-param-head .kept, same-kids (none .ensures), opt .ensures .1 .0, opt .ensures .1 .1 (if2 .left), opt .kept, opt2 .ensures .1 .0, opt2 .ensures .1 .1 (if3 .left), opt2 .kept, opt-bit .ensures .1, opt-bit2 .ensures .1, at .ensures .0, at .ensures .1), omega arith, omega arith)
 
   pub same-length-6 : lts.Need-same-length-6 (R t) (tparam-at t) tparam.Post
   same-length-6 c =
@@ -227,4 +189,4 @@ module _ (t : ℕ) where
       let opt-bit2 = c .before .before .before .before .before .opt-bit2 in
       let at = c .before .before .before .at in
       let put = c .before .before .put in
-      (let head = type-param-head .ensures .0 (args .text .now) (pre .1 .spelt) .done (if1 .left) in let x = opt .ensures .0 _ _ (built-bound (none .ensures) head) .done (if2 .left) in let d = opt2 .ensures .0 _ _ (x .built) .done (if3 .left) in says-same (type-parameter _ _ _ _ ∙ then-read _ (head .is) ∙ then-read _ (x .is) ∙ then-read _ (d .is) ∙ make-first _ _ _ _ _ (at .ensures .0 .0)) (put .ensures .0 (args .text .now) 4 _ _ 0 _ _ _ (d .built) (at .ensures .0 .1) (shape-as (omega (arith, opt-bit .ensures .0, opt-bit2 .ensures .0, x .there-is, d .there-is)) (shape-typeParameter (head .name) (x .tree) (d .tree) (x .is-opt) (d .is-opt)))), (omega (arith, pre, type-param-head .ensures .1, same-kids (none .ensures), opt .ensures .1 .0, opt .ensures .1 .1 (if2 .left), opt2 .ensures .1 .0, opt2 .ensures .1 .1 (if3 .left), opt-bit .ensures .1, opt-bit2 .ensures .1, at .ensures .0, at .ensures .1, put .ensures .1), λ z. omega (arith, pre, type-param-head .ensures .1, same-kids (none .ensures), opt .ensures .1 .0, opt .ensures .1 .1 (if2 .left), opt2 .ensures .1 .0, opt2 .ensures .1 .1 (if3 .left), opt-bit .ensures .1, opt-bit2 .ensures .1, at .ensures .0, at .ensures .1, put .ensures .1, z)))
+      (let head = type-param-head .ensures .0 (args .text .now) (pre .1 .spelt) .done (if1 .left) in let x = opt .ensures .0 _ _ (built-bound (none .ensures) head) .done (if2 .left) in let d = opt2 .ensures .0 _ _ (x .built) .done (if3 .left) in says-same (type-parameter _ _ _ _ ∙ then-read _ (head .is) ∙ then-read _ (x .is) ∙ then-read _ (d .is) ∙ make-first _ _ _ _ _ (at .ensures .0 .0)) (put .ensures .0 (args .text .now) 4 _ _ 0 _ _ _ (d .built) (at .ensures .0 .1) (shape-as (omega arith) (shape-typeParameter (head .name) (x .tree) (d .tree) (x .is-opt) (d .is-opt)))), (omega (arith, pre, type-param-head .ensures .1, same-kids (none .ensures), opt .ensures .1 .0, opt .ensures .1 .1 (if2 .left), opt2 .ensures .1 .0, opt2 .ensures .1 .1 (if3 .left), opt-bit .ensures .1, opt-bit2 .ensures .1, at .ensures .0, at .ensures .1, put .ensures .1), λ z. omega (arith, pre, type-param-head .ensures .1, same-kids (none .ensures), opt .ensures .1 .0, opt .ensures .1 .1 (if2 .left), opt2 .ensures .1 .0, opt2 .ensures .1 .1 (if3 .left), opt-bit .ensures .1, opt-bit2 .ensures .1, at .ensures .0, at .ensures .1, put .ensures .1, z)))

@@ -57,8 +57,7 @@ module _ (t : ℕ) where
       let kind-at = c .before .before .kind-at in
       let if1 = c .before .if1 in
       let absent = c .absent in (
-        let text = args .text .now in let s = pre .1 .spelt in
-            listed-absent (absent .ensures)
+        listed-absent (absent .ensures)
             (types-none _ _ _ _ (is-not-here (args .words .now) (args .m) (kind-at .ensures .0) (if1 .taken))),
         (omega (arith, same-listed (absent .ensures)), λ z. omega (arith, same-listed (absent .ensures))),
       )
@@ -80,8 +79,7 @@ module _ (t : ℕ) where
       let none = c .none in (
         omega arith,
         omega (arith, same-kids (none .ensures)),
-        let text = args .text .now in let s = pre .1 .spelt in
-            turn-starts (args .m) _ (none .ensures) refl refl refl
+        turn-starts (args .m) _ (none .ensures) refl refl refl
             (types-some _ _ _ _ (is-here (args .words .now) (args .m) (kind-at .ensures .0) (if1 .left))),
       )
 
@@ -120,8 +118,7 @@ module _ (t : ℕ) where
       let tparam = c .before .before .before .before .before .before .before .tparam in
       let if3 = c .before .if3 in
       let refused = c .refused in (
-        let text = args .text .now in let s = pre .1 .spelt in
-            let w = loop .inv .2 in
+        let w = loop .inv .2 in
             let goes-on = is-not-here (args .words .now) (loop .p) (kind-at2 .ensures .0) (if2 .taken) in
             listed-refused (refused .ensures) (if3 .taken)
             (turn-refused _ _ _ _ (loop .p) w goes-on (tparam .ensures .0 .refused (if3 .taken))),
@@ -170,8 +167,7 @@ module _ (t : ℕ) where
       let past-comma = c .before .before .before .past-comma in
       let if4 = c .before .if4 in
       let refused2 = c .refused2 in (
-        let text = args .text .now in let s = pre .1 .spelt in
-            let w = loop .inv .2 in
+        let w = loop .inv .2 in
             let goes-on = is-not-here (args .words .now) (loop .p) (kind-at2 .ensures .0) (if2 .taken) in
             listed-refused (refused2 .ensures) (if4 .taken)
             (turn-stops _ _ _ _ (loop .p) w goes-on _ (tparam .ensures .0 .done (if3 .left) .is) (past-comma .ensures .0) (if4 .taken)),
@@ -198,8 +194,7 @@ module _ (t : ℕ) where
       let if4 = c .before .if4 in (
         omega (arith, tparam .kept, tparam .ensures .1 .1 (if3 .left)),
         omega arith,
-        let text = args .text .now in let s = pre .1 .spelt in
-            let w = loop .inv .2 in
+        let w = loop .inv .2 in
             let goes-on = is-not-here (args .words .now) (loop .p) (kind-at2 .ensures .0) (if2 .taken) in
             turn-again _ _ _ _ (loop .p) w goes-on (tparam .ensures .0 .done (if3 .left)) (link .ensures .0) (omega arith)
             (link .ensures .1 .1)
@@ -238,5 +233,5 @@ module _ (t : ℕ) where
         let text = args .text .now in let s = pre .1 .spelt in
             turn-ends text (args .words .now) (args .given) _ _ _ _ (loop .p) (loop .inv .2)
             (is-here (args .words .now) (loop .p) (kind-at2 .ensures .0) (if2 .left)) (first-byte .ensures .0) (list-end .ensures .0),
-        (omega arith, λ z. omega (arith, pre)),
+        (omega arith, λ z. omega arith),
       )

@@ -166,7 +166,7 @@ module _ (t : ℕ) where
       let elem = c .before .before .before .before .before .before .before .before .before .before .before .before .before .before .before .before .before .elem in
       let if2 = c .before .before .before .before .before .before .before .before .before .before .before .if2 in
       let checked = c .before .before .before .before .before .before .before .before .checked in
-      (pre .1 .0 .sound, omega (arith, checked .ensures .1, elem .ensures .1 .1 (if2 .left), same-kids (none .ensures)))
+      (pre .1 .0 .sound, omega arith)
 
   pub refused-requires-2 : lts.Need-refused-requires-2 (R t) (tuple-at t) tuple.Post Inv-loop μ-loop
   refused-requires-2 c κs =
@@ -282,5 +282,5 @@ module _ (t : ℕ) where
             (is-here (args .words .now) (loop .p) (kind-at .ensures .0) (if1 .left)))
             (tuple-node .ensures .0 text _ _ _ _ _ ((loop .inv .2 brack) .turn .built) (at .ensures .0 .1)
             (tuple-listed text (args .words .now) (args .given) _ _ (loop .inv .2 brack))),
-        (omega arith, λ z. omega (arith, pre)),
+        (omega arith, λ z. omega arith),
       )

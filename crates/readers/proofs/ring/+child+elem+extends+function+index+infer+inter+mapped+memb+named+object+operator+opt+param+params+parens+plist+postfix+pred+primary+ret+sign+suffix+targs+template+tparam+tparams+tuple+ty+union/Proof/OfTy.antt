@@ -30,8 +30,7 @@ R t = (state-Answer-refused-reads.Asked, state-Answer-refused-reads.Learnt, ente
 module _ (t : ℕ) where
   pub refused-requires : lts.Need-refused-requires (R t) (ty-at t) ty.Post
   refused-requires c κs =
-      let pre = c .before .before .before .before .before .before .pre in
-      omega (arith, pre)
+      omega arith
 
   pub returns : lts.Need-returns (R t) (ty-at t) ty.Post
   returns c =
@@ -42,8 +41,7 @@ module _ (t : ℕ) where
 
   pub sub-if6 : lts.Need-sub-if6 (R t) (ty-at t) ty.Post
   sub-if6 c =
-      let pre = c .before .before .before .before .before .before .before .pre in
-      omega (arith, pre)
+      omega arith
 
   pub enter-requires : lts.Need-enter-requires (R t) (ty-at t) ty.Post
   enter-requires c κs =
@@ -52,12 +50,12 @@ module _ (t : ℕ) where
   pub begins-requires : lts.Need-begins-requires (R t) (ty-at t) ty.Post
   begins-requires c κs =
       let pre = c .before .before .before .before .before .before .before .before .before .pre in
-      (pre .1 .classes-are, omega (arith, pre))
+      (pre .1 .classes-are, omega arith)
 
   pub function-requires : lts.Need-function-requires (R t) (ty-at t) ty.Post
   function-requires c κs =
       let pre = c .before .before .before .before .before .before .before .before .before .before .before .before .before .before .pre in
-      (omega (arith, pre), ready (pre .1) (omega (arith, pre)) (omega (arith, pre)))
+      (omega arith, ready (pre .1) (omega arith) (omega arith))
 
   pub same-length : lts.Need-same-length (R t) (ty-at t) ty.Post
   same-length c =
@@ -72,18 +70,17 @@ module _ (t : ℕ) where
   pub returns-2 : lts.Need-returns-2 (R t) (ty-at t) ty.Post
   returns-2 c =
       let args = c .before .before .before .before .before .before .before .before .before .before .before .before .before .before .before .before .before .before .before .args in
-      let pre = c .before .before .before .before .before .before .before .before .before .before .before .before .before .before .before .before .before .before .before .pre in
       let if1 = c .before .before .before .before .before .before .before .before .before .before .before .before .before .if1 in
       let enter = c .before .before .before .before .before .before .before .before .before .before .enter in
       let begins = c .before .before .before .before .before .before .before .before .before .begins in
       let if2 = c .before .before .before .before .before .before .before .before .if2 in
       let function = c .before .before .before .before .function in
-      (says-tallied (enter .ensures) (args .m) (args .nodes .now) (args .names .now) (says-same (type-function _ _ _ _ (view-tallied (enter .ensures) (args .m)) (if1 .left) (sym (begins .ensures) ∙ if2 .taken)) (function .ensures .0)), (omega (arith, pre, function .ensures .1 .0), λ z. omega (arith, function .ensures .1 .1 z)))
+      (says-tallied (enter .ensures) (args .m) (args .nodes .now) (args .names .now) (says-same (type-function _ _ _ _ (view-tallied (enter .ensures) (args .m)) (if1 .left) (sym (begins .ensures) ∙ if2 .taken)) (function .ensures .0)), (omega arith, λ z. omega (arith, function .ensures .1 .1 z)))
 
   pub union-requires : lts.Need-union-requires (R t) (ty-at t) ty.Post
   union-requires c κs =
       let pre = c .before .before .before .before .before .before .before .before .before .before .before .before .before .before .pre in
-      (omega (arith, pre), ready (pre .1) (omega (arith, pre)) (omega (arith, pre)))
+      (omega arith, ready (pre .1) (omega arith) (omega arith))
 
   pub same-length-3 : lts.Need-same-length-3 (R t) (ty-at t) ty.Post
   same-length-3 c =
@@ -98,14 +95,13 @@ module _ (t : ℕ) where
   pub returns-3 : lts.Need-returns-3 (R t) (ty-at t) ty.Post
   returns-3 c =
       let args = c .before .before .before .before .before .before .before .before .before .before .before .before .before .before .before .before .before .before .before .before .before .args in
-      let pre = c .before .before .before .before .before .before .before .before .before .before .before .before .before .before .before .before .before .before .before .before .before .pre in
       let if1 = c .before .before .before .before .before .before .before .before .before .before .before .before .before .before .before .if1 in
       let enter = c .before .before .before .before .before .before .before .before .before .before .before .before .enter in
       let begins = c .before .before .before .before .before .before .before .before .before .before .before .begins in
       let if2 = c .before .before .before .before .before .before .before .before .before .before .if2 in
       let union = c .before .before .before .before .before .before .union in
       let if3 = c .if3 in
-      (says-tallied (enter .ensures) (args .m) (args .nodes .now) (args .names .now) (says-same (type-other _ _ _ _ (view-tallied (enter .ensures) (args .m)) (if1 .left) (sym (begins .ensures) ∙ if2 .left)) (says-stops _ (union .ensures .0) (if3 .taken) (union-or _ _ _ _))), (omega (arith, pre, union .ensures .1 .0), λ z. absurd (if3 .taken z)))
+      (says-tallied (enter .ensures) (args .m) (args .nodes .now) (args .names .now) (says-same (type-other _ _ _ _ (view-tallied (enter .ensures) (args .m)) (if1 .left) (sym (begins .ensures) ∙ if2 .left)) (says-stops _ (union .ensures .0) (if3 .taken) (union-or _ _ _ _))), (omega arith, λ z. absurd (if3 .taken z)))
 
   pub same-length-5 : lts.Need-same-length-5 (R t) (ty-at t) ty.Post
   same-length-5 c =
@@ -128,14 +124,11 @@ module _ (t : ℕ) where
       let union = c .before .before .before .before .before .before .before .union in
       let if3 = c .before .if3 in
       let if4 = c .if4 in
-      (says-tallied (enter .ensures) (args .m) (args .nodes .now) (args .names .now) (says-same (type-other _ _ _ _ (view-tallied (enter .ensures) (args .m)) (if1 .left) (sym (begins .ensures) ∙ if2 .left)) (says-passed (union .ensures .0) (if3 .left) (union-off _ _ _ _ ((union .ensures .0) .done (if3 .left) .is) (not-true _ (if4 .taken))))), (omega (arith, pre, union .ensures .1 .0, union .ensures .1 .1 (if3 .left)), λ z. omega (arith, pre, union .ensures .1 .0, union .ensures .1 .1 (if3 .left), z)))
+      (says-tallied (enter .ensures) (args .m) (args .nodes .now) (args .names .now) (says-same (type-other _ _ _ _ (view-tallied (enter .ensures) (args .m)) (if1 .left) (sym (begins .ensures) ∙ if2 .left)) (says-passed (union .ensures .0) (if3 .left) (union-off _ _ _ _ ((union .ensures .0) .done (if3 .left) .is) (not-true _ (if4 .taken))))), (omega arith, λ z. omega (arith, pre, union .ensures .1 .0, union .ensures .1 .1 (if3 .left), z)))
 
   pub on-line-requires : lts.Need-on-line-requires (R t) (ty-at t) ty.Post
   on-line-requires c κs =
-      let pre = c .before .before .before .before .before .before .before .before .before .before .before .before .before .before .before .before .before .before .before .before .before .before .before .pre in
-      let union = c .before .before .before .before .before .before .before .before .union in
-      let if3 = c .before .before .if3 in
-      omega (arith, pre, union .ensures .1 .0, union .ensures .1 .1 (if3 .left), union .kept)
+      omega arith
 
   pub same-length-7 : lts.Need-same-length-7 (R t) (ty-at t) ty.Post
   same-length-7 c =
@@ -160,7 +153,7 @@ module _ (t : ℕ) where
       let if4 = c .before .before .before .if4 in
       let on-line = c .before .on-line in
       let if5 = c .if5 in
-      (says-tallied (enter .ensures) (args .m) (args .nodes .now) (args .names .now) (says-same (type-other _ _ _ _ (view-tallied (enter .ensures) (args .m)) (if1 .left) (sym (begins .ensures) ∙ if2 .left)) (says-passed (union .ensures .0) (if3 .left) (union-apart _ _ _ _ ((union .ensures .0) .done (if3 .left) .is) (not-false _ (if4 .left)) (sym (on-line .ensures) ∙ not-true _ (if5 .taken))))), (omega (arith, pre, union .ensures .1 .0, union .ensures .1 .1 (if3 .left)), λ z. omega (arith, pre, union .ensures .1 .0, union .ensures .1 .1 (if3 .left), z)))
+      (says-tallied (enter .ensures) (args .m) (args .nodes .now) (args .names .now) (says-same (type-other _ _ _ _ (view-tallied (enter .ensures) (args .m)) (if1 .left) (sym (begins .ensures) ∙ if2 .left)) (says-passed (union .ensures .0) (if3 .left) (union-apart _ _ _ _ ((union .ensures .0) .done (if3 .left) .is) (not-false _ (if4 .left)) (sym (on-line .ensures) ∙ not-true _ (if5 .taken))))), (omega arith, λ z. omega (arith, pre, union .ensures .1 .0, union .ensures .1 .1 (if3 .left), z)))
 
   pub kind-at-requires : lts.Need-kind-at-requires (R t) (ty-at t) ty.Post
   kind-at-requires c κs =
@@ -191,15 +184,12 @@ module _ (t : ℕ) where
       let if5 = c .before .before .if5 in
       let kind-at = c .before .kind-at in
       let if6 = c .if6 in
-      (says-tallied (enter .ensures) (args .m) (args .nodes .now) (args .names .now) (says-same (type-other _ _ _ _ (view-tallied (enter .ensures) (args .m)) (if1 .left) (sym (begins .ensures) ∙ if2 .left)) (says-passed (union .ensures .0) (if3 .left) (union-alone _ _ _ _ ((union .ensures .0) .done (if3 .left) .is) (not-false _ (if4 .left)) (sym (on-line .ensures) ∙ not-false _ (if5 .left)) (is-not-here (args .words .now) (union .result .m) (kind-at .ensures .0) (if6 .taken))))), (omega (arith, pre, union .ensures .1 .0, union .ensures .1 .1 (if3 .left), kind-at .ensures .1), λ z. omega (arith, pre, union .ensures .1 .0, union .ensures .1 .1 (if3 .left), kind-at .ensures .1, z)))
+      (says-tallied (enter .ensures) (args .m) (args .nodes .now) (args .names .now) (says-same (type-other _ _ _ _ (view-tallied (enter .ensures) (args .m)) (if1 .left) (sym (begins .ensures) ∙ if2 .left)) (says-passed (union .ensures .0) (if3 .left) (union-alone _ _ _ _ ((union .ensures .0) .done (if3 .left) .is) (not-false _ (if4 .left)) (sym (on-line .ensures) ∙ not-false _ (if5 .left)) (is-not-here (args .words .now) (union .result .m) (kind-at .ensures .0) (if6 .taken))))), (omega arith, λ z. omega (arith, pre, union .ensures .1 .0, union .ensures .1 .1 (if3 .left), kind-at .ensures .1, z)))
 
   pub at-requires : lts.Need-at-requires (R t) (ty-at t) ty.Post
   at-requires c κs =
       let pre = c .before .before .before .before .before .before .before .before .before .before .before .before .before .before .before .before .before .before .before .before .before .before .before .before .before .before .before .pre in
-      let union = c .before .before .before .before .before .before .before .before .before .before .before .before .union in
-      let if3 = c .before .before .before .before .before .before .if3 in
-      let kind-at = c .before .kind-at in
-      (pre .1 .sound, omega (arith, pre, union .ensures .1 .0, union .ensures .1 .1 (if3 .left), kind-at .ensures .1))
+      (pre .1 .sound, omega arith)
 
   pub extends-requires : lts.Need-extends-requires (R t) (ty-at t) ty.Post
   extends-requires c κs =
@@ -208,7 +198,7 @@ module _ (t : ℕ) where
       let if3 = c .before .before .before .before .before .before .before .before .before .before .if3 in
       let kind-at = c .before .before .before .before .before .kind-at in
       let at = c .before .before .before .at in
-      (omega (arith, pre, union .ensures .1 .0, union .ensures .1 .1 (if3 .left), kind-at .ensures .1, at .ensures .0, at .ensures .1), (ready (pre .1) (omega (arith, pre, union .ensures .1 .0, union .ensures .1 .1 (if3 .left), union .kept, kind-at .ensures .1, at .ensures .0, at .ensures .1)) (omega (arith, pre, union .ensures .1 .0, union .ensures .1 .1 (if3 .left), kind-at .ensures .1, at .ensures .0, at .ensures .1)), omega (arith, pre, union .ensures .1 .0, union .ensures .1 .1 (if3 .left), kind-at .ensures .1, at .ensures .0, at .ensures .1), omega (arith, pre, union .ensures .1 .0, union .ensures .1 .1 (if3 .left), kind-at .ensures .1, at .ensures .0, at .ensures .1), omega (arith, pre, union .ensures .1 .0, union .ensures .1 .1 (if3 .left), kind-at .ensures .1, at .ensures .0, at .ensures .1), omega (arith, pre, union .ensures .1 .0, union .ensures .1 .1 (if3 .left), kind-at .ensures .1, at .ensures .0, at .ensures .1)))
+      (omega (arith, pre, union .ensures .1 .0, union .ensures .1 .1 (if3 .left), kind-at .ensures .1, at .ensures .0, at .ensures .1), (ready (pre .1) (omega arith) (omega arith), omega arith, omega (arith, pre, union .ensures .1 .0, union .ensures .1 .1 (if3 .left), kind-at .ensures .1, at .ensures .0, at .ensures .1), omega arith, omega arith))
 
   pub same-length-11 : lts.Need-same-length-11 (R t) (ty-at t) ty.Post
   same-length-11 c =
@@ -239,4 +229,4 @@ module _ (t : ℕ) where
       let if6 = c .before .before .before .before .before .before .before .before .before .if6 in
       let at = c .before .before .before .before .before .before .before .before .at in
       let extends = c .before .before .before .before .extends in
-      (let got = (union .ensures .0) .done (if3 .left) in says-tallied (enter .ensures) (args .m) (args .nodes .now) (args .names .now) (says-same ((type-other _ _ _ _ (view-tallied (enter .ensures) (args .m)) (if1 .left) (sym (begins .ensures) ∙ if2 .left)) ∙ union-goes _ _ _ _ (got .is) (at .result .first) (at .ensures .0 .0) (not-false _ (if4 .left)) (sym (on-line .ensures) ∙ not-false _ (if5 .left)) (is-here (args .words .now) (union .result .m) (kind-at .ensures .0) (if6 .left))) (extends .ensures .0 _ (got .tree) (got .stands) (at .ensures .0 .1))), (omega (arith, pre, union .ensures .1 .0, union .ensures .1 .1 (if3 .left), kind-at .ensures .1, at .ensures .0, at .ensures .1, extends .ensures .1 .0), λ z. omega (arith, pre, union .ensures .1 .0, union .ensures .1 .1 (if3 .left), kind-at .ensures .1, at .ensures .0, at .ensures .1, extends .ensures .1 .0, extends .ensures .1 .1 z)))
+      (let got = (union .ensures .0) .done (if3 .left) in says-tallied (enter .ensures) (args .m) (args .nodes .now) (args .names .now) (says-same ((type-other _ _ _ _ (view-tallied (enter .ensures) (args .m)) (if1 .left) (sym (begins .ensures) ∙ if2 .left)) ∙ union-goes _ _ _ _ (got .is) (at .result .first) (at .ensures .0 .0) (not-false _ (if4 .left)) (sym (on-line .ensures) ∙ not-false _ (if5 .left)) (is-here (args .words .now) (union .result .m) (kind-at .ensures .0) (if6 .left))) (extends .ensures .0 _ (got .tree) (got .stands) (at .ensures .0 .1))), (omega arith, λ z. omega (arith, pre, union .ensures .1 .0, union .ensures .1 .1 (if3 .left), kind-at .ensures .1, at .ensures .0, at .ensures .1, extends .ensures .1 .0, extends .ensures .1 .1 z)))

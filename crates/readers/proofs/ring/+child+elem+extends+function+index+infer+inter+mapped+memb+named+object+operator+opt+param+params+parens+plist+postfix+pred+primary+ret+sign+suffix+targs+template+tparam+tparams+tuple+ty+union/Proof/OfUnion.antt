@@ -46,7 +46,7 @@ module _ (t : ℕ) where
   pub past-requires : lts.Need-past-requires (R t) (union-at t) union.Post Inv-loop μ-loop
   past-requires c κs =
       let pre = c .before .before .before .before .pre in
-      (pre .1 .sound, omega (arith, pre), omega (arith, pre))
+      (pre .1 .sound, omega arith, omega arith)
 
   pub none-requires : lts.Need-none-requires (R t) (union-at t) union.Post Inv-loop μ-loop
   none-requires c κs =
@@ -58,15 +58,12 @@ module _ (t : ℕ) where
       let args = c .before .before .before .before .before .before .args in
       let past = c .before .past in
       let none = c .none in
-      (omega (arith, pre, past .ensures .1, same-kids (none .ensures)), omega (arith, pre, past .ensures .1, same-kids (none .ensures)), parts-start (args .text .now) (args .words .now) (args .given) (below (args .given) (givenOf (args .text .now) (args .words .now) (args .given))) Pipe 5 (unions.intersection (givenOf (args .text .now) (args .words .now) (args .given)) (below (args .given) (givenOf (args .text .now) (args .words .now) (args .given))) (args .on)) (args .m) (past .result) (args .nodes .now) (args .names .now) (args .notes .now) (union-is (givenOf (args .text .now) (args .words .now) (args .given)) (below (args .given) (givenOf (args .text .now) (args .words .now) (args .given))) (args .on) (view (args .m) (args .notes .now))) (past .ensures .0) (past .ensures .1) (none .ensures))
+      (omega arith, omega (arith, pre, past .ensures .1, same-kids (none .ensures)), parts-start (args .text .now) (args .words .now) (args .given) (below (args .given) (givenOf (args .text .now) (args .words .now) (args .given))) Pipe 5 (unions.intersection (givenOf (args .text .now) (args .words .now) (args .given)) (below (args .given) (givenOf (args .text .now) (args .words .now) (args .given))) (args .on)) (args .m) (past .result) (args .nodes .now) (args .names .now) (args .notes .now) (union-is (givenOf (args .text .now) (args .words .now) (args .given)) (below (args .given) (givenOf (args .text .now) (args .words .now) (args .given))) (args .on) (view (args .m) (args .notes .now))) (past .ensures .0) (past .ensures .1) (none .ensures))
 
   pub inter-requires : lts.Need-inter-requires (R t) (union-at t) union.Post Inv-loop μ-loop
   inter-requires c κs =
       let pre = c .before .before .before .before .before .before .before .before .before .before .pre in
-      let past = c .before .before .before .before .before .past in
-      let none = c .before .before .before .before .none in
-      let loop = c .before .before .before .loop in
-      (omega (arith, pre, past .ensures .1, same-kids (none .ensures), loop .inv .0, loop .inv .1), ready (pre .1) (omega (arith, pre, past .ensures .1, same-kids (none .ensures), loop .inv .0, loop .inv .1)) (omega (arith, pre, past .ensures .1, same-kids (none .ensures), loop .inv .0, loop .inv .1)))
+      (omega arith, ready (pre .1) (omega arith) (omega arith))
 
   pub same-length : lts.Need-same-length (R t) (union-at t) union.Post Inv-loop μ-loop
   same-length c =
@@ -82,14 +79,11 @@ module _ (t : ℕ) where
 
   pub returns : lts.Need-returns (R t) (union-at t) union.Post Inv-loop μ-loop
   returns c =
-      let pre = c .before .before .before .before .before .before .before .before .before .before .before .before .before .before .before .before .before .pre in
       let args = c .before .before .before .before .before .before .before .before .before .before .before .before .before .before .before .before .before .args in
-      let past = c .before .before .before .before .before .before .before .before .before .before .before .before .past in
-      let none = c .before .before .before .before .before .before .before .before .before .before .before .none in
       let loop = c .before .before .before .before .before .before .before .before .before .before .loop in
       let inter = c .before .before .before .before .before .before .inter in
       let if1 = c .if1 in
-      (part-refused (args .text .now) (args .words .now) (args .given) (below (args .given) (givenOf (args .text .now) (args .words .now) (args .given))) Pipe 5 (unions.intersection (givenOf (args .text .now) (args .words .now) (args .given)) (below (args .given) (givenOf (args .text .now) (args .words .now) (args .given))) (args .on)) (args .m) (args .notes .now) (loop .inv .2) (inter .ensures .0) (if1 .taken), (omega (arith, pre, past .ensures .1, same-kids (none .ensures), inter .ensures .1 .0, loop .inv .0, loop .inv .1), λ z. absurd (if1 .taken z)))
+      (part-refused (args .text .now) (args .words .now) (args .given) (below (args .given) (givenOf (args .text .now) (args .words .now) (args .given))) Pipe 5 (unions.intersection (givenOf (args .text .now) (args .words .now) (args .given)) (below (args .given) (givenOf (args .text .now) (args .words .now) (args .given))) (args .on)) (args .m) (args .notes .now) (loop .inv .2) (inter .ensures .0) (if1 .taken), (omega arith, λ z. absurd (if1 .taken z)))
 
   pub kind-at-requires : lts.Need-kind-at-requires (R t) (union-at t) union.Post Inv-loop μ-loop
   kind-at-requires c κs =
@@ -104,7 +98,7 @@ module _ (t : ℕ) where
       let inter = c .before .before .before .before .before .before .before .before .before .before .inter in
       let if1 = c .before .before .before .before .if1 in
       let kind-at = c .before .before .kind-at in
-      ((pre .1 .sound, omega (arith, pre, past .ensures .1, same-kids (none .ensures), inter .ensures .1 .0, inter .ensures .1 .1 (if1 .left), inter .kept, kind-at .ensures .1, loop .inv .0, loop .inv .1), omega (arith, pre, past .ensures .1, same-kids (none .ensures), inter .ensures .1 .0, inter .ensures .1 .1 (if1 .left), kind-at .ensures .1, loop .inv .0, loop .inv .1), omega (arith, pre, past .ensures .1, same-kids (none .ensures), inter .ensures .1 .0, inter .ensures .1 .1 (if1 .left), kind-at .ensures .1, loop .inv .0, loop .inv .1), omega (arith, pre, past .ensures .1, same-kids (none .ensures), inter .ensures .1 .0, inter .ensures .1 .1 (if1 .left), kind-at .ensures .1, loop .inv .0, loop .inv .1)), (omega (arith, pre, past .ensures .1, same-kids (none .ensures), inter .ensures .1 .0, inter .ensures .1 .1 (if1 .left), kind-at .ensures .1, loop .inv .0, loop .inv .1), omega (arith, pre, past .ensures .1, same-kids (none .ensures), inter .ensures .1 .0, inter .ensures .1 .1 (if1 .left), kind-at .ensures .1, loop .inv .0, loop .inv .1), omega (arith, pre, past .ensures .1, same-kids (none .ensures), inter .ensures .1 .0, inter .ensures .1 .1 (if1 .left), kind-at .ensures .1, loop .inv .0, loop .inv .1), omega arith))
+      ((pre .1 .sound, omega arith, omega arith, omega arith, omega (arith, pre, past .ensures .1, same-kids (none .ensures), inter .ensures .1 .0, inter .ensures .1 .1 (if1 .left), kind-at .ensures .1, loop .inv .0, loop .inv .1)), (omega arith, omega arith, omega arith, omega arith))
 
   pub same-length-3 : lts.Need-same-length-3 (R t) (union-at t) union.Post Inv-loop μ-loop
   same-length-3 c =
@@ -131,7 +125,7 @@ module _ (t : ℕ) where
       let kind-at = c .before .before .before .before .before .kind-at in
       let if2 = c .before .before .before .before .if2 in
       let joined = c .before .before .joined in
-      (parts-joined (args .text .now) (args .words .now) (args .given) (below (args .given) (givenOf (args .text .now) (args .words .now) (args .given))) Pipe 5 (unions.intersection (givenOf (args .text .now) (args .words .now) (args .given)) (below (args .given) (givenOf (args .text .now) (args .words .now) (args .given))) (args .on)) (args .m) (args .notes .now) (loop .inv .2) (inter .ensures .0) (if1 .left) (is-not-here (args .words .now) (inter .result .m) (kind-at .ensures .0) (if2 .taken)) (joined .ensures .0) (omega (arith, inter .kept)) refl shape-union, (omega (arith, pre, past .ensures .1, same-kids (none .ensures), inter .ensures .1 .0, inter .ensures .1 .1 (if1 .left), kind-at .ensures .1, joined .ensures .1, loop .inv .0, loop .inv .1), λ z. omega (arith, pre, past .ensures .1, same-kids (none .ensures), inter .ensures .1 .0, inter .ensures .1 .1 (if1 .left), kind-at .ensures .1, joined .ensures .1, loop .inv .0, loop .inv .1, z)))
+      (parts-joined (args .text .now) (args .words .now) (args .given) (below (args .given) (givenOf (args .text .now) (args .words .now) (args .given))) Pipe 5 (unions.intersection (givenOf (args .text .now) (args .words .now) (args .given)) (below (args .given) (givenOf (args .text .now) (args .words .now) (args .given))) (args .on)) (args .m) (args .notes .now) (loop .inv .2) (inter .ensures .0) (if1 .left) (is-not-here (args .words .now) (inter .result .m) (kind-at .ensures .0) (if2 .taken)) (joined .ensures .0) (omega arith) refl shape-union, (omega arith, λ z. omega (arith, pre, past .ensures .1, same-kids (none .ensures), inter .ensures .1 .0, inter .ensures .1 .1 (if1 .left), kind-at .ensures .1, joined .ensures .1, loop .inv .0, loop .inv .1, z)))
 
   pub link-requires : lts.Need-link-requires (R t) (union-at t) union.Post Inv-loop μ-loop
   link-requires c κs =
@@ -142,19 +136,12 @@ module _ (t : ℕ) where
       let inter = c .before .before .before .before .before .before .before .before .before .before .inter in
       let if1 = c .before .before .before .before .if1 in
       let kind-at = c .before .before .kind-at in
-      (omega (arith, pre, past .ensures .1, same-kids (none .ensures), inter .ensures .1 .0, inter .ensures .1 .1 (if1 .left), inter .kept, kind-at .ensures .1, loop .inv .0, loop .inv .1), omega (arith, pre, past .ensures .1, same-kids (none .ensures), inter .ensures .1 .0, inter .ensures .1 .1 (if1 .left), inter .kept, kind-at .ensures .1, loop .inv .0, loop .inv .1), omega (arith, pre, past .ensures .1, same-kids (none .ensures), inter .ensures .1 .0, inter .ensures .1 .1 (if1 .left), inter .kept, kind-at .ensures .1, loop .inv .0, loop .inv .1), omega (arith, pre, past .ensures .1, same-kids (none .ensures), inter .ensures .1 .0, inter .ensures .1 .1 (if1 .left), inter .kept, kind-at .ensures .1, loop .inv .0, loop .inv .1))
+      (omega (arith, pre, past .ensures .1, same-kids (none .ensures), inter .ensures .1 .0, inter .ensures .1 .1 (if1 .left), inter .kept, kind-at .ensures .1, loop .inv .0, loop .inv .1), omega arith, omega arith, omega arith)
 
   pub add-t20 : lts.Need-add-t20 (R t) (union-at t) union.Post Inv-loop μ-loop
   add-t20 c =
       let pre = c .before .before .before .before .before .before .before .before .before .before .before .before .before .before .before .before .before .before .before .before .before .before .before .before .before .pre in
-      let past = c .before .before .before .before .before .before .before .before .before .before .before .before .before .before .before .before .before .before .before .before .past in
-      let none = c .before .before .before .before .before .before .before .before .before .before .before .before .before .before .before .before .before .before .before .none in
-      let loop = c .before .before .before .before .before .before .before .before .before .before .before .before .before .before .before .before .before .before .loop in
-      let inter = c .before .before .before .before .before .before .before .before .before .before .before .before .before .before .inter in
-      let if1 = c .before .before .before .before .before .before .before .before .if1 in
-      let kind-at = c .before .before .before .before .before .before .kind-at in
-      let link = c .before .before .before .link in
-      omega (arith, pre, past .ensures .1, same-kids (none .ensures), inter .ensures .1 .0, inter .ensures .1 .1 (if1 .left), kind-at .ensures .1, link .ensures .1, loop .inv .0, loop .inv .1)
+      omega arith
 
   pub loop-less : lts.Need-loop-less (R t) (union-at t) union.Post Inv-loop μ-loop
   loop-less c =
@@ -180,4 +167,4 @@ module _ (t : ℕ) where
       let kind-at = c .before .before .before .before .before .before .kind-at in
       let if2 = c .before .before .before .before .before .if2 in
       let link = c .before .before .before .link in
-      (omega (arith, pre, past .ensures .1, same-kids (none .ensures), inter .ensures .1 .0, inter .ensures .1 .1 (if1 .left), inter .kept, kind-at .ensures .1, link .ensures .1, link .kept, loop .inv .0, loop .inv .1), omega (arith, pre, past .ensures .1, same-kids (none .ensures), inter .ensures .1 .0, inter .ensures .1 .1 (if1 .left), kind-at .ensures .1, link .ensures .1, loop .inv .0, loop .inv .1), parts-again (args .text .now) (args .words .now) (args .given) (below (args .given) (givenOf (args .text .now) (args .words .now) (args .given))) Pipe 5 (unions.intersection (givenOf (args .text .now) (args .words .now) (args .given)) (below (args .given) (givenOf (args .text .now) (args .words .now) (args .given))) (args .on)) (args .m) (args .notes .now) (loop .inv .2) (inter .ensures .0) (if1 .left) (is-here (args .words .now) (inter .result .m) (kind-at .ensures .0) (if2 .left)) refl (link .ensures .0) (link .ensures .1 .1) (omega (arith, inter .kept)) (omega (arith, pre, past .ensures .1, same-kids (none .ensures), inter .ensures .1 .0, inter .ensures .1 .1 (if1 .left), kind-at .ensures .1, link .ensures .1, loop .inv .0, loop .inv .1)) (omega (arith, pre, past .ensures .1, same-kids (none .ensures), inter .ensures .1 .0, inter .ensures .1 .1 (if1 .left), kind-at .ensures .1, link .ensures .1, loop .inv .0, loop .inv .1)))
+      (omega (arith, pre, past .ensures .1, same-kids (none .ensures), inter .ensures .1 .0, inter .ensures .1 .1 (if1 .left), inter .kept, kind-at .ensures .1, link .ensures .1, link .kept, loop .inv .0, loop .inv .1), omega arith, parts-again (args .text .now) (args .words .now) (args .given) (below (args .given) (givenOf (args .text .now) (args .words .now) (args .given))) Pipe 5 (unions.intersection (givenOf (args .text .now) (args .words .now) (args .given)) (below (args .given) (givenOf (args .text .now) (args .words .now) (args .given))) (args .on)) (args .m) (args .notes .now) (loop .inv .2) (inter .ensures .0) (if1 .left) (is-here (args .words .now) (inter .result .m) (kind-at .ensures .0) (if2 .left)) refl (link .ensures .0) (link .ensures .1 .1) (omega arith) (omega (arith, pre, past .ensures .1, same-kids (none .ensures), inter .ensures .1 .0, inter .ensures .1 .1 (if1 .left), kind-at .ensures .1, link .ensures .1, loop .inv .0, loop .inv .1)) (omega (arith, pre, past .ensures .1, same-kids (none .ensures), inter .ensures .1 .0, inter .ensures .1 .1 (if1 .left), kind-at .ensures .1, link .ensures .1, loop .inv .0, loop .inv .1)))
