@@ -92,7 +92,7 @@ part() { # NAME PARAMETERS, as tools/exports.py has them
 sys.argv[1:] = sys.argv[4:]; exports.main()' "$root/tools" "$1" "$2" "$out/program.ll" "$out/$1.all" parts_try
     { "$clang" --target="$machine-unknown-linux-gnu" -S -emit-llvm -x c /dev/null -o - | grep '^target '
       sed -e '/^target /d' -e 's/"target-cpu"="[^"]*"//; s/"probe-stack"="[^"]*"//' "$out/$1.all"; } >"$out/$1.ll"
-    "$clang" -Werror --target="$machine-unknown-linux-gnu" -O3 -fPIC -ffunction-sections -c -x ir "$out/$1.ll" -o "$out/$1.o"
+    "$clang" -Werror --target="$machine-unknown-linux-gnu" -O3 -mllvm -inline-threshold=1000 -fPIC -ffunction-sections -c -x ir "$out/$1.ll" -o "$out/$1.o"
 }
 part part_check ssp
 part part_read sssssp
