@@ -89,7 +89,8 @@ END
 "$clang" -w -Xclang -disable-llvm-passes -S -emit-llvm "$out/parts_try.bc" -o "$out/program.ll"
 part() { # NAME PARAMETERS, as tools/exports.py has them
     python3 -c 'import sys; sys.path.insert(0, sys.argv[1]); import exports; exports.EXPORTS = {sys.argv[2]: sys.argv[3]}
-sys.argv[1:] = sys.argv[4:]; exports.main()' "$root/tools" "$1" "$2" "$out/program.ll" "$out/$1.all" parts_try
+sys.argv[1:] = sys.argv[4:]; exports.main()' "$root/tools" "$1" "$2" "$out/program.ll" "$out/$1.written" parts_try
+    python3 "$root/tools/constants.py" "$out/$1.written" "$out/$1.all" >/dev/null
     { "$clang" --target="$machine-unknown-linux-gnu" -S -emit-llvm -x c /dev/null -o - | grep '^target '
       sed -e '/^target /d' -e 's/"target-cpu"="[^"]*"//; s/"probe-stack"="[^"]*"//' "$out/$1.all"; } >"$out/$1.ll"
     "$clang" -Werror --target="$machine-unknown-linux-gnu" -O3 -mllvm -inline-threshold=1000 -fPIC -ffunction-sections -c -x ir "$out/$1.ll" -o "$out/$1.o"

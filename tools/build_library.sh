@@ -1,7 +1,7 @@
 #!/bin/sh
 # build_library.sh [--unproved] [OUT]: the library for other languages, in OUT (target/lib): libtypekey.a, libtypekey.so, typekey.wasm.
-# It proves crates/typekey_c and all below it by `rt staticlib`, keeps the one LLVM module behind that archive (typekey.ll), and compiles
-# all three from it. With --unproved nothing is proved: for trying things out only. It needs rt, gcc and python3.
+# It proves crates/typekey_c and all below it by `rt staticlib`, keeps the one LLVM module behind that archive (typekey.ll), whose tables
+# become constants (constants.py), and compiles all three from it. With --unproved nothing is proved: for trying things out only. It needs rt, gcc and python3.
 set -eu
 root=$(cd "$(dirname "$0")/.." && pwd -P)
 proved=yes out=$root/target/lib
@@ -78,6 +78,7 @@ compile() { # FILE TARGET FLAGS..
 
 if [ $proved = yes ]; then proved_module; else unproved_module; fi
 printf 'check_ir: '; python3 "$root/tools/check_ir.py" "$work/module.ll"
+mv "$work/module.ll" "$work/written.ll"; python3 "$root/tools/constants.py" "$work/written.ll" "$work/module.ll"
 
 compile "$work/typekey.o" "$machine-unknown-linux-gnu" -fPIC -ffunction-sections
 cp "$work/target.ll" "$out/typekey.ll"
