@@ -41,7 +41,14 @@ fn put_spelling(names: &[u64], text: &[u8], key: &mut [u8], w: usize, o: Mark) -
 }
 
 // A step that is a choice.
-fn put_chosen(forms: &[u16], names: &[u64], text: &[u8], key: &mut [u8], r: Row, s: Walk) -> Walk
+fn put_chosen(
+    forms: &[u16; 526],
+    names: &[u64],
+    text: &[u8],
+    key: &mut [u8],
+    r: Row,
+    s: Walk,
+) -> Walk
     requires { ⌜ Ready (length (now names)) (now key) s × IsRow (entryAt (now forms) (s .form)) r × (r .w ≤ widest) × (0 < s .steps) × (5 ≤ r .op) ⌝ }
     ensures { λ q. ⌜ OwnStep keyBits (now (forms .entry)) (Spells (now (names .entry)) (now (text .entry))) (length (now (names .entry))) 0 s (now (key .entry)) q (now (key .exit)) ⌝ }
 {
@@ -60,7 +67,7 @@ fn put_chosen(forms: &[u16], names: &[u64], text: &[u8], key: &mut [u8], r: Row,
 }
 
 // A step that is no choice and goes into no child: a spelling, or on to the next form.
-fn put_said(forms: &[u16], names: &[u64], text: &[u8], key: &mut [u8], r: Row, s: Walk) -> Walk
+fn put_said(forms: &[u16; 526], names: &[u64], text: &[u8], key: &mut [u8], r: Row, s: Walk) -> Walk
     requires { ⌜ Ready (length (now names)) (now key) s × IsRow (entryAt (now forms) (s .form)) r × (r .w ≤ widest) × (0 < s .steps) × (r .op < 5) × (r .op ≡ 1 → ⊥) × (r .op ≡ 3 → s .n ≡ 0) ⌝ }
     ensures { λ q. ⌜ OwnStep keyBits (now (forms .entry)) (Spells (now (names .entry)) (now (text .entry))) (length (now (names .entry))) 0 s (now (key .entry)) q (now (key .exit)) ⌝ }
 {
@@ -85,7 +92,7 @@ fn put_said(forms: &[u16], names: &[u64], text: &[u8], key: &mut [u8], r: Row, s
 }
 
 // A step of a node that goes into no child.
-fn put_own(forms: &[u16], names: &[u64], text: &[u8], key: &mut [u8], r: Row, s: Walk) -> Walk
+fn put_own(forms: &[u16; 526], names: &[u64], text: &[u8], key: &mut [u8], r: Row, s: Walk) -> Walk
     requires { ⌜ Ready (length (now names)) (now key) s × IsRow (entryAt (now forms) (s .form)) r × (r .w ≤ widest) × (0 < s .steps) × (r .op ≡ 1 → ⊥) × (r .op ≡ 3 → s .n ≡ 0) ⌝ }
     ensures { λ q. ⌜ OwnStep keyBits (now (forms .entry)) (Spells (now (names .entry)) (now (text .entry))) (length (now (names .entry))) 0 s (now (key .entry)) q (now (key .exit)) ⌝ }
 {
@@ -117,7 +124,14 @@ fn after_child(
 }
 
 // A node's tag, and the walk behind it.
-fn put_tag(forms: &[u16], nodes: &[u64], key: &mut [u8], class: usize, at: usize, o: Mark) -> Walk
+fn put_tag(
+    forms: &[u16; 526],
+    nodes: &[u64],
+    key: &mut [u8],
+    class: usize,
+    at: usize,
+    o: Mark,
+) -> Walk
     requires { ⌜ (length (now key) * 8 ≤ far) × (o .to ≤ far) × (class < tableMost) × (at < halfWord) × Narrow (now forms) ⌝ }
     ensures { λ q. ⌜ ((M X : List ℕ) → Begun keyBits (now (forms .entry)) (now (nodes .entry)) (Spells M X) 0 class at o (now (key .entry)) q (now (key .exit))) ⌝ }
 {
@@ -193,7 +207,7 @@ fn put_once(names: &[u64], text: &[u8], key: &mut [u8], word: u64, o: Mark) -> M
 
 // The node `at`, of a class, at once if it can be; `left` is how many levels there may be.
 fn put_node(
-    forms: &[u16],
+    forms: &[u16; 526],
     nodes: &[u64],
     names: &[u64],
     text: &[u8],

@@ -51,12 +51,12 @@ put-node-μ-loop forms nodes names text key₀ class left at s₀ key s = toDo s
 module _ (t : ℕ) where
   returns : put-node-lts.Need-returns (R t) (put-node-at t) put-node.Post put-node-Inv-loop put-node-μ-loop
   returns c =
-      let args = c .before .before .before .before .before .before .args in
+      let args = c .before .before .before .before .before .args in
       noded-none keyBits (grammarOf (args .forms .now)) (args .nodes .now) (Spells (args .names .now) (args .text .now)) (args .left) 0 (length (args .names .now)) (args .class) (args .at) (args .o .name) (args .o .to) (args .key .now) (search needs) (search needs) (search needs) (search needs)
 
   node-at-requires : put-node-lts.Need-node-at-requires (R t) (put-node-at t) put-node.Post put-node-Inv-loop put-node-μ-loop
   node-at-requires c κs =
-      let pre = c .before .before .before .before .before .before .pre in
+      let pre = c .before .before .before .before .before .pre in
       pre .1 .4
 
   is-once-requires : put-node-lts.Need-is-once-requires (R t) (put-node-at t) put-node.Post put-node-Inv-loop put-node-μ-loop
@@ -64,8 +64,8 @@ module _ (t : ℕ) where
 
   put-once-requires : put-node-lts.Need-put-once-requires (R t) (put-node-at t) put-node.Post put-node-Inv-loop put-node-μ-loop
   put-once-requires c κs =
-      let pre = c .before .before .before .before .before .before .before .before .before .before .pre in
-      let args = c .before .before .before .before .before .before .before .before .before .before .args in
+      let pre = c .before .before .before .before .before .before .before .before .before .pre in
+      let args = c .before .before .before .before .before .before .before .before .before .args in
       let node-at = c .before .before .before .node-at in
       let is-once = c .before .before .is-once in
       let if2 = c .before .if2 in
@@ -73,15 +73,15 @@ module _ (t : ℕ) where
 
   same-length : put-node-lts.Need-same-length (R t) (put-node-at t) put-node.Post put-node-Inv-loop put-node-μ-loop
   same-length c =
-      let args = c .before .before .before .before .before .before .before .before .before .before .before .before .before .args in
+      let args = c .before .before .before .before .before .before .before .before .before .before .before .before .args in
       let node-at = c .before .before .before .before .before .before .node-at in
       let put-once = c .before .before .put-once in
       put-once .ensures (args .nodes .now) (args .left) (args .at) (sym (node-at .ensures .0)) .same
 
   returns-2 : put-node-lts.Need-returns-2 (R t) (put-node-at t) put-node.Post put-node-Inv-loop put-node-μ-loop
   returns-2 c =
-      let pre = c .before .before .before .before .before .before .before .before .before .before .before .before .before .pre in
-      let args = c .before .before .before .before .before .before .before .before .before .before .before .before .before .args in
+      let pre = c .before .before .before .before .before .before .before .before .before .before .before .before .pre in
+      let args = c .before .before .before .before .before .before .before .before .before .before .before .before .args in
       let node-at = c .before .before .before .before .before .before .node-at in
       let is-once = c .before .before .before .before .before .is-once in
       let if2 = c .before .before .before .before .if2 in
@@ -90,13 +90,13 @@ module _ (t : ℕ) where
 
   put-tag-requires : put-node-lts.Need-put-tag-requires (R t) (put-node-at t) put-node.Post put-node-Inv-loop put-node-μ-loop
   put-tag-requires c κs =
-      let pre = c .before .before .before .before .before .before .before .before .before .before .pre in
+      let pre = c .before .before .before .before .before .before .before .before .before .pre in
       (search needs, search needs, search needs, search needs, pre .1 .5)
 
   loop-holds : put-node-lts.Need-loop-holds (R t) (put-node-at t) put-node.Post put-node-Inv-loop put-node-μ-loop
   loop-holds c =
-      let pre = c .before .before .before .before .before .before .before .before .before .before .before .before .before .pre in
-      let args = c .before .before .before .before .before .before .before .before .before .before .before .before .before .args in
+      let pre = c .before .before .before .before .before .before .before .before .before .before .before .before .pre in
+      let args = c .before .before .before .before .before .before .before .before .before .before .before .before .args in
       let put-tag = c .before .before .put-tag in
       along-none keyBits bits-sound (args .forms .now) (args .nodes .now) (Spells (args .names .now) (args .text .now)) (length (args .names .now)) (args .left - 1) 0 (put-tag .result) (put-tag .last .1 .1 .0) (put-tag .ensures (args .names .now) (args .text .now) .ready (length (args .names .now)) (pre .1 .2))
 
@@ -106,17 +106,17 @@ module _ (t : ℕ) where
   same-length-2 : put-node-lts.Need-same-length-2 (R t) (put-node-at t) put-node.Post put-node-Inv-loop put-node-μ-loop
   same-length-2 c =
       let args = c .before .before .before .before .before .before .before .before .before .before .before .before .before .before .before .before .before .before .before .args in
-      let put-tag = c .before .before .before .before .before .before .before .before .put-tag in
-      let loop = c .before .before .before .before .before .loop in
+      let put-tag = c .before .before .before .before .before .before .before .before .before .put-tag in
+      let loop = c .before .before .before .before .before .before .loop in
       loop .inv .same ∙ put-tag .ensures (args .names .now) (args .text .now) .same
 
   returns-3 : put-node-lts.Need-returns-3 (R t) (put-node-at t) put-node.Post put-node-Inv-loop put-node-μ-loop
   returns-3 c =
       let args = c .before .before .before .before .before .before .before .before .before .before .before .before .before .before .before .before .before .before .before .args in
-      let if1 = c .before .before .before .before .before .before .before .before .before .before .before .before .before .if1 in
-      let put-tag = c .before .before .before .before .before .before .before .before .put-tag in
-      let loop = c .before .before .before .before .before .loop in
-      let if3 = c .before .before .before .if3 in
+      let if1 = c .before .before .before .before .before .before .before .before .before .before .before .before .before .before .if1 in
+      let put-tag = c .before .before .before .before .before .before .before .before .before .put-tag in
+      let loop = c .before .before .before .before .before .before .loop in
+      let if3 = c .before .before .before .before .if3 in
       let row-at = c .before .before .row-at in
       let if4 = c .if4 in
       walked keyBits bits-sound (args .forms .now) (args .nodes .now) (Spells (args .names .now) (args .text .now)) (length (args .names .now)) (args .left - 1) 0 (put-tag .result) (put-tag .last .1 .1 .0) (args .class) (args .at) (args .o) (args .key .now) (put-tag .ensures (args .names .now) (args .text .now)) (args .left) (one-less (args .left) (if1 .left)) (loop .inv) (row-at .result) (row-at .ensures) (if3 .taken) (if4 .taken)
@@ -130,15 +130,15 @@ module _ (t : ℕ) where
   put-node-requires : put-node-lts.Need-put-node-requires (R t) (put-node-at t) put-node.Post put-node-Inv-loop put-node-μ-loop
   put-node-requires c κs =
       let pre = c .before .before .before .before .before .before .before .before .before .before .before .before .before .before .before .before .before .before .before .before .before .before .pre in
-      let if1 = c .before .before .before .before .before .before .before .before .before .before .before .before .before .before .before .before .if1 in
-      let loop = c .before .before .before .before .before .before .before .before .loop in
+      let if1 = c .before .before .before .before .before .before .before .before .before .before .before .before .before .before .before .before .before .if1 in
+      let loop = c .before .before .before .before .before .before .before .before .before .loop in
       let row-at = c .before .before .before .before .before .row-at in
       (omega (arith, pre .0, if1 .left), (loop .inv .ready .short, loop .inv .ready .near, loop .inv .ready .inNames, row-at .ensures .from, loop .inv .ready .inNodes, pre .1 .5, pre .1 .6))
 
   after-child-requires : put-node-lts.Need-after-child-requires (R t) (put-node-at t) put-node.Post put-node-Inv-loop put-node-μ-loop
   after-child-requires c κs =
       let pre = c .before .before .before .before .before .before .before .before .before .before .before .before .before .before .before .before .before .before .before .before .before .before .before .before .before .before .pre in
-      let loop = c .before .before .before .before .before .before .before .before .before .before .before .before .loop in
+      let loop = c .before .before .before .before .before .before .before .before .before .before .before .before .before .loop in
       let row-at = c .before .before .before .before .before .before .before .before .before .row-at in
       let into-child = c .before .before .before .before .before .before .into-child in
       let if5 = c .before .before .before .before .before .if5 in
@@ -147,15 +147,15 @@ module _ (t : ℕ) where
 
   past-last-requires : put-node-lts.Need-past-last-requires (R t) (put-node-at t) put-node.Post put-node-Inv-loop put-node-μ-loop
   past-last-requires c κs =
-      let if3 = c .before .before .before .before .before .before .before .before .before .before .before .before .before .if3 in
+      let if3 = c .before .before .before .before .before .before .before .before .before .before .before .before .before .before .if3 in
       let after-child = c .before .before .after-child in
       omega (arith, after-child .ensures .steps, if3 .taken)
 
   loop-less : put-node-lts.Need-loop-less (R t) (put-node-at t) put-node.Post put-node-Inv-loop put-node-μ-loop
   loop-less c =
       let args = c .before .before .before .before .before .before .before .before .before .before .before .before .before .before .before .before .before .before .before .before .before .before .before .before .before .before .before .before .before .before .args in
-      let put-tag = c .before .before .before .before .before .before .before .before .before .before .before .before .before .before .before .before .before .before .before .put-tag in
-      let if3 = c .before .before .before .before .before .before .before .before .before .before .before .before .before .before .if3 in
+      let put-tag = c .before .before .before .before .before .before .before .before .before .before .before .before .before .before .before .before .before .before .before .before .put-tag in
+      let if3 = c .before .before .before .before .before .before .before .before .before .before .before .before .before .before .before .if3 in
       let row-at = c .before .before .before .before .before .before .before .before .before .before .before .before .before .row-at in
       let past-last = c .past-last in
       let into-child = c .before .before .before .before .before .before .before .before .before .before .into-child in
@@ -167,9 +167,9 @@ module _ (t : ℕ) where
   loop-again c =
       let past-last = c .past-last in
       let args = c .before .before .before .before .before .before .before .before .before .before .before .before .before .before .before .before .before .before .before .before .before .before .before .before .before .before .before .before .before .before .args in
-      let put-tag = c .before .before .before .before .before .before .before .before .before .before .before .before .before .before .before .before .before .before .before .put-tag in
-      let loop = c .before .before .before .before .before .before .before .before .before .before .before .before .before .before .before .before .loop in
-      let if3 = c .before .before .before .before .before .before .before .before .before .before .before .before .before .before .if3 in
+      let put-tag = c .before .before .before .before .before .before .before .before .before .before .before .before .before .before .before .before .before .before .before .before .put-tag in
+      let loop = c .before .before .before .before .before .before .before .before .before .before .before .before .before .before .before .before .before .loop in
+      let if3 = c .before .before .before .before .before .before .before .before .before .before .before .before .before .before .before .if3 in
       let row-at = c .before .before .before .before .before .before .before .before .before .before .before .before .before .row-at in
       let into-child = c .before .before .before .before .before .before .before .before .before .before .into-child in
       let if5 = c .before .before .before .before .before .before .before .before .before .if5 in
@@ -181,8 +181,8 @@ module _ (t : ℕ) where
   put-own-requires : put-node-lts.Need-put-own-requires (R t) (put-node-at t) put-node.Post put-node-Inv-loop put-node-μ-loop
   put-own-requires c κs =
       let pre = c .before .before .before .before .before .before .before .before .before .before .before .before .before .before .before .before .before .before .before .before .before .before .pre in
-      let loop = c .before .before .before .before .before .before .before .before .loop in
-      let if3 = c .before .before .before .before .before .before .if3 in
+      let loop = c .before .before .before .before .before .before .before .before .before .loop in
+      let if3 = c .before .before .before .before .before .before .before .if3 in
       let row-at = c .before .before .before .before .before .row-at in
       let if4 = c .before .before .before .if4 in
       let into-child = c .before .before .into-child in
@@ -197,21 +197,21 @@ module _ (t : ℕ) where
   loop-again-2 : put-node-lts.Need-loop-again-2 (R t) (put-node-at t) put-node.Post put-node-Inv-loop put-node-μ-loop
   loop-again-2 c =
       let args = c .before .before .before .before .before .before .before .before .before .before .before .before .before .before .before .before .before .before .before .before .before .before .before .before .before .args in
-      let put-tag = c .before .before .before .before .before .before .before .before .before .before .before .before .before .before .put-tag in
-      let loop = c .before .before .before .before .before .before .before .before .before .before .before .loop in
+      let put-tag = c .before .before .before .before .before .before .before .before .before .before .before .before .before .before .before .put-tag in
+      let loop = c .before .before .before .before .before .before .before .before .before .before .before .before .loop in
       let put-own = c .before .before .put-own in
       along-own keyBits bits-sound (args .forms .now) (args .nodes .now) (Spells (args .names .now) (args .text .now)) (length (args .names .now)) (args .left - 1) 0 (put-tag .result) (put-tag .last .1 .1 .0) (loop .inv) (put-own .ensures)
 
   same-length-3 : put-node-lts.Need-same-length-3 (R t) (put-node-at t) put-node.Post put-node-Inv-loop put-node-μ-loop
   same-length-3 c =
-      let args = c .before .before .before .before .before .before .before .before .before .before .before .before .before .before .before .before .args in
+      let args = c .before .before .before .before .before .before .before .before .before .before .before .before .before .before .before .args in
       let put-tag = c .before .before .before .before .before .put-tag in
       let loop = c .before .before .loop in
       loop .inv .same ∙ put-tag .ensures (args .names .now) (args .text .now) .same
 
   returns-4 : put-node-lts.Need-returns-4 (R t) (put-node-at t) put-node.Post put-node-Inv-loop put-node-μ-loop
   returns-4 c =
-      let args = c .before .before .before .before .before .before .before .before .before .before .before .before .before .before .before .before .args in
+      let args = c .before .before .before .before .before .before .before .before .before .before .before .before .before .before .before .args in
       let if1 = c .before .before .before .before .before .before .before .before .before .before .if1 in
       let put-tag = c .before .before .before .before .before .put-tag in
       let loop = c .before .before .loop in

@@ -23,9 +23,6 @@ clear-bytes-requires c κs = search needs
 put-number-requires : tie.Need-put-number-requires
 put-number-requires c κs = search needs
 
-slice-aggregate-put-node : tie.Need-slice-aggregate-put-node
-slice-aggregate-put-node c = search needs
-
 put-node-requires : tie.Need-put-node-requires
 put-node-requires c κs =
     let words = c .before .before .before .before .before .before .before .before .before .before .words in
@@ -54,7 +51,6 @@ put-key-spec =
     words-requires
     clear-bytes-requires
     put-number-requires
-    slice-aggregate-put-node
     put-node-requires
     add-result
     same-length

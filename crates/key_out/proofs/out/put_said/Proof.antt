@@ -21,8 +21,8 @@ same-length c = search needs
 
 returns : tie.Need-returns
 returns c =
-    let pre = c .before .before .before .before .before .before .before .before .before .before .before .pre in
-    let args = c .before .before .before .before .before .before .before .before .before .before .before .args in
+    let pre = c .before .before .before .before .before .before .before .before .before .before .pre in
+    let args = c .before .before .before .before .before .before .before .before .before .before .args in
     let put-spelling = c .before .before .before .before .put-spelling in
     let moved = c .moved in
     own-as (moved .ensures) (own-spelling keyBits bits-sound (args .forms .now) (Spells (args .names .now) (args .text .now)) (length (args .names .now)) 0 (args .s) (args .key .now) (pre .0) (args .r) (pre .1) (pre .3) (search needs) (put-spelling .result .name) (put-spelling .result .to) (put-spelling .last .1 .1 .0) (put-spelling .ensures))
@@ -35,8 +35,8 @@ moved-requires-2 c κs = search needs
 
 returns-2 : tie.Need-returns-2
 returns-2 c =
-    let pre = c .before .before .before .before .before .before .before .before .pre in
-    let args = c .before .before .before .before .before .before .before .before .args in
+    let pre = c .before .before .before .before .before .before .before .pre in
+    let args = c .before .before .before .before .before .before .before .args in
     let moved2 = c .moved2 in
     own-as (moved2 .ensures) (own-next keyBits bits-sound (args .forms .now) (Spells (args .names .now) (args .text .now)) (length (args .names .now)) 0 (args .s) (args .key .now) (pre .0) (args .r) (pre .1) (pre .3) (search needs) (pre .4) (pre .5) (search needs))
 
@@ -54,8 +54,8 @@ same-length-2 c = search needs
 
 returns-3 : tie.Need-returns-3
 returns-3 c =
-    let pre = c .before .before .before .before .before .before .before .before .before .before .before .before .pre in
-    let args = c .before .before .before .before .before .before .before .before .before .before .before .before .args in
+    let pre = c .before .before .before .before .before .before .before .before .before .before .before .pre in
+    let args = c .before .before .before .before .before .before .before .before .before .before .before .args in
     let put-spelling2 = c .before .before .before .put-spelling2 in
     let moved3 = c .moved3 in
     own-as (moved3 .ensures) (own-spellings keyBits bits-sound (args .forms .now) (Spells (args .names .now) (args .text .now)) (length (args .names .now)) 0 (args .s) (args .key .now) (pre .0) (args .r) (pre .1) (pre .3) (search needs) (search needs) (put-spelling2 .result .name) (put-spelling2 .result .to) (put-spelling2 .last .1 .1 .0) (put-spelling2 .ensures))
@@ -65,8 +65,8 @@ moved-requires-4 c κs = search needs
 
 returns-4 : tie.Need-returns-4
 returns-4 c =
-    let pre = c .before .before .before .before .before .before .before .before .pre in
-    let args = c .before .before .before .before .before .before .before .before .args in
+    let pre = c .before .before .before .before .before .before .before .pre in
+    let args = c .before .before .before .before .before .before .before .args in
     let if1 = c .before .before .before .if1 in
     let if2 = c .before .before .if2 in
     let if3 = c .before .if3 in

@@ -45,13 +45,13 @@ same-length c = search needs
 
 returns : tie.Need-returns
 returns c =
-    let pre = c .before .before .before .before .before .before .before .before .before .before .before .before .before .pre in
-    let args = c .before .before .before .before .before .before .before .before .before .before .before .before .before .args in
-    let node-at = c .before .before .before .before .before .before .before .before .before .node-at in
-    let class-at = c .before .before .before .before .before .before .before .before .class-at in
-    let choice-of = c .before .before .before .before .before .before .before .choice-of in
-    let put-number = c .before .before .before .before .put-number in
-    let listed-at = c .before .listed-at in
+    let pre = c .before .before .before .before .before .before .before .before .before .before .before .before .before .before .before .pre in
+    let args = c .before .before .before .before .before .before .before .before .before .before .before .before .before .before .before .args in
+    let node-at = c .before .before .before .before .before .before .before .before .before .before .before .before .node-at in
+    let class-at = c .before .before .before .before .before .before .before .before .before .before .class-at in
+    let choice-of = c .before .before .before .before .before .before .before .before .before .choice-of in
+    let put-number = c .before .before .before .before .before .before .put-number in
+    let listed-at = c .before .before .listed-at in
     let word-at = c .word-at in
     λ M X. begun keyBits bits-sound (args .forms .now) (args .nodes .now) (Spells M X) 0 (args .class) (args .at) (args .o) (args .key .now) (node-at .result .word) (node-at .result .child) (class-at .result) (choice-of .result .number) (choice-of .result .word) (args .o .to) (args .key .now) (put-number .result) (put-number .last .0) (listed-at .result) (word-at .result) (node-at .ensures .0) (node-at .ensures .1) (node-at .ensures .2) (class-at .ensures) (choice-of .ensures .0) (choice-of .ensures .1) (put-none (args .o .to) (args .key .now) (pre .1) (pre .0)) (put-number .ensures) (listed-at .ensures) (word-at .ensures .0) (word-at .ensures .1)
 
