@@ -1,6 +1,6 @@
 -- Laws of byte strings that are walked from the front.
 use mathlib.Core.Path.{_≡_, refl, sym, ap, ap₂, _∙_}
-use mathlib.Core.Bool.{Bool, true, false}
+use mathlib.Core.Bool.{Bool, true, false, _||_}
 use mathlib.Core.List.{List, [], _∷_, _++_}
 use Prim.Native.Nat.{ℕ, zero, suc, _+_, _-_, _≤_, _<_}
 use native.Mathlib.Nat.{add-zero, sub-zero}
@@ -8,7 +8,7 @@ use native.Mathlib.Omega.{arith}
 use borrow.Author.Tests.{eq-eqb, ne-eqb, eqb-true}
 use lib.Dec.{eqb}
 use lib.ListN.{length, getD, take, drop, length-drop}
-use lib.Seq.{drop-cons, length-take-le}
+use lib.Seq.{drop-cons, drop-drop, length-take-le, take-add}
 use Rattle.words.specs.Test.{_and_, _or_, same, among}
 use Rattle.words.specs.Check.{part}
 use Rattle.words.proofs.Tests.{both-true}
@@ -53,6 +53,65 @@ module _ (l : List ℕ) (at n i x : ℕ) (h : i < n) (e : at + n ≤ length l) w
 
   pub among-later : (getD l (at + i) 0 ≡ x → ⊥) → among (rest l at n i) x ≡ among (rest l at n (i + 1)) x
   among-later q = ap (λ (s : List ℕ). among s x) (rest-cons l at n i h e) ∙ ap (λ (b : Bool). b or among (rest l at n (i + 1)) x) (ne-eqb _ _ (λ r. q (sym r)))
+
+-- ---- a byte among several of them at once
+or-more : (a b c : Bool) → (a or (b or c)) ≡ ((a or b) or c)
+or-more true b c = refl
+or-more false b c = refl
+
+or-none : (a : Bool) → (a or false) ≡ a
+or-none true = refl
+or-none false = refl
+
+or-either : (a b : Bool) → (a || b) ≡ (a or b)
+or-either true b = refl
+or-either false b = refl
+
+or-neither : (a b : Bool) → (a or b) ≡ false → a ≡ false
+or-neither true b e = let z : _≡_ {A = ℕ} 0 1 = cc in absurd (omega arith)
+or-neither false b e = refl
+
+among-append : (s t : List ℕ) (x : ℕ) → among (s ++ t) x ≡ (among s x or among t x)
+among-append [] t x = refl
+among-append (y ∷ s) t x = ap (λ (b : Bool). eqb x y or b) (among-append s t x) ∙ or-more (eqb x y) (among s x) (among t x)
+
+-- one byte
+among-one : (l : List ℕ) (at x : ℕ) → at + 1 ≤ length l → eqb x (getD l at 0) ≡ among (part l at 1) x
+among-one l at x h = sym (ap (λ (s : List ℕ). among (take 1 s) x) (drop-cons l at 0 (omega arith)) ∙ or-none (eqb x (getD l at 0)))
+
+module _ (l : List ℕ) (at x : ℕ) where
+  -- of a part in two: the front of m bytes, and k behind it
+  among-split : (m k : ℕ) → among (part l at (m + k)) x ≡ (among (part l at m) x or among (part l (at + m) k) x)
+  among-split m k =
+      ap (λ (s : List ℕ). among s x) (take-add m k (drop at l) ∙ ap (λ (t : List ℕ). take m (drop at l) ++ take k t) (drop-drop m at l))
+      ∙ among-append (part l at m) (part l (at + m) k) x
+
+  -- of a part that begins with one
+  split-at : (m n : ℕ) → m ≤ n → among (part l at n) x ≡ (among (part l at m) x or among (part l (at + m) (n - m)) x)
+  split-at m n h = ap (λ (k : ℕ). among (part l at k) x) (let z : n ≡ m + (n - m) = omega arith in z) ∙ among-split m (n - m)
+
+  -- it is among all if it is among the front
+  pub among-front : (m n : ℕ) → m ≤ n → among (part l at m) x ≡ true → true ≡ among (part l at n) x
+  among-front m n h e = sym (split-at m n h ∙ ap (λ (b : Bool). b or among (part l (at + m) (n - m)) x) e)
+
+  -- it is not among the front if it is among none
+  pub among-fewer : (m n : ℕ) → m ≤ n → among (part l at n) x ≡ false → among (part l at m) x ≡ false
+  among-fewer m n h e = or-neither _ (among (part l (at + m) (n - m)) x) (sym (split-at m n h) ∙ e)
+
+  -- if it is not among the front, it is among all just where it is among those behind
+  pub among-behind : (m k n : ℕ) → n ≡ m + k → among (part l at m) x ≡ false → among (part l at n) x ≡ among (part l (at + m) k) x
+  among-behind m k n e f = ap (λ (j : ℕ). among (part l at j) x) e ∙ among-split m k ∙ ap (λ (b : Bool). b or among (part l (at + m) k) x) f
+
+  -- two parts, one behind the other
+  pub among-two : (m k : ℕ) {a b : Bool} → a ≡ among (part l at m) x → b ≡ among (part l (at + m) k) x → (a || b) ≡ among (part l at (m + k)) x
+  among-two m k {a} {b} e f = or-either a b ∙ ap₂ (λ (c d : Bool). c or d) e f ∙ sym (among-split m k)
+
+  -- four bytes, each compared
+  pub among-four : at + 4 ≤ length l
+      → (((eqb x (getD l at 0) || eqb x (getD l (at + 1) 0)) || eqb x (getD l (at + 2) 0)) || eqb x (getD l (at + 3) 0)) ≡ among (part l at 4) x
+  among-four h =
+      among-two 3 1 (among-two 2 1 (among-two 1 1 (among-one l at x (omega arith)) (among-one l (at + 1) x (omega arith))) (among-one l (at + 2) x (omega arith)))
+      (among-one l (at + 3) x (omega arith))
 
 -- ---- two of them compared
 module _ (l m : List ℕ) (a b n i : ℕ) (h : i < n) (e : a + n ≤ length l) (f : b + n ≤ length m) where

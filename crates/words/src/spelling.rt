@@ -91,8 +91,27 @@ pub fn spelled_as_any(
     spelled(text, at, n, places, letters, kind)
 }
 
-// Whether n bytes of the text hold a backslash.
-fn backslash_in(text: &[u8], at: usize, n: usize) -> bool
+// Whether four bytes of the text hold a backslash: all are compared at once.
+fn backslash_in_four(text: &[u8], at: usize) -> bool
+    requires { ⌜ at + 4 ≤ length (now text) ⌝ }
+    ensures { λ r. ⌜ r ≡ among (part (now (text .entry)) at 4) backslash ⌝ }
+{
+    (b'\\' == text[at])
+        | (b'\\' == text[at + 1])
+        | (b'\\' == text[at + 2])
+        | (b'\\' == text[at + 3])
+}
+
+// Whether eight bytes do.
+fn backslash_in_eight(text: &[u8], at: usize) -> bool
+    requires { ⌜ at + 8 ≤ length (now text) ⌝ }
+    ensures { λ r. ⌜ r ≡ among (part (now (text .entry)) at 8) backslash ⌝ }
+{
+    backslash_in_four(text, at) | backslash_in_four(text, at + 4)
+}
+
+// Whether n bytes of the text hold a backslash, one after the other.
+fn backslash_by_bytes(text: &[u8], at: usize, n: usize) -> bool
     requires { ⌜ at + n ≤ length (now text) ⌝ }
     ensures { λ r. ⌜ r ≡ among (part (now (text .entry)) at n) backslash ⌝ }
 {
@@ -104,6 +123,47 @@ fn backslash_in(text: &[u8], at: usize, n: usize) -> bool
         j += 1;
     }
     false
+}
+
+// Whether fewer than eight bytes do: the first four and the last four.
+fn backslash_in_few(text: &[u8], at: usize, n: usize) -> bool
+    requires { ⌜ (at + n ≤ length (now text)) × (n < 8) ⌝ }
+    ensures { λ r. ⌜ r ≡ among (part (now (text .entry)) at n) backslash ⌝ }
+{
+    if n < 4 {
+        return backslash_by_bytes(text, at, n);
+    }
+    if backslash_in_four(text, at) {
+        return true;
+    }
+    backslash_in_four(text, at + (n - 4))
+}
+
+// Whether eight bytes or more do: eight at a time, and the last eight.
+fn backslash_in_many(text: &[u8], at: usize, n: usize) -> bool
+    requires { ⌜ (at + n ≤ length (now text)) × (8 ≤ n) ⌝ }
+    ensures { λ r. ⌜ r ≡ among (part (now (text .entry)) at n) backslash ⌝ }
+{
+    let last = n - 8;
+    let mut j: usize = 0;
+    while j < last {
+        if backslash_in_eight(text, at + j) {
+            return true;
+        }
+        j += 8;
+    }
+    backslash_in_eight(text, at + last)
+}
+
+// Whether n bytes of the text hold a backslash.
+fn backslash_in(text: &[u8], at: usize, n: usize) -> bool
+    requires { ⌜ at + n ≤ length (now text) ⌝ }
+    ensures { λ r. ⌜ r ≡ among (part (now (text .entry)) at n) backslash ⌝ }
+{
+    if n < 8 {
+        return backslash_in_few(text, at, n);
+    }
+    backslash_in_many(text, at, n)
 }
 
 // Whether n bytes of the text, at least one, may stand for a token of a kind.

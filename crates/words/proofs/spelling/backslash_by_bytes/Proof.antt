@@ -7,8 +7,8 @@ use Rattle.words.specs.Spelling.{backslash}
 use Rattle.words.specs.Check.{part}
 use Rattle.words.proofs.Bytes.{rest, rest-all, rest-none, among-here, among-later}
 use borrow.Author.Needs.{needs}
-use Rattle.words.proofs.spelling.backslash_in.Statement.{statement}
-use Rattle.words.proofs.spelling.backslash_in.Tie as tie
+use Rattle.words.proofs.spelling.backslash_by_bytes.Statement.{statement}
+use Rattle.words.proofs.spelling.backslash_by_bytes.Tie as tie
 
 abbrev Inv-loop : tie.InvT-loop
 Inv-loop text at n j₀ j = (j ≤ n) × (among (part text at n) backslash ≡ among (rest text at n j) backslash)
@@ -55,8 +55,8 @@ returns-2 c =
     let loop-test = c .loop-test in
     sym (loop .inv .1 ∙ ap (λ s. among s backslash) (rest-none _ _ _ _ (loop-test .left)))
 
-pub backslash-in-spec : {M : Type 1} → statement M
-backslash-in-spec =
+pub backslash-by-bytes-spec : {M : Type 1} → statement M
+backslash-by-bytes-spec =
     tie.close
     (tie.spec
     Inv-loop
