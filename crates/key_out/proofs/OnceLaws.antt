@@ -3,6 +3,7 @@ use mathlib.Core.Path.{_≡_, refl, sym, ap, _∙_, subst}
 use mathlib.Core.Bool.{Bool, true, false}
 use Prim.Native.Nat.{ℕ, _+_, _*_, _/_, _%_, _^_, _≤_, _<_}
 use native.Mathlib.Omega.{arith}
+use native.Mathlib.Nat.{mod-lt}
 use borrow.Author.Tests.{eqb-true, ne-eqb}
 use lib.Dec.{eqb, ltb}
 use lib.ListN.{length}
@@ -16,7 +17,7 @@ use Rattle.keys.specs.Table.{when}
 use Rattle.keys.specs.Store.{Run, done, chose, name, kid, called}
 use Rattle.keys.specs.Holds.{wordAt, childAt, Spells, Cursor, cursor, HoldsBy}
 use Rattle.fields.specs.Put.{far, Put}
-use Rattle.fields.proofs.PutLaws.{put-none, put-append}
+use Rattle.fields.proofs.PutLaws.{put-none, put-append, bits-three}
 use Rattle.node_table.specs.Moves.{Noded, Spelled, items}
 use Rattle.node_table.specs.Forms.{grammarOf, tableWords}
 use Rattle.key_out.specs.Out.{keyBits, isOnce}
@@ -87,6 +88,10 @@ module _ (N : List ℕ) (P : ℕ → List ℕ → Type 0) where
         let all : a ≡ chose 6 2 (chose 4 (w / 64 % 16) done) = t .1 ∙ ap (λ (k : ℕ). chose 6 k (t .0)) e ∙ ap (chose 6 2) (n .1 ∙ ap (chose 4 (w / 64 % 16)) (no-run-if (ltb (w / 64 % 16) 13) (n .2))) in
         (ap (written L (tagged L 0)) all ∙ ap (λ (x : Bits). bitsOf 6 2 ++ x) (append-nil (bitsOf 4 (w / 64 % 16))), ap called all)
 
+-- The tag of a keyword and its number, in one field.
+tag-number : (x : ℕ) → x < 16 → bitsOf 10 (32 + x) ≡ bitsOf 6 2 ++ bitsOf 4 x
+tag-number x l = bits-three 10 0 6 4 0 2 x refl (omega arith) l
+
 -- ---- Such a node, put out
 module _ (G : Grammar) (e : G ≡ L) (N M X : List ℕ) (left at m to : ℕ) (k : List ℕ) where
   -- What a run has as items, under either table.
@@ -113,19 +118,18 @@ module _ (G : Grammar) (e : G ≡ L) (N M X : List ℕ) (left at m to : ℕ) (k 
             (subst (λ (x : Bits). Put to x to3 k k3) (sym (items-are a ∙ n .bits)) (put-append p (put-append (y .0) r)), y .1 ∙ ap (λ (x : ℕ). m + x) (sym (n .count)));
       }
 
-  -- A keyword's tag and number.
-  pub keyword-put : {to1 to2 : ℕ} {k1 k2 : List ℕ} → wordAt N at % 64 ≡ 2 → m ≤ length M
-      → Put to (bitsOf 6 2) to1 k k1 → Put to1 (bitsOf 4 (wordAt N at / 64 % 16)) to2 k1 k2
-      → Noded keyBits G N (Spells M X) left 0 (length M) 0 at m to k m to2 k2
-  keyword-put {to2 = to2} {k2 = k2} w l p q =
+  -- A keyword's tag and number, in one field.
+  pub keyword-put : {to1 : ℕ} {k1 : List ℕ} → wordAt N at % 64 ≡ 2 → m ≤ length M → Put to (bitsOf 10 (32 + wordAt N at / 64 % 16)) to1 k k1
+      → Noded keyBits G N (Spells M X) left 0 (length M) 0 at m to k m to1 k1
+  keyword-put {to1 = to1} {k1 = k1} w l p =
       record {
         short = p .short;
-        stays = omega (arith, q .next);
-        same = q .same ∙ p .same;
+        stays = omega (arith, p .next);
+        same = p .same;
         inNames = l;
         on = λ a o b h.
             let n = keyword-run N (Spells M X) (childAt N at) m a (of-line a o) (wordAt N at) w h in
-            (subst (λ (x : Bits). Put to x to2 k k2) (sym (items-are a ∙ n .0)) (put-append p q), let z : m ≡ m + called a = omega (arith, n .1) in z);
+            (subst (λ (x : Bits). Put to x to1 k k1) (tag-number (wordAt N at / 64 % 16) (mod-lt (wordAt N at / 64) (omega arith)) ∙ sym (items-are a ∙ n .0)) p, let z : m ≡ m + called a = omega (arith, n .1) in z);
       }
 
 -- ---- Which it is

@@ -18,6 +18,9 @@ use node_table::moves;
 use node_table::moves::Mark;
 use node_table::moves::Walk;
 
+// How many words the node table has.
+const TABLE: usize = 526;
+
 // The next spelling, its length in w bits.
 fn put_spelling(names: &[u64], text: &[u8], key: &mut [u8], w: usize, o: Mark) -> Mark
     requires { ⌜ (length (now key) * 8 ≤ far) × (o .to ≤ far) × (w ≤ widest) × (o .name ≤ length (now names)) ⌝ }
@@ -42,7 +45,7 @@ fn put_spelling(names: &[u64], text: &[u8], key: &mut [u8], w: usize, o: Mark) -
 
 // A step that is a choice.
 fn put_chosen(
-    forms: &[u16; 526],
+    forms: &[u16; TABLE],
     names: &[u64],
     text: &[u8],
     key: &mut [u8],
@@ -67,7 +70,14 @@ fn put_chosen(
 }
 
 // A step that is no choice and goes into no child: a spelling, or on to the next form.
-fn put_said(forms: &[u16; 526], names: &[u64], text: &[u8], key: &mut [u8], r: Row, s: Walk) -> Walk
+fn put_said(
+    forms: &[u16; TABLE],
+    names: &[u64],
+    text: &[u8],
+    key: &mut [u8],
+    r: Row,
+    s: Walk,
+) -> Walk
     requires { ⌜ Ready (length (now names)) (now key) s × IsRow (entryAt (now forms) (s .form)) r × (r .w ≤ widest) × (0 < s .steps) × (r .op < 5) × (r .op ≡ 1 → ⊥) × (r .op ≡ 3 → s .n ≡ 0) ⌝ }
     ensures { λ q. ⌜ OwnStep keyBits (now (forms .entry)) (Spells (now (names .entry)) (now (text .entry))) (length (now (names .entry))) 0 s (now (key .entry)) q (now (key .exit)) ⌝ }
 {
@@ -92,7 +102,14 @@ fn put_said(forms: &[u16; 526], names: &[u64], text: &[u8], key: &mut [u8], r: R
 }
 
 // A step of a node that goes into no child.
-fn put_own(forms: &[u16; 526], names: &[u64], text: &[u8], key: &mut [u8], r: Row, s: Walk) -> Walk
+fn put_own(
+    forms: &[u16; TABLE],
+    names: &[u64],
+    text: &[u8],
+    key: &mut [u8],
+    r: Row,
+    s: Walk,
+) -> Walk
     requires { ⌜ Ready (length (now names)) (now key) s × IsRow (entryAt (now forms) (s .form)) r × (r .w ≤ widest) × (0 < s .steps) × (r .op ≡ 1 → ⊥) × (r .op ≡ 3 → s .n ≡ 0) ⌝ }
     ensures { λ q. ⌜ OwnStep keyBits (now (forms .entry)) (Spells (now (names .entry)) (now (text .entry))) (length (now (names .entry))) 0 s (now (key .entry)) q (now (key .exit)) ⌝ }
 {
@@ -125,7 +142,7 @@ fn after_child(
 
 // A node's tag, and the walk behind it.
 fn put_tag(
-    forms: &[u16; 526],
+    forms: &[u16; TABLE],
     nodes: &[u64],
     key: &mut [u8],
     class: usize,
@@ -181,7 +198,7 @@ fn is_once(class: usize, word: u64) -> bool
     word % TAGS == KEYWORD
 }
 
-// Such a node: tag and choices in one field, its spelling and no arguments; or a keyword's tag and number.
+// Such a node: tag and choices in one field, and for a name or a string its spelling; behind a name that there are no arguments.
 fn put_once(names: &[u64], text: &[u8], key: &mut [u8], word: u64, o: Mark) -> Mark
     requires { ⌜ (length (now key) * 8 ≤ far) × (o .to ≤ far) × (o .name ≤ length (now names)) × (isOnce 0 word ≡ true) ⌝ }
     ensures { λ r. ⌜ PutsOnce names text key word o r ⌝ }
@@ -198,16 +215,16 @@ fn put_once(names: &[u64], text: &[u8], key: &mut [u8], word: u64, o: Mark) -> M
         let to = put::put_number(key, o.to, 9, 24);
         return put_spelling(names, text, key, 16, Mark { to, name: o.name });
     }
-    let to = put::put_number(key, o.to, 6, 2);
+    let number = KEYWORD * KEYWORDS + word / TAGS % KEYWORDS;
     Mark {
-        to: put::put_number(key, to, 4, (word / TAGS % KEYWORDS) as u32),
+        to: put::put_number(key, o.to, 10, number as u32),
         name: o.name,
     }
 }
 
 // The node `at`, of a class, at once if it can be; `left` is how many levels there may be.
 fn put_node(
-    forms: &[u16; 526],
+    forms: &[u16; TABLE],
     nodes: &[u64],
     names: &[u64],
     text: &[u8],

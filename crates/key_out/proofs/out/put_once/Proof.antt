@@ -1,6 +1,6 @@
 -- Each of the three rows, by its word.
 use mathlib.Core.Path.{sym, ap, _∙_, subst}
-use Prim.Native.Nat.{ℕ, _/_, _%_}
+use Prim.Native.Nat.{ℕ, _+_, _/_, _%_}
 use native.Mathlib.Omega.{arith}
 use borrow.Author.Needs.{needs}
 use Rattle.keys.specs.Bits.{bitsOf}
@@ -62,30 +62,32 @@ returns-2 c =
     (λ a o h. string-run N (Spells M X) (childAt N at) (args .o .name) a o (subst (λ (x : ℕ). HoldsBy N (Spells M X) a (cursor x (childAt N at) (args .o .name))) (w ∙ if2 .taken) h))
     (put-number3 .ensures) (put-spelling2 .ensures) (put-none _ _ (put-spelling2 .ensures .stays) (omega (arith, put-spelling2 .ensures .short, put-spelling2 .ensures .same)))
 
-put-number-requires-4 : tie.Need-put-number-requires-4
-put-number-requires-4 c κs = search needs
+mul-number : tie.Need-mul-number
+mul-number c = omega arith
+
+add-number : tie.Need-add-number
+add-number c = omega arith
 
 cast-put-number : tie.Need-cast-put-number
-cast-put-number c = search needs
+cast-put-number c = omega arith
 
-put-number-requires-5 : tie.Need-put-number-requires-5
-put-number-requires-5 c κs = search needs
+put-number-requires-4 : tie.Need-put-number-requires-4
+put-number-requires-4 c κs = search needs
 
 same-length-3 : tie.Need-same-length-3
 same-length-3 c = search needs
 
 returns-3 : tie.Need-returns-3
 returns-3 c =
-    let pre = c .before .before .before .before .before .before .before .before .before .before .before .before .before .pre in
-    let args = c .before .before .before .before .before .before .before .before .before .before .before .before .before .args in
-    let if1 = c .before .before .before .before .before .before .before .before .before .if1 in
-    let if2 = c .before .before .before .before .before .before .before .before .if2 in
-    let put-number4 = c .before .before .before .before .before .before .put-number4 in
-    let put-number5 = c .before .before .put-number5 in
+    let pre = c .before .before .before .before .before .before .before .before .before .pre in
+    let args = c .before .before .before .before .before .before .before .before .before .args in
+    let if1 = c .before .before .before .before .before .if1 in
+    let if2 = c .before .before .before .before .if2 in
+    let put-number4 = c .before .before .put-number4 in
     λ N left at w.
     keyword-put (grammarOf (tableWords countWidth)) (words-are newest) N (args .names .now) (args .text .now) left at (args .o .name) (args .o .to) (args .key .now)
-    (ap (λ (x : ℕ). x % 64) w ∙ once-keyword (args .word) (if1 .left) (if2 .left) (pre .3)) (pre .2) (put-number4 .ensures)
-    (subst (λ (x : ℕ). Put (put-number4 .result) (bitsOf 4 (x / 64 % 16)) (put-number5 .result) (put-number4 .last .0) (put-number5 .last .0)) (sym w) (put-number5 .ensures))
+    (ap (λ (x : ℕ). x % 64) w ∙ once-keyword (args .word) (if1 .left) (if2 .left) (pre .3)) (pre .2)
+    (subst (λ (x : ℕ). Put (args .o .to) (bitsOf 10 (32 + x / 64 % 16)) (put-number4 .result) (args .key .now) (put-number4 .last .0)) (sym w) (put-number4 .ensures))
 
 pub put-once-spec : {M : Type 1} → statement M
 put-once-spec =
@@ -100,8 +102,9 @@ put-once-spec =
     put-spelling-requires-2
     same-length-2
     returns-2
-    put-number-requires-4
+    mul-number
+    add-number
     cast-put-number
-    put-number-requires-5
+    put-number-requires-4
     same-length-3
     returns-3)
