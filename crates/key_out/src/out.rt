@@ -222,7 +222,7 @@ fn put_once(names: &[u64], text: &[u8], key: &mut [u8], word: u64, o: Mark) -> M
     }
 }
 
-// The node `at`, of a class, at once if it can be; `left` is how many levels there may be.
+// The node `at`, of a class, by its form, and its children, each at once if it can be; `left` is how many levels there may be.
 fn put_node(
     forms: &[u16; TABLE],
     nodes: &[u64],
@@ -240,10 +240,6 @@ fn put_node(
     if left == 0 {
         return o;
     }
-    let own = store::node_at(nodes, at);
-    if is_once(class, own.word) {
-        return put_once(names, text, key, own.word, o);
-    }
     let mut s = put_tag(forms, nodes, key, class, at, o);
     while 0 < s.steps {
         let r = forms::row_at(forms, s.form);
@@ -254,22 +250,20 @@ fn put_node(
             };
         }
         if moves::into_child(r, s) {
-            let q = put_node(
-                forms,
-                nodes,
-                names,
-                text,
-                key,
-                r.a,
-                left - 1,
-                s.child,
-                Mark {
-                    to: s.to,
-                    name: s.name,
-                },
-            );
-            let t = after_child(nodes, names, text, key, r.w, s, q);
-            s = moves::past_last(r, t);
+            let m = Mark {
+                to: s.to,
+                name: s.name,
+            };
+            let child = store::node_at(nodes, s.child);
+            if is_once(r.a, child.word) {
+                let q = put_once(names, text, key, child.word, m);
+                let t = after_child(nodes, names, text, key, r.w, s, q);
+                s = moves::past_last(r, t);
+            } else {
+                let q = put_node(forms, nodes, names, text, key, r.a, left - 1, s.child, m);
+                let t = after_child(nodes, names, text, key, r.w, s, q);
+                s = moves::past_last(r, t);
+            }
         } else {
             s = put_own(forms, names, text, key, r, s);
         }
@@ -278,6 +272,27 @@ fn put_node(
         to: s.to,
         name: s.name,
     }
+}
+
+// The root, at once if it can be.
+fn put_root(
+    forms: &[u16; TABLE],
+    nodes: &[u64],
+    names: &[u64],
+    text: &[u8],
+    key: &mut [u8],
+    left: usize,
+    at: usize,
+    o: Mark,
+) -> Mark
+    requires { ⌜ (length (now key) * 8 ≤ far) × (o .to ≤ far) × (o .name ≤ length (now names)) × (at < halfWord) × Narrow (now forms) × (now forms ≡ tableWords countWidth) ⌝ }
+    ensures { λ r. ⌜ PutsNode forms nodes names text key left 0 at o r ⌝ }
+{
+    let own = store::node_at(nodes, at);
+    if is_once(forms::TYPE, own.word) {
+        return put_once(names, text, key, own.word, o);
+    }
+    put_node(forms, nodes, names, text, key, forms::TYPE, left, at, o)
 }
 
 // The key of the type whose root is the node `root` and which is at most `tall` high, as much of it as fits, and zeros; its length in bytes.
@@ -295,13 +310,12 @@ pub fn put_key(
     let forms = forms::words();
     store::clear_bytes(key, 0);
     let at = put::put_number(key, 0, forms::EDITION_WIDTH, forms::EDITION);
-    let o = put_node(
+    let o = put_root(
         &forms,
         nodes,
         names,
         text,
         key,
-        forms::TYPE,
         tall,
         root,
         Mark { to: at, name: 0 },

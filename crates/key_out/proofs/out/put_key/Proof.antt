@@ -23,10 +23,10 @@ clear-bytes-requires c κs = search needs
 put-number-requires : tie.Need-put-number-requires
 put-number-requires c κs = search needs
 
-put-node-requires : tie.Need-put-node-requires
-put-node-requires c κs =
+put-root-requires : tie.Need-put-root-requires
+put-root-requires c κs =
     let words = c .before .before .before .before .before .before .before .before .before .before .words in
-    (search needs, search needs, search needs, search needs, search needs, subst Narrow (sym (words .ensures)) words-narrow, words .ensures)
+    (search needs, search needs, search needs, search needs, subst Narrow (sym (words .ensures)) words-narrow, words .ensures)
 
 add-result : tie.Need-add-result
 add-result c = search needs
@@ -40,9 +40,9 @@ returns c =
     let words = c .before .before .before .before .before .before .before .before .before .before .before .before .before .before .words in
     let clear-bytes = c .before .before .before .before .before .before .before .before .before .before .before .before .clear-bytes in
     let put-number = c .before .before .before .before .before .before .before .before .put-number in
-    let put-node = c .before .before .before .put-node in
+    let put-root = c .before .before .before .put-root in
     let slice-known4 = c .before .slice-known4 in
-    keyed (args .nodes .now) (args .names .now) (args .text .now) (args .root) (args .tall) (length (args .key .now)) (put-node .result .name) (put-number .result) (put-node .result .to) (clear-bytes .last .0) (put-number .last .0) (put-node .last .1 .1 .1 .1 .0) (zeros (clear-bytes .last .0) (args .key .now) (clear-bytes .ensures)) (put-number .ensures) (subst (λ (T : List ℕ). Noded keyBits (grammarOf T) (args .nodes .now) (Spells (args .names .now) (args .text .now)) (args .tall) 0 (length (args .names .now)) 0 (args .root) 0 (put-number .result) (put-number .last .0) (put-node .result .name) (put-node .result .to) (put-node .last .1 .1 .1 .1 .0)) (words .ensures) (put-node .ensures)) (bytes-of (put-node .last .1 .1 .1 .1 .0) (λ i. omega (arith, slice-known4 .given i)))
+    keyed (args .nodes .now) (args .names .now) (args .text .now) (args .root) (args .tall) (length (args .key .now)) (put-root .result .name) (put-number .result) (put-root .result .to) (clear-bytes .last .0) (put-number .last .0) (put-root .last .1 .1 .1 .1 .0) (zeros (clear-bytes .last .0) (args .key .now) (clear-bytes .ensures)) (put-number .ensures) (subst (λ (T : List ℕ). Noded keyBits (grammarOf T) (args .nodes .now) (Spells (args .names .now) (args .text .now)) (args .tall) 0 (length (args .names .now)) 0 (args .root) 0 (put-number .result) (put-number .last .0) (put-root .result .name) (put-root .result .to) (put-root .last .1 .1 .1 .1 .0)) (words .ensures) (put-root .ensures)) (bytes-of (put-root .last .1 .1 .1 .1 .0) (λ i. omega (arith, slice-known4 .given i)))
 
 pub put-key-spec : {M : Type 1} → statement M
 put-key-spec =
@@ -51,7 +51,7 @@ put-key-spec =
     words-requires
     clear-bytes-requires
     put-number-requires
-    put-node-requires
+    put-root-requires
     add-result
     same-length
     returns)
