@@ -93,7 +93,10 @@ sys.argv[1:] = sys.argv[4:]; exports.main()' "$root/tools" "$1" "$2" "$out/progr
     python3 "$root/tools/constants.py" "$out/$1.written" "$out/$1.all" >/dev/null
     { "$clang" --target="$machine-unknown-linux-gnu" -S -emit-llvm -x c /dev/null -o - | grep '^target '
       sed -e '/^target /d' -e 's/"target-cpu"="[^"]*"//; s/"probe-stack"="[^"]*"//' "$out/$1.all"; } >"$out/$1.ll"
-    "$clang" -Werror --target="$machine-unknown-linux-gnu" -O3 -mllvm -inline-threshold=1000 -fPIC -ffunction-sections -c -x ir "$out/$1.ll" -o "$out/$1.o"
+    set -- "$1" -Werror --target="$machine-unknown-linux-gnu" -O3 -mllvm -inline-threshold=1000 -mllvm -jump-threading-threshold=20 -fPIC -ffunction-sections
+    name=$1; shift
+    "$clang" "$@" -S -emit-llvm -x ir "$out/$name.ll" -o "$out/$name.once.ll"
+    "$clang" "$@" -c -x ir "$out/$name.once.ll" -o "$out/$name.o"
 }
 part part_check ssp
 part part_read sssssp

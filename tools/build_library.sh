@@ -68,12 +68,14 @@ END
 }
 
 # FILE for a target: the module without the words that name another processor. Much is inlined, so that structs stay in registers: it takes
-# less time, and less stack than LLVM's own measure.
+# less time, and less stack than LLVM's own measure. All is optimised twice: what the first time finds out of a table counts in the second.
 compile() { # FILE TARGET FLAGS..
     to=$1 target=$2; shift 2
     { "$clang" --target="$target" -S -emit-llvm -x c /dev/null -o - | grep '^target '
       sed -e '/^target /d' -e 's/"target-cpu"="[^"]*"//; s/"probe-stack"="[^"]*"//' "$work/module.ll"; } >"$work/target.ll"
-    "$clang" -Werror --target="$target" -O3 -mllvm -inline-threshold=1000 "$@" -c -x ir "$work/target.ll" -o "$to"
+    set -- -Werror --target="$target" -O3 -mllvm -inline-threshold=1000 -mllvm -jump-threading-threshold=20 "$@"
+    "$clang" "$@" -S -emit-llvm -x ir "$work/target.ll" -o "$work/once.ll"
+    "$clang" "$@" -c -x ir "$work/once.ll" -o "$to"
 }
 
 if [ $proved = yes ]; then proved_module; else unproved_module; fi
