@@ -24,7 +24,8 @@ fn lent(
     text: &mut [u8],
     again: &mut [u8],
 ) -> usize
-    requires { ⌜ (at < 65536) × (rooms .nodes ≤ length (now nodes)) × (rooms .names ≤ length (now names)) × (rooms .text ≤ length (now text)) × (rooms .again ≤ length (now again)) × (rooms .key ≤ length (now key)) × (rooms .again ≤ 262146) ⌝ }
+    requires { ⌜ (at < 65536) × (rooms .again ≤ 262146) × (rooms .key ≤ length (now key)) ⌝ }
+    requires { ⌜ (rooms .nodes ≤ length (now nodes)) × (rooms .names ≤ length (now names)) × (rooms .text ≤ length (now text)) × (rooms .again ≤ length (now again)) ⌝ }
     ensures { λ r. ⌜ r < 65536 ⌝ }
 {
     answer::answer(

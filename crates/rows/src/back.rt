@@ -55,7 +55,8 @@ pub fn comes_back(
     letters: &mut [u8],
     again: &mut [u8],
 ) -> bool
-    requires { ⌜ (a .nodes ≤ length (now nodes)) × (a .names ≤ length (now names)) × (a .key ≤ length (now key)) × (a .letters ≤ length (now letters)) × (a .key ≤ length (now again)) × (a .key ≤ 262146) ⌝ }
+    requires { ⌜ (a .key ≤ 262146) × (a .key ≤ length (now key)) × (a .key ≤ length (now again)) ⌝ }
+    requires { ⌜ (a .nodes ≤ length (now nodes)) × (a .names ≤ length (now names)) × (a .letters ≤ length (now letters)) ⌝ }
 {
     let n = least(size, a.key);
     let k = a.nodes;

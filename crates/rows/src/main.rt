@@ -79,7 +79,8 @@ fn read_by(
     notes: &mut [u64],
     key: &mut [u8],
 ) -> [u64; 12]
-    requires { ⌜ (a .text ≤ length (now text)) × (a .words ≤ length (now words)) × (a .nodes ≤ length (now nodes)) × (a .names ≤ length (now names)) × (a .notes ≤ length (now notes)) × (a .key ≤ length (now key)) ⌝ }
+    requires { ⌜ (a .text ≤ length (now text)) × (a .words ≤ length (now words)) ⌝ }
+    requires { ⌜ (a .nodes ≤ length (now nodes)) × (a .names ≤ length (now names)) × (a .notes ≤ length (now notes)) × (a .key ≤ length (now key)) ⌝ }
 {
     let i = a.text;
     let j = a.words;

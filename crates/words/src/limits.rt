@@ -75,7 +75,8 @@ pub struct Limits {
 
 impl Limits {
     pub fn all() -> Limits
-        ensures { λ r. ⌜ (r .text ≡ mostText) × (r .tokens ≡ mostTokens) × (r .open ≡ mostOpen) × (r .tall ≡ tallest) × (r .list ≡ longest) × (r .notes ≡ mostNotes) × (r .key ≡ mostKey) × (r .trials ≡ mostTrials) × (r .entered ≡ mostEntered) ⌝ }
+        ensures { λ r. ⌜ (r .text ≡ mostText) × (r .tokens ≡ mostTokens) × (r .open ≡ mostOpen) × (r .tall ≡ tallest) × (r .list ≡ longest) ⌝ }
+        ensures { λ r. ⌜ (r .notes ≡ mostNotes) × (r .key ≡ mostKey) × (r .trials ≡ mostTrials) × (r .entered ≡ mostEntered) ⌝ }
     {
         Limits {
             text: Text::MOST,
