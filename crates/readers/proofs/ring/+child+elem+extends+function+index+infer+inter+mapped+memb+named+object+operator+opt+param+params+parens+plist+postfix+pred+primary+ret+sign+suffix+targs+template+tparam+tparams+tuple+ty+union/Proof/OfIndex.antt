@@ -67,9 +67,10 @@ module _ (t : ℕ) where
 
   pub loop-holds : lts.Need-loop-holds (R t) (index-at t) index.Post Inv-loop μ-loop
   loop-holds c =
+      let pre = c .before .before .before .before .before .before .before .pre in
       let first-byte = c .before .first-byte in
       let none = c .none in
-      (omega arith, omega (arith, same-kids (ap (λ (x : IndexParams). x .kids) (none .ensures))), λ B d. index-begins _ _ (none .ensures) (first-byte .ensures .0) d)
+      (omega (arith, pre), omega (arith, same-kids (ap (λ (x : IndexParams). x .kids) (none .ensures))), λ B d. index-begins _ _ (none .ensures) (first-byte .ensures .0) d)
 
   pub kind-at-requires : lts.Need-kind-at-requires (R t) (index-at t) index.Post Inv-loop μ-loop
   kind-at-requires c κs =
@@ -78,7 +79,8 @@ module _ (t : ℕ) where
   pub index-head-requires : lts.Need-index-head-requires (R t) (index-at t) index.Post Inv-loop μ-loop
   index-head-requires c κs =
       let pre = c .before .before .before .before .before .before .before .before .before .before .before .before .pre in
-      (pre .1 .0 .classes-are, pre .1 .0 .sound, omega arith)
+      let loop = c .before .before .before .before .loop in
+      (pre .1 .0 .classes-are, pre .1 .0 .sound, omega (arith, loop .inv .0))
 
   pub refused-requires : lts.Need-refused-requires (R t) (index-at t) index.Post Inv-loop μ-loop
   refused-requires c κs =
@@ -110,7 +112,10 @@ module _ (t : ℕ) where
   pub ty-requires : lts.Need-ty-requires (R t) (index-at t) index.Post Inv-loop μ-loop
   ty-requires c κs =
       let pre = c .before .before .before .before .before .before .before .before .before .before .before .before .before .before .before .before .before .before .before .before .pre in
-      (omega arith, ready (pre .1 .0) (omega arith) (omega arith))
+      let loop = c .before .before .before .before .before .before .before .before .before .before .before .before .loop in
+      let index-head = c .before .before .before .before .before .before .before .index-head in
+      let if2 = c .before .before .before .if2 in
+      (omega (arith, pre, loop .inv .0, loop .inv .1, index-head .ensures .1, index-head .kept, if2 .left), ready (pre .1 .0) (omega (arith, pre, loop .inv .0, loop .inv .1, index-head .ensures .1, index-head .kept, if2 .left)) (omega (arith, pre, loop .inv .0, loop .inv .1, index-head .ensures .1, index-head .kept, if2 .left)))
 
   pub same-length-3 : lts.Need-same-length-3 (R t) (index-at t) index.Post Inv-loop μ-loop
   same-length-3 c =
@@ -136,7 +141,7 @@ module _ (t : ℕ) where
       let if2 = c .before .before .before .before .before .before .before .before .before .before .if2 in
       let ty = c .before .before .before .before .before .before .ty in
       let if3 = c .if3 in
-      (λ B readonly d n e. says-stop (if3 .taken) (index-is _ _ _ readonly _ ∙ then-refused _ (index-untyped (args .text .now) (args .words .now) (args .given) _ _ (loop .inv .2 B d) (is-not-here (args .words .now) (loop .p) (kind-at .ensures .0) (if1 .taken)) (index-head .ensures .0 (args .text .now) (pre .1 .0 .spelt) .done (if2 .left)) (ty .ensures .0 .refused (if3 .taken)))), (omega arith, λ z. absurd (if3 .taken z)))
+      (λ B readonly d n e. says-stop (if3 .taken) (index-is _ _ _ readonly _ ∙ then-refused _ (index-untyped (args .text .now) (args .words .now) (args .given) _ _ (loop .inv .2 B d) (is-not-here (args .words .now) (loop .p) (kind-at .ensures .0) (if1 .taken)) (index-head .ensures .0 (args .text .now) (pre .1 .0 .spelt) .done (if2 .left)) (ty .ensures .0 .refused (if3 .taken)))), (omega (arith, ty .ensures .1 .0), λ z. absurd (if3 .taken z)))
 
   pub freed-requires : lts.Need-freed-requires (R t) (index-at t) index.Post Inv-loop μ-loop
   freed-requires c κs =
@@ -150,7 +155,7 @@ module _ (t : ℕ) where
       let if2 = c .before .before .before .before .before .before .before .before .before .before .before .before .if2 in
       let ty = c .before .before .before .before .before .before .before .before .ty in
       let if3 = c .before .before .if3 in
-      (pre .1 .0 .sound, omega (arith, pre, loop .inv .0, loop .inv .1, index-head .ensures .1, index-head .kept, if2 .left, ty .ensures .1 .0, ty .ensures .1 .1 (if3 .left), ty .kept), omega arith)
+      (pre .1 .0 .sound, omega (arith, pre, loop .inv .0, loop .inv .1, index-head .ensures .1, index-head .kept, if2 .left, ty .ensures .1 .0, ty .ensures .1 .1 (if3 .left), ty .kept), omega (arith, pre, loop .inv .0, loop .inv .1, index-head .ensures .1, index-head .kept, if2 .left, ty .ensures .1 .0, ty .ensures .1 .1 (if3 .left), ty .kept))
 
   pub index-next-requires : lts.Need-index-next-requires (R t) (index-at t) index.Post Inv-loop μ-loop
   index-next-requires c κs =
@@ -162,7 +167,7 @@ module _ (t : ℕ) where
       let ty = c .before .before .before .before .before .before .before .before .before .before .ty in
       let if3 = c .before .before .before .before .if3 in
       let freed = c .before .before .freed in
-      let low = freed-low (not (eqb (loop .ps .count) 0)) (loop .p .used) (ty .result .m .used) (args .given .room) (omega arith) (omega arith) in let few = freed-low (not (eqb (loop .ps .count) 0)) (loop .p .named) (ty .result .m .named) (ty .result .m .at) (omega (arith, loop .inv .0, index-head .ensures .1, if2 .left, ty .ensures .1 .1 (if3 .left), ty .ensures .1 .0)) (omega arith) in (pre .1 .0 .sound, omega arith)
+      let low = freed-low (not (eqb (loop .ps .count) 0)) (loop .p .used) (ty .result .m .used) (args .given .room) (omega (arith, loop .inv .0)) (omega (arith, ty .ensures .1 .0)) in let few = freed-low (not (eqb (loop .ps .count) 0)) (loop .p .named) (ty .result .m .named) (ty .result .m .at) (omega (arith, loop .inv .0, index-head .ensures .1, if2 .left, ty .ensures .1 .1 (if3 .left), ty .ensures .1 .0)) (omega (arith, ty .ensures .1 .0)) in (pre .1 .0 .sound, omega (arith, low, few, freed .ensures .1, pre, loop .inv .0, loop .inv .1, index-head .ensures .1, index-head .kept, if2 .left, ty .ensures .1 .0, ty .ensures .1 .1 (if3 .left), ty .kept))
 
   pub refused-requires-2 : lts.Need-refused-requires-2 (R t) (index-at t) index.Post Inv-loop μ-loop
   refused-requires-2 c κs =
@@ -226,14 +231,15 @@ module _ (t : ℕ) where
       let with = c .before .before .before .before .before .with in
       let index-next = c .before .before .before .index-next in
       let if4 = c .before .if4 in
-      let high = freed-high (not (eqb (loop .ps .count) 0)) (loop .p .used) (ty .result .m .used) (loop .p .used) (omega arith) (omega (arith, ty .ensures .1 .1 (if3 .left), index-head .ensures .1)) in let under = under-type (args .words .now) (loop .ps) (ty .result) (loop .p .used) (loop .inv .1) (omega (arith, ty .ensures .1 .1 (if3 .left))) (omega arith) in (omega (arith, high, pre, loop .inv .0, loop .inv .1, index-head .ensures .1, index-head .kept, if2 .left, ty .ensures .1 .0, ty .ensures .1 .1 (if3 .left), ty .kept, freed .ensures .1, index-next .ensures .1, if4 .left), omega (arith, under, same-kids (ap (λ (x : IndexParams). x .kids) (with .ensures)), freed .ensures .1, index-next .ensures .1), λ B d. index-again (args .text .now) (args .words .now) (args .given) _ _ (loop .inv .2 B d) (is-not-here (args .words .now) (loop .p) (kind-at .ensures .0) (if1 .taken)) (index-head .ensures .0 (args .text .now) (pre .1 .0 .spelt) .done (if2 .left)) (ty .result) (ty .ensures .0 .done (if3 .left)) (omega (arith, index-head .ensures .1, if2 .left)) (freed .ensures .0) (with .ensures) (index-next .ensures .0 (args .text .now)) (if4 .left) (omega (arith, pre, loop .inv .0, loop .inv .1, index-head .ensures .1, index-head .kept, if2 .left, ty .ensures .1 .0, ty .ensures .1 .1 (if3 .left), ty .kept, freed .ensures .1, index-next .ensures .1, if4 .left)) (omega arith))
+      let high = freed-high (not (eqb (loop .ps .count) 0)) (loop .p .used) (ty .result .m .used) (loop .p .used) (omega arith) (omega (arith, ty .ensures .1 .1 (if3 .left), index-head .ensures .1)) in let under = under-type (args .words .now) (loop .ps) (ty .result) (loop .p .used) (loop .inv .1) (omega (arith, ty .ensures .1 .1 (if3 .left))) (omega (arith, ty .ensures .1 .0)) in (omega (arith, high, pre, loop .inv .0, loop .inv .1, index-head .ensures .1, index-head .kept, if2 .left, ty .ensures .1 .0, ty .ensures .1 .1 (if3 .left), ty .kept, freed .ensures .1, index-next .ensures .1, if4 .left), omega (arith, under, same-kids (ap (λ (x : IndexParams). x .kids) (with .ensures)), freed .ensures .1, index-next .ensures .1), λ B d. index-again (args .text .now) (args .words .now) (args .given) _ _ (loop .inv .2 B d) (is-not-here (args .words .now) (loop .p) (kind-at .ensures .0) (if1 .taken)) (index-head .ensures .0 (args .text .now) (pre .1 .0 .spelt) .done (if2 .left)) (ty .result) (ty .ensures .0 .done (if3 .left)) (omega (arith, index-head .ensures .1, if2 .left)) (freed .ensures .0) (with .ensures) (index-next .ensures .0 (args .text .now)) (if4 .left) (omega (arith, pre, loop .inv .0, loop .inv .1, index-head .ensures .1, index-head .kept, if2 .left, ty .ensures .1 .0, ty .ensures .1 .1 (if3 .left), ty .kept, freed .ensures .1, index-next .ensures .1, if4 .left)) (omega (arith, pre, loop .inv .0)))
 
   pub index-end-requires : lts.Need-index-end-requires (R t) (index-at t) index.Post Inv-loop μ-loop
   index-end-requires c κs =
       let pre = c .before .before .before .before .before .before .before .before .before .before .before .before .pre in
+      let loop = c .before .before .before .before .loop in
       let kind-at = c .before .before .before .kind-at in
       let if1 = c .before .before .if1 in
-      (pre .1 .0 .sound, omega arith, omega arith, (sym (kind-at .ensures .0) ∙ if1 .left))
+      (pre .1 .0 .sound, omega (arith, pre, loop .inv .0), omega (arith, loop .inv .0), (sym (kind-at .ensures .0) ∙ if1 .left))
 
   pub refused-requires-3 : lts.Need-refused-requires-3 (R t) (index-at t) index.Post Inv-loop μ-loop
   refused-requires-3 c κs =
@@ -263,7 +269,10 @@ module _ (t : ℕ) where
   pub child-requires : lts.Need-child-requires (R t) (index-at t) index.Post Inv-loop μ-loop
   child-requires c κs =
       let pre = c .before .before .before .before .before .before .before .before .before .before .before .before .before .before .before .before .before .before .pre in
-      (omega arith, (ready (pre .1 .0) (omega arith) (omega arith), omega arith))
+      let loop = c .before .before .before .before .before .before .before .before .before .before .loop in
+      let index-end = c .before .before .before .before .before .index-end in
+      let if5 = c .before .before .before .if5 in
+      (omega (arith, pre, loop .inv .0, loop .inv .1, index-end .ensures .1, if5 .left), (ready (pre .1 .0) (omega (arith, pre, loop .inv .0, loop .inv .1, index-end .ensures .1, if5 .left)) (omega (arith, pre, loop .inv .0, loop .inv .1, index-end .ensures .1, if5 .left)), omega (arith, pre, loop .inv .0, loop .inv .1, index-end .ensures .1, if5 .left)))
 
   pub refused-requires-4 : lts.Need-refused-requires-4 (R t) (index-at t) index.Post Inv-loop μ-loop
   refused-requires-4 c κs =
@@ -297,7 +306,7 @@ module _ (t : ℕ) where
   pub index-choices-requires : lts.Need-index-choices-requires (R t) (index-at t) index.Post Inv-loop μ-loop
   index-choices-requires c κs =
       let pre = c .before .before .before .before .before .before .before .before .before .before .before .before .before .before .before .before .before .before .before .before .before .before .before .before .before .before .pre in
-      omega arith
+      omega (arith, pre)
 
   pub member-node-requires : lts.Need-member-node-requires (R t) (index-at t) index.Post Inv-loop μ-loop
   member-node-requires c κs =
@@ -307,7 +316,7 @@ module _ (t : ℕ) where
       let if5 = c .before .before .before .before .before .before .before .before .before .before .before .before .before .if5 in
       let child = c .before .before .before .before .before .before .before .before .before .child in
       let if6 = c .before .before .before .if6 in
-      (pre .1 .0 .sound, omega arith, omega arith, omega arith, omega arith, omega arith)
+      (pre .1 .0 .sound, omega (arith, pre, loop .inv .0, loop .inv .1, index-end .ensures .1, if5 .left, child .ensures .1 .0, child .ensures .1 .1 (if6 .left), child .kept), omega (arith, pre, loop .inv .0, loop .inv .1, index-end .ensures .1, if5 .left, child .ensures .1 .0, child .ensures .1 .1 (if6 .left), child .kept), omega (arith, pre, loop .inv .0, loop .inv .1, index-end .ensures .1, if5 .left, child .ensures .1 .0, child .ensures .1 .1 (if6 .left), child .kept), omega (arith, pre), omega (arith, pre))
 
   pub same-length-11 : lts.Need-same-length-11 (R t) (index-at t) index.Post Inv-loop μ-loop
   same-length-11 c =
@@ -335,4 +344,4 @@ module _ (t : ℕ) where
       let if6 = c .before .before .before .before .before .before .if6 in
       let index-choices = c .before .before .before .before .index-choices in
       let member-node = c .before .before .member-node in
-      (λ B readonly d n e. let g = givenOf (args .text .now) (args .words .now) (args .given) in let T = below (args .given) g in let w = loop .inv .2 B d in let step = index-end .ensures .0 (args .text .now) B (w .params) _ (w .built) (w .params-are) in let got = (child .ensures .0 B _ (built-stepped step (if5 .left) (w .built))) .done (if6 .left) in says-same (index-is _ _ _ readonly _ ∙ then-read _ (index-ended (args .text .now) (args .words .now) (args .given) _ _ (loop .inv .2 B d) (is-here (args .words .now) (loop .p) (kind-at .ensures .0) (if1 .left))) ∙ step .done (if5 .left) (behindIndex g T (args .b .first) readonly (w .params)) ∙ then-read _ (got .is)) (member-node .ensures .0 (args .text .now) _ _ 4 (indexContent readonly (kept (w .params)) (got .tree)) _ _ (got .built) n (index-shaped readonly (w .params-are) (got .is-node) e (index-choices .ensures))), (omega arith, λ z. omega (arith, pre, loop .inv .0, loop .inv .1, index-end .ensures .1, if5 .left, child .ensures .1 .0, child .ensures .1 .1 (if6 .left), child .kept, member-node .ensures .1, z)))
+      (λ B readonly d n e. let g = givenOf (args .text .now) (args .words .now) (args .given) in let T = below (args .given) g in let w = loop .inv .2 B d in let step = index-end .ensures .0 (args .text .now) B (w .params) _ (w .built) (w .params-are) in let got = (child .ensures .0 B _ (built-stepped step (if5 .left) (w .built))) .done (if6 .left) in says-same (index-is _ _ _ readonly _ ∙ then-read _ (index-ended (args .text .now) (args .words .now) (args .given) _ _ (loop .inv .2 B d) (is-here (args .words .now) (loop .p) (kind-at .ensures .0) (if1 .left))) ∙ step .done (if5 .left) (behindIndex g T (args .b .first) readonly (w .params)) ∙ then-read _ (got .is)) (member-node .ensures .0 (args .text .now) _ _ 4 (indexContent readonly (kept (w .params)) (got .tree)) _ _ (got .built) n (index-shaped readonly (w .params-are) (got .is-node) e (index-choices .ensures))), (omega (arith, member-node .ensures .1), λ z. omega (arith, pre, loop .inv .0, loop .inv .1, index-end .ensures .1, if5 .left, child .ensures .1 .0, child .ensures .1 .1 (if6 .left), child .kept, member-node .ensures .1, z)))

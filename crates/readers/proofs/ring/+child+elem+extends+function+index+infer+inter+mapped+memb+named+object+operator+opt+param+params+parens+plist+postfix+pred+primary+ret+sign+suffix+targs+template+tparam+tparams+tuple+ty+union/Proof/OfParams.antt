@@ -34,11 +34,13 @@ module _ (t : ℕ) where
   pub params-head-requires : lts.Need-params-head-requires (R t) (params-at t) params.Post
   params-head-requires c κs =
       let pre = c .before .before .before .before .pre in
-      (pre .1 .0 .sound, omega arith)
+      (pre .1 .0 .sound, omega (arith, pre))
 
   pub refused-requires : lts.Need-refused-requires (R t) (params-at t) params.Post
   refused-requires c κs =
-      omega arith
+      let pre = c .before .before .before .before .before .before .before .pre in
+      let params-head = c .before .before .params-head in
+      omega (arith, pre, params-head .ensures .1)
 
   pub returns : lts.Need-returns (R t) (params-at t) params.Post
   returns c =
@@ -55,8 +57,9 @@ module _ (t : ℕ) where
   pub plist-requires : lts.Need-plist-requires (R t) (params-at t) params.Post
   plist-requires c κs =
       let pre = c .before .before .before .before .before .before .before .before .before .before .before .before .before .pre in
+      let params-head = c .before .before .before .before .before .before .before .before .params-head in
       let none = c .before .before .before .none in
-      (omega arith, (ready (pre .1 .0) (omega arith) (omega arith), omega arith, omega (arith, ap (λ (x : This). x .bits) (none .ensures))))
+      (omega (arith, params-head .ensures .1, pre), (ready (pre .1 .0) (omega (arith, pre)) (omega (arith, params-head .ensures .1, pre)), omega (arith, params-head .ensures .1, pre), omega (arith, ap (λ (x : This). x .bits) (none .ensures))))
 
   pub same-length : lts.Need-same-length (R t) (params-at t) params.Post
   same-length c =
@@ -76,7 +79,7 @@ module _ (t : ℕ) where
       let if2 = c .before .before .before .before .before .before .before .before .before .if2 in
       let none = c .before .before .before .before .before .before .before .before .none in
       let plist = c .before .before .before .before .plist in
-      (λ B r b. params-plain (args .is-new) (opens-plain _ _ _ _ _ (params-head .ensures .0) (if1 .left) (if2 .taken)) (plist .ensures .0 B r absent (built-moved (params-head .ensures .1 .0) b) (this-none (none .ensures))), (omega arith, λ z. omega (arith, opens-past (params-head .ensures .0) (if1 .left), params-head .ensures .1, plist .ensures .1 .1 z)))
+      (λ B r b. params-plain (args .is-new) (opens-plain _ _ _ _ _ (params-head .ensures .0) (if1 .left) (if2 .taken)) (plist .ensures .0 B r absent (built-moved (params-head .ensures .1 .0) b) (this-none (none .ensures))), (omega (arith, plist .ensures .1 .0), λ z. omega (arith, opens-past (params-head .ensures .0) (if1 .left), params-head .ensures .1, plist .ensures .1 .1 z)))
 
   pub before-this-requires : lts.Need-before-this-requires (R t) (params-at t) params.Post
   before-this-requires c κs =
@@ -85,11 +88,17 @@ module _ (t : ℕ) where
   pub opt-requires : lts.Need-opt-requires (R t) (params-at t) params.Post
   opt-requires c κs =
       let pre = c .before .before .before .before .before .before .before .before .before .before .before .before .before .pre in
-      (omega arith, (ready (pre .1 .0) (omega arith) (omega arith), omega arith, omega arith))
+      let params-head = c .before .before .before .before .before .before .before .before .params-head in
+      let before-this = c .before-this in
+      (omega (arith, pre, params-head .ensures .1, before-this .ensures .1), (ready (pre .1 .0) (omega (arith, pre, params-head .ensures .1, before-this .ensures .1)) (omega (arith, pre, params-head .ensures .1, before-this .ensures .1)), omega (arith, pre, params-head .ensures .1, before-this .ensures .1), omega (arith, pre, params-head .ensures .1, before-this .ensures .1)))
 
   pub refused-requires-2 : lts.Need-refused-requires-2 (R t) (params-at t) params.Post
   refused-requires-2 c κs =
-      omega arith
+      let pre = c .before .before .before .before .before .before .before .before .before .before .before .before .before .before .before .before .before .before .before .before .pre in
+      let params-head = c .before .before .before .before .before .before .before .before .before .before .before .before .before .before .before .params-head in
+      let before-this = c .before .before .before .before .before .before .before .before-this in
+      let opt = c .before .before .before .before .before .before .opt in
+      omega (arith, pre, params-head .ensures .1, before-this .ensures .1, opt .ensures .1 .0, opt .kept)
 
   pub same-length-3 : lts.Need-same-length-3 (R t) (params-at t) params.Post
   same-length-3 c =
@@ -121,11 +130,23 @@ module _ (t : ℕ) where
   pub separated-requires : lts.Need-separated-requires (R t) (params-at t) params.Post
   separated-requires c κs =
       let pre = c .before .before .before .before .before .before .before .before .before .before .before .before .before .before .before .before .before .before .before .before .before .pre in
-      (pre .1 .0 .sound, omega arith)
+      let params-head = c .before .before .before .before .before .before .before .before .before .before .before .before .before .before .before .before .params-head in
+      let before-this = c .before .before .before .before .before .before .before .before .before-this in
+      let opt = c .before .before .before .before .before .before .before .opt in
+      let if3 = c .before .if3 in
+      let freed = c .freed in
+      (pre .1 .0 .sound, omega (arith, pre, params-head .ensures .1, before-this .ensures .1, opt .ensures .1 .0, opt .ensures .1 .1 (if3 .left), opt .kept, freed .ensures .1))
 
   pub refused-requires-3 : lts.Need-refused-requires-3 (R t) (params-at t) params.Post
   refused-requires-3 c κs =
-      omega arith
+      let pre = c .before .before .before .before .before .before .before .before .before .before .before .before .before .before .before .before .before .before .before .before .before .before .before .before .pre in
+      let params-head = c .before .before .before .before .before .before .before .before .before .before .before .before .before .before .before .before .before .before .before .params-head in
+      let before-this = c .before .before .before .before .before .before .before .before .before .before .before .before-this in
+      let opt = c .before .before .before .before .before .before .before .before .before .before .opt in
+      let if3 = c .before .before .before .before .if3 in
+      let freed = c .before .before .before .freed in
+      let separated = c .before .before .separated in
+      omega (arith, pre, params-head .ensures .1, before-this .ensures .1, opt .ensures .1 .0, opt .ensures .1 .1 (if3 .left), opt .kept, freed .ensures .1, separated .ensures .1)
 
   pub same-length-5 : lts.Need-same-length-5 (R t) (params-at t) params.Post
   same-length-5 c =
@@ -151,7 +172,7 @@ module _ (t : ℕ) where
       let separated = c .before .before .before .separated in
       let if4 = c .before .if4 in
       let refused3 = c .refused3 in
-      let low = freed-low (args .is-new) (args .m .used) (opt .result .m .used) (args .given .room) (omega (arith, pre)) (omega (arith, opt .ensures .1 .0)) in let few = freed-low (args .is-new) (args .m .named) (opt .result .m .named) (opt .result .m .at) (omega (arith, params-head .ensures .1, opt .ensures .1 .0, opt .ensures .1 .1 (if3 .left), pre)) (omega (arith, opt .ensures .1 .0)) in (λ B r b. params-refused (refused3 .ensures) (if4 .taken) (params-this-stops (givenOf (args .text .now) (args .words .now) (args .given)) (below (args .given) (givenOf (args .text .now) (args .words .now) (args .given))) (args .is-new) (args .nodes .now) (args .names .now) (args .notes .now) (params-head .ensures .0) (if1 .left) (if2 .left) b (before-this .ensures .0) (λ C r d. opt .ensures .0 C r d) (if3 .left) (freed .ensures .0) (separated .ensures .0) (if4 .taken)), (omega arith, λ z. omega arith))
+      let low = freed-low (args .is-new) (args .m .used) (opt .result .m .used) (args .given .room) (omega (arith, pre)) (omega (arith, opt .ensures .1 .0)) in let few = freed-low (args .is-new) (args .m .named) (opt .result .m .named) (opt .result .m .at) (omega (arith, params-head .ensures .1, opt .ensures .1 .0, opt .ensures .1 .1 (if3 .left), pre)) (omega (arith, opt .ensures .1 .0)) in (λ B r b. params-refused (refused3 .ensures) (if4 .taken) (params-this-stops (givenOf (args .text .now) (args .words .now) (args .given)) (below (args .given) (givenOf (args .text .now) (args .words .now) (args .given))) (args .is-new) (args .nodes .now) (args .names .now) (args .notes .now) (params-head .ensures .0) (if1 .left) (if2 .left) b (before-this .ensures .0) (λ C r d. opt .ensures .0 C r d) (if3 .left) (freed .ensures .0) (separated .ensures .0) (if4 .taken)), (omega (arith, low, few, same-params (refused3 .ensures), pre, params-head .ensures .1, before-this .ensures .1, opt .ensures .1 .0, opt .ensures .1 .1 (if3 .left), freed .ensures .1, separated .ensures .1), λ z. omega (arith, same-params (refused3 .ensures), pre, params-head .ensures .1, before-this .ensures .1, opt .ensures .1 .0, opt .ensures .1 .1 (if3 .left), freed .ensures .1, separated .ensures .1, z)))
 
   pub this-of-requires : lts.Need-this-of-requires (R t) (params-at t) params.Post
   this-of-requires c κs =
@@ -162,7 +183,7 @@ module _ (t : ℕ) where
       let if3 = c .before .before .before .before .if3 in
       let freed = c .before .before .before .freed in
       let separated = c .before .before .separated in
-      (pre .1 .0 .sound, omega arith, omega arith)
+      (pre .1 .0 .sound, omega (arith, pre, params-head .ensures .1, before-this .ensures .1, opt .ensures .1 .0, opt .ensures .1 .1 (if3 .left), opt .kept, freed .ensures .1, separated .ensures .1), omega (arith, pre, params-head .ensures .1, before-this .ensures .1, opt .ensures .1 .0, opt .ensures .1 .1 (if3 .left), opt .kept, freed .ensures .1, separated .ensures .1))
 
   pub this-kids-requires : lts.Need-this-kids-requires (R t) (params-at t) params.Post
   this-kids-requires c κs =
@@ -180,7 +201,7 @@ module _ (t : ℕ) where
       let separated = c .before .before .before .before .before .before .before .separated in
       let this-of = c .before .before .before .before .this-of in
       let this-kids = c .before .before .before .this-kids in
-      let low = freed-low (args .is-new) (args .m .used) (opt .result .m .used) (args .given .room) (omega (arith, pre)) (omega (arith, opt .ensures .1 .0)) in let few = freed-low (args .is-new) (args .m .named) (opt .result .m .named) (opt .result .m .at) (omega (arith, params-head .ensures .1, opt .ensures .1 .0, opt .ensures .1 .1 (if3 .left), pre)) (omega (arith, opt .ensures .1 .0)) in let high = freed-high (args .is-new) (args .m .used) (opt .result .m .used) (args .m .used) (omega arith) (omega arith) in let bit = bit-low (opt .result .there) in let under = under-this (args .is-new) (args .m .used) (opt .result .m .used) (args .kids) (opt .result .kids) (omega arith) (omega arith) in (omega arith, (ready (pre .1 .0) (omega arith) (omega arith), subst (λ (k : Kids). Under (separated .result .m .used) k) (sym (this-kids .ensures)) (omega arith), omega arith))
+      let low = freed-low (args .is-new) (args .m .used) (opt .result .m .used) (args .given .room) (omega (arith, pre)) (omega (arith, opt .ensures .1 .0)) in let few = freed-low (args .is-new) (args .m .named) (opt .result .m .named) (opt .result .m .at) (omega (arith, params-head .ensures .1, opt .ensures .1 .0, opt .ensures .1 .1 (if3 .left), pre)) (omega (arith, opt .ensures .1 .0)) in let high = freed-high (args .is-new) (args .m .used) (opt .result .m .used) (args .m .used) (omega arith) (omega (arith, opt .ensures .1 .1 (if3 .left), params-head .ensures .1)) in let bit = bit-low (opt .result .there) in let under = under-this (args .is-new) (args .m .used) (opt .result .m .used) (args .kids) (opt .result .kids) (omega (arith, pre)) (omega (arith, opt .ensures .1 .0)) in (omega (arith, low, few, high, bit, pre, params-head .ensures .1, before-this .ensures .1, opt .ensures .1 .0, opt .ensures .1 .1 (if3 .left), freed .ensures .1, separated .ensures .1, this-of .ensures .0), (ready (pre .1 .0) (omega (arith, pre, params-head .ensures .1, before-this .ensures .1, opt .ensures .1 .0, opt .ensures .1 .1 (if3 .left), opt .kept, freed .ensures .1, separated .ensures .1, this-of .ensures .0)) (omega (arith, low, few, high, bit, pre, params-head .ensures .1, before-this .ensures .1, opt .ensures .1 .0, opt .ensures .1 .1 (if3 .left), freed .ensures .1, separated .ensures .1, this-of .ensures .0)), subst (λ (k : Kids). Under (separated .result .m .used) k) (sym (this-kids .ensures)) (omega (arith, under, pre, params-head .ensures .1, before-this .ensures .1, opt .ensures .1 .0, opt .ensures .1 .1 (if3 .left), freed .ensures .1, separated .ensures .1, this-of .ensures .0)), omega (arith, bit, pre, params-head .ensures .1, before-this .ensures .1, opt .ensures .1 .0, opt .ensures .1 .1 (if3 .left), freed .ensures .1, separated .ensures .1, this-of .ensures .0)))
 
   pub same-length-7 : lts.Need-same-length-7 (R t) (params-at t) params.Post
   same-length-7 c =
@@ -210,4 +231,4 @@ module _ (t : ℕ) where
       let this-of = c .before .before .before .before .before .before .before .before .before .this-of in
       let this-kids = c .before .before .before .before .before .before .before .before .this-kids in
       let plist2 = c .before .before .before .before .plist2 in
-      let low = freed-low (args .is-new) (args .m .used) (opt .result .m .used) (args .given .room) (omega (arith, pre)) (omega (arith, opt .ensures .1 .0)) in let few = freed-low (args .is-new) (args .m .named) (opt .result .m .named) (opt .result .m .at) (omega (arith, params-head .ensures .1, opt .ensures .1 .0, opt .ensures .1 .1 (if3 .left), pre)) (omega (arith, opt .ensures .1 .0)) in let high = freed-high (args .is-new) (args .m .used) (opt .result .m .used) (args .m .used) (omega arith) (omega arith) in let bit = bit-low (opt .result .there) in (λ B r b. params-this (givenOf (args .text .now) (args .words .now) (args .given)) (below (args .given) (givenOf (args .text .now) (args .words .now) (args .given))) (args .is-new) (args .nodes .now) (args .names .now) (args .notes .now) (params-head .ensures .0) (if1 .left) (if2 .left) b (before-this .ensures .0) (λ C r d. opt .ensures .0 C r d) (if3 .left) (freed .ensures .0) (separated .ensures .0) (if4 .left) (separated .ensures .1) (this-kids .ensures) (omega arith) (this-of .ensures) (λ run th built i. plist2 .ensures .0 B run th built i), (omega arith, λ z. omega arith))
+      let low = freed-low (args .is-new) (args .m .used) (opt .result .m .used) (args .given .room) (omega (arith, pre)) (omega (arith, opt .ensures .1 .0)) in let few = freed-low (args .is-new) (args .m .named) (opt .result .m .named) (opt .result .m .at) (omega (arith, params-head .ensures .1, opt .ensures .1 .0, opt .ensures .1 .1 (if3 .left), pre)) (omega (arith, opt .ensures .1 .0)) in let high = freed-high (args .is-new) (args .m .used) (opt .result .m .used) (args .m .used) (omega arith) (omega (arith, opt .ensures .1 .1 (if3 .left), params-head .ensures .1)) in let bit = bit-low (opt .result .there) in (λ B r b. params-this (givenOf (args .text .now) (args .words .now) (args .given)) (below (args .given) (givenOf (args .text .now) (args .words .now) (args .given))) (args .is-new) (args .nodes .now) (args .names .now) (args .notes .now) (params-head .ensures .0) (if1 .left) (if2 .left) b (before-this .ensures .0) (λ C r d. opt .ensures .0 C r d) (if3 .left) (freed .ensures .0) (separated .ensures .0) (if4 .left) (separated .ensures .1) (this-kids .ensures) (omega (arith, pre)) (this-of .ensures) (λ run th built i. plist2 .ensures .0 B run th built i), (omega (arith, low, few, high, bit, pre, params-head .ensures .1, before-this .ensures .1, opt .ensures .1 .0, opt .ensures .1 .1 (if3 .left), freed .ensures .1, separated .ensures .1, plist2 .ensures .1 .0, this-of .ensures .0), λ z. omega (arith, opens-past (params-head .ensures .0) (if1 .left), low, few, high, bit, pre, params-head .ensures .1, before-this .ensures .1, opt .ensures .1 .0, opt .ensures .1 .1 (if3 .left), freed .ensures .1, separated .ensures .1, plist2 .ensures .1 .0, this-of .ensures .0, z, plist2 .ensures .1 .1 z)))
