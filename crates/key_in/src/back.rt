@@ -20,6 +20,9 @@ use node_table::forms::Row;
 use words::limits::Key;
 use words::limits::Tree;
 
+// How many words the node table has.
+const TABLE: usize = 526;
+
 // Where taking is: why it stopped (0: it did not) and the bit; the nodes left; the nodes, names and bytes of text used.
 pub struct Pos {
     pub why: u32,
@@ -133,7 +136,7 @@ fn take_spellings(key: &[u8], names: &mut [u64], text: &mut [u8], w: usize, n: u
 }
 
 // Whether the table has no form there, of so many steps.
-fn is_none(forms: &[u16], steps: usize, form: usize) -> bool
+fn is_none(forms: &[u16; TABLE], steps: usize, form: usize) -> bool
     requires { ⌜ form < tableMost ⌝ }
     ensures { λ r. ⌜ ((n : ℕ) → 1 ≤ n → r ≡ isNever (formOf (now (forms .entry)) steps n form)) ⌝ }
 {
@@ -145,7 +148,7 @@ fn is_none(forms: &[u16], steps: usize, form: usize) -> bool
 }
 
 // The same where the form's first step is done n times: done 0 times it is the form after it.
-fn is_never(forms: &[u16], steps: usize, n: usize, form: usize) -> bool
+fn is_never(forms: &[u16; TABLE], steps: usize, n: usize, form: usize) -> bool
     requires { ⌜ form < tableMost ⌝ }
     ensures { λ r. ⌜ r ≡ isNever (formOf (now (forms .entry)) steps n form) ⌝ }
 {
@@ -180,7 +183,7 @@ fn no_pick(bit: usize) -> Pick
 }
 
 // A field that chooses: 10 where it is cut short or leads to no form.
-fn take_choice(forms: &[u16], key: &[u8], steps: usize, r: Row, bit: usize) -> Pick
+fn take_choice(forms: &[u16; TABLE], key: &[u8], steps: usize, r: Row, bit: usize) -> Pick
     requires { ⌜ (length (now key) ≤ longestKey) × (bit ≤ length (now key) * 8) × (r .w ≤ widest) × (r .a < tableMost) × (r .b < tableMost) × (5 ≤ r .op) ⌝ }
     ensures { λ c. ⌜ back.TakesChoice forms key steps r (r .op - 5) bit c ⌝ }
 {
@@ -203,7 +206,7 @@ fn take_choice(forms: &[u16], key: &[u8], steps: usize, r: Row, bit: usize) -> P
 }
 
 // The tag of a class: 10 where it is cut short or there is no such row.
-fn take_tag(forms: &[u16], key: &[u8], steps: usize, tags: Row, bit: usize) -> Pick
+fn take_tag(forms: &[u16; TABLE], key: &[u8], steps: usize, tags: Row, bit: usize) -> Pick
     requires { ⌜ (length (now key) ≤ longestKey) × (bit ≤ length (now key) * 8) × (tags .w ≤ widest) × (tags .a < tableMost) ⌝ }
     ensures { λ c. ⌜ back.TakesChoice forms key steps tags 0 bit c ⌝ }
 {
@@ -279,7 +282,7 @@ fn choose(s: Fill, w: usize, c: Pick) -> Fill
 
 // A step that goes into no child.
 fn take_plain(
-    forms: &[u16],
+    forms: &[u16; TABLE],
     key: &[u8],
     names: &mut [u64],
     text: &mut [u8],
@@ -370,7 +373,7 @@ fn take_after(key: &[u8], names: &mut [u64], text: &mut [u8], w: usize, s: Fill)
 
 // A node of a class, with room for `left` nodes one above the other: it meets 10 at its tag, 6, 8, then its fields in order.
 fn take_node(
-    forms: &[u16],
+    forms: &[u16; TABLE],
     key: &[u8],
     nodes: &mut [u64],
     names: &mut [u64],
@@ -449,7 +452,7 @@ fn take_node(
 
 // n nodes, one after the other, a spelling after each if its length has any bits.
 fn take_nodes(
-    forms: &[u16],
+    forms: &[u16; TABLE],
     key: &[u8],
     nodes: &mut [u64],
     names: &mut [u64],

@@ -13,14 +13,14 @@ is-none-requires c κs = search needs
 
 returns : tie.Need-returns
 returns c =
-    let args = c .before .before .before .args in
+    let args = c .before .before .args in
     let if1 = c .before .if1 in
     let is-none = c .is-none in
     is-none .ensures (args .n) (some-times (args .n) (if1 .taken))
 
 returns-2 : tie.Need-returns-2
 returns-2 c =
-    let args = c .before .before .before .args in
+    let args = c .before .before .args in
     let if2 = c .if2 in
     no-steps (args .forms .now) (args .steps) (args .form) (args .n) (if2 .taken)
 
@@ -36,8 +36,8 @@ is-none-requires-2 c κs = search needs
 returns-3 : tie.Need-returns-3
 returns-3 c =
     let args = c .before .before .before .before .before .before .args in
-    let if1 = c .before .before .before .before .if1 in
-    let if2 = c .before .before .before .if2 in
+    let if1 = c .before .before .before .before .before .if1 in
+    let if2 = c .before .before .before .before .if2 in
     let row-at = c .before .before .row-at in
     let if3 = c .before .if3 in
     let is-none2 = c .is-none2 in
@@ -52,8 +52,8 @@ is-none-requires-3 c κs = search needs
 returns-4 : tie.Need-returns-4
 returns-4 c =
     let args = c .before .before .before .before .before .before .before .args in
-    let if1 = c .before .before .before .before .before .if1 in
-    let if2 = c .before .before .before .before .if2 in
+    let if1 = c .before .before .before .before .before .before .if1 in
+    let if2 = c .before .before .before .before .before .if2 in
     let row-at = c .before .before .before .row-at in
     let if4 = c .before .if4 in
     let is-none3 = c .is-none3 in
@@ -62,8 +62,8 @@ returns-4 c =
 returns-5 : tie.Need-returns-5
 returns-5 c =
     let args = c .before .before .before .before .before .before .args in
-    let if1 = c .before .before .before .before .if1 in
-    let if2 = c .before .before .before .if2 in
+    let if1 = c .before .before .before .before .before .if1 in
+    let if2 = c .before .before .before .before .if2 in
     let row-at = c .before .before .row-at in
     let if3 = c .before .if3 in
     let if4 = c .if4 in

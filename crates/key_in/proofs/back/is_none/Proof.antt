@@ -9,7 +9,7 @@ use Rattle.key_in.proofs.back.is_none.Lts as lts
 
 returns : tie.Need-returns
 returns c =
-    let args = c .before .before .args in
+    let args = c .before .args in
     let if1 = c .if1 in
     λ n h. no-steps (args .forms .now) (args .steps) (args .form) n (if1 .taken)
 
@@ -19,7 +19,7 @@ row-at-requires c κs = search needs
 returns-2 : tie.Need-returns-2
 returns-2 c =
     let args = c .before .before .before .before .args in
-    let if1 = c .before .before .if1 in
+    let if1 = c .before .before .before .if1 in
     let row-at = c .before .row-at in
     λ n h. some-steps (args .forms .now) (args .steps) (args .form) (row-at .result) (row-at .ensures) (if1 .left) n h
 

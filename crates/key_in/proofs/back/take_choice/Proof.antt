@@ -32,8 +32,8 @@ no-pick-requires c κs = search needs
 
 returns : tie.Need-returns
 returns c =
-    let pre = c .before .before .before .before .before .before .pre in
-    let args = c .before .before .before .before .before .before .args in
+    let pre = c .before .before .before .before .before .pre in
+    let args = c .before .before .before .before .before .args in
     let field-at = c .before .before .before .field-at in
     let enum-told = c .before .enum-told in
     let no-pick = c .no-pick in
@@ -55,9 +55,9 @@ returns-2 : tie.Need-returns-2
 returns-2 c =
     let pre = c .before .before .before .before .before .before .before .before .before .before .before .pre in
     let args = c .before .before .before .before .before .before .before .before .before .before .before .args in
-    let field-at = c .before .before .before .before .before .before .before .before .field-at in
-    let taken = c .before .before .before .before .before .before .taken in
-    let slim = c .before .before .before .before .slim in
+    let field-at = c .before .before .before .before .before .before .before .before .before .field-at in
+    let taken = c .before .before .before .before .before .before .before .taken in
+    let slim = c .before .before .before .before .before .slim in
     let jump-at = c .before .before .before .jump-at in
     let is-never = c .before .before .is-never in
     let if1 = c .before .if1 in
@@ -70,9 +70,9 @@ returns-3 : tie.Need-returns-3
 returns-3 c =
     let pre = c .before .before .before .before .before .before .before .before .before .before .pre in
     let args = c .before .before .before .before .before .before .before .before .before .before .args in
-    let field-at = c .before .before .before .before .before .before .before .field-at in
-    let taken = c .before .before .before .before .before .taken in
-    let slim = c .before .before .before .slim in
+    let field-at = c .before .before .before .before .before .before .before .before .field-at in
+    let taken = c .before .before .before .before .before .before .taken in
+    let slim = c .before .before .before .before .slim in
     let jump-at = c .before .before .jump-at in
     let is-never = c .before .is-never in
     let if1 = c .if1 in

@@ -18,23 +18,23 @@ use Rattle.key_in.proofs.back.take_spellings.Reads as take-spellings-re
 
 take-choice-requires : tie.Need-take-choice-requires
 take-choice-requires c κs =
-    let pre = c .before .before .before .before .before .before .pre in
-    let args = c .before .before .before .before .before .before .args in
+    let pre = c .before .before .before .before .before .pre in
+    let args = c .before .before .before .before .before .args in
     let if1 = c .before .if1 in
     (pre .0, omega (arith, pre .1 .inside .in-key, length-bytes (args .key .now)), pre .2 .w, pre .2 .a, pre .2 .b, if1 .taken)
 
 choose-requires : tie.Need-choose-requires
 choose-requires c κs =
-    let pre = c .before .before .before .before .before .before .before .pre in
-    let args = c .before .before .before .before .before .before .before .args in
+    let pre = c .before .before .before .before .before .before .pre in
+    let args = c .before .before .before .before .before .before .args in
     let if1 = c .before .before .if1 in
     let take-choice = c .take-choice in
     (pre .1 .small, choice-fits (bitsOfBytes (args .key .now)) (length (args .names .now)) (length (args .text .now)) (args .forms .now) (args .steps) (args .r) (args .s) (pre .1) (pre .2) (pre .5) (if1 .taken), take-choice .ensures .small)
 
 returns : tie.Need-returns
 returns c =
-    let pre = c .before .before .before .before .before .before .before .before .pre in
-    let args = c .before .before .before .before .before .before .before .before .args in
+    let pre = c .before .before .before .before .before .before .before .pre in
+    let args = c .before .before .before .before .before .before .before .args in
     let if1 = c .before .before .before .if1 in
     let take-choice = c .before .take-choice in
     let choose = c .choose in
@@ -42,7 +42,7 @@ returns c =
 
 take-spellings-requires : tie.Need-take-spellings-requires
 take-spellings-requires c κs =
-    let pre = c .before .before .before .before .before .before .before .before .before .pre in
+    let pre = c .before .before .before .before .before .before .before .before .pre in
     (pre .0, pre .2 .w, pre .1 .ok, pre .1 .inside)
 
 same-length : tie.Need-same-length
@@ -53,15 +53,15 @@ same-length-2 c = search needs
 
 returns-2 : tie.Need-returns-2
 returns-2 c =
-    let pre = c .before .before .before .before .before .before .before .before .before .before .before .before .before .before .pre in
-    let args = c .before .before .before .before .before .before .before .before .before .before .before .before .before .before .args in
+    let pre = c .before .before .before .before .before .before .before .before .before .before .before .before .before .pre in
+    let args = c .before .before .before .before .before .before .before .before .before .before .before .before .before .args in
     let if2 = c .before .before .before .before .before .before .before .if2 in
     let take-spellings = c .before .before .before .before .take-spellings in
     plain-words (bitsOfBytes (args .key .now)) (length (args .names .now)) (length (args .text .now)) (args .forms .now) (args .steps) (args .r) (args .s) (pre .1) (pre .2) (pre .5) (if2 .taken) (args .names .now) (args .text .now) _ _ _ (take-spellings .ensures)
 
 take-spelling-requires : tie.Need-take-spelling-requires
 take-spelling-requires c κs =
-    let pre = c .before .before .before .before .before .before .before .before .before .before .pre in
+    let pre = c .before .before .before .before .before .before .before .before .before .pre in
     (pre .0, pre .2 .w, pre .1 .inside)
 
 same-length-3 : tie.Need-same-length-3
@@ -72,8 +72,8 @@ same-length-4 c = search needs
 
 returns-3 : tie.Need-returns-3
 returns-3 c =
-    let pre = c .before .before .before .before .before .before .before .before .before .before .before .before .before .before .before .pre in
-    let args = c .before .before .before .before .before .before .before .before .before .before .before .before .before .before .before .args in
+    let pre = c .before .before .before .before .before .before .before .before .before .before .before .before .before .before .pre in
+    let args = c .before .before .before .before .before .before .before .before .before .before .before .before .before .before .args in
     let if3 = c .before .before .before .before .before .before .before .if3 in
     let take-spelling = c .before .before .before .before .take-spelling in
     plain-word (bitsOfBytes (args .key .now)) (length (args .names .now)) (length (args .text .now)) (args .forms .now) (args .steps) (args .r) (args .s) (pre .1) (pre .2) (pre .5) (if3 .taken) (args .names .now) (args .text .now) _ _ _ (take-spelling .ensures)
@@ -86,8 +86,8 @@ moved-requires c κs = search needs
 
 returns-4 : tie.Need-returns-4
 returns-4 c =
-    let pre = c .before .before .before .before .before .before .before .before .before .before .pre in
-    let args = c .before .before .before .before .before .before .before .before .before .before .args in
+    let pre = c .before .before .before .before .before .before .before .before .before .pre in
+    let args = c .before .before .before .before .before .before .before .before .before .args in
     let if2 = c .before .before .before .if2 in
     let if3 = c .before .before .if3 in
     let if1 = c .before .before .before .before .before .if1 in

@@ -33,8 +33,8 @@ no-pick-requires c κs = search needs
 
 returns : tie.Need-returns
 returns c =
-    let pre = c .before .before .before .before .before .before .pre in
-    let args = c .before .before .before .before .before .before .args in
+    let pre = c .before .before .before .before .before .pre in
+    let args = c .before .before .before .before .before .args in
     let field-at = c .before .before .before .field-at in
     let enum-told = c .before .enum-told in
     let no-pick = c .no-pick in
@@ -56,9 +56,9 @@ returns-2 : tie.Need-returns-2
 returns-2 c =
     let pre = c .before .before .before .before .before .before .before .before .before .before .before .pre in
     let args = c .before .before .before .before .before .before .before .before .before .before .before .args in
-    let field-at = c .before .before .before .before .before .before .before .before .field-at in
-    let taken = c .before .before .before .before .before .before .taken in
-    let slim = c .before .before .before .before .slim in
+    let field-at = c .before .before .before .before .before .before .before .before .before .field-at in
+    let taken = c .before .before .before .before .before .before .before .taken in
+    let slim = c .before .before .before .before .before .slim in
     let listed-at = c .before .before .before .listed-at in
     let is-none = c .before .before .is-none in
     let if1 = c .before .if1 in
@@ -73,9 +73,9 @@ returns-3 : tie.Need-returns-3
 returns-3 c =
     let pre = c .before .before .before .before .before .before .before .before .before .before .pre in
     let args = c .before .before .before .before .before .before .before .before .before .before .args in
-    let field-at = c .before .before .before .before .before .before .before .field-at in
-    let taken = c .before .before .before .before .before .taken in
-    let slim = c .before .before .before .slim in
+    let field-at = c .before .before .before .before .before .before .before .before .field-at in
+    let taken = c .before .before .before .before .before .before .taken in
+    let slim = c .before .before .before .before .slim in
     let listed-at = c .before .before .listed-at in
     let is-none = c .before .is-none in
     let if1 = c .if1 in

@@ -63,9 +63,6 @@ returns-3 c =
 words-requires : tie.Need-words-requires
 words-requires c κs = search needs
 
-slice-aggregate-take-node : tie.Need-slice-aggregate-take-node
-slice-aggregate-take-node c = search needs
-
 take-node-requires : tie.Need-take-node-requires
 take-node-requires c κs =
     let args = c .before .before .before .before .before .before .before .before .before .before .before .before .before .before .before .args in
@@ -171,7 +168,6 @@ take-whole-spec =
     refused-requires-3
     returns-3
     words-requires
-    slice-aggregate-take-node
     take-node-requires
     same-length
     same-length-2

@@ -42,13 +42,13 @@ module _ (t : ℕ) where
 
   pub class-at-requires : lts.Need-class-at-requires (R t) (take-node-at t) take-node.Post Inv-loop μ-loop
   class-at-requires c κs =
-      let pre = c .before .before .before .before .before .before .pre in
+      let pre = c .before .before .before .before .before .before .before .pre in
       pre .1 .1 .in-table
 
   pub take-tag-requires : lts.Need-take-tag-requires (R t) (take-node-at t) take-node.Post Inv-loop μ-loop
   take-tag-requires c κs =
-      let pre = c .before .before .before .before .before .before .before .pre in
-      let args = c .before .before .before .before .before .before .before .args in
+      let pre = c .before .before .before .before .before .before .before .before .pre in
+      let args = c .before .before .before .before .before .before .before .before .args in
       let class-at = c .class-at in
       (pre .1 .0, omega (arith, pre .1 .1 .inside .in-key, length-bytes (args .key .now)), subst (λ (x : Entry). x .w ≤ widest) (sym (class-at .ensures .is)) (pre .1 .1 .slim .narrow .tag (args .class)), class-at .ensures .from)
 
@@ -57,9 +57,9 @@ module _ (t : ℕ) where
 
   pub returns : lts.Need-returns (R t) (take-node-at t) take-node.Post Inv-loop μ-loop
   returns c =
-      let pre = c .before .before .before .before .before .before .before .before .before .before .before .pre in
-      let args = c .before .before .before .before .before .before .before .before .before .before .before .args in
-      let word-at = c .before .before .before .before .before .word-at in
+      let pre = c .before .before .before .before .before .before .before .before .before .before .before .before .pre in
+      let args = c .before .before .before .before .before .before .before .before .before .before .before .before .args in
+      let word-at = c .before .before .before .before .before .before .word-at in
       let class-at = c .before .before .before .before .class-at in
       let take-tag = c .before .before .before .take-tag in
       let if1 = c .before .if1 in
@@ -71,9 +71,9 @@ module _ (t : ℕ) where
 
   pub returns-2 : lts.Need-returns-2 (R t) (take-node-at t) take-node.Post Inv-loop μ-loop
   returns-2 c =
-      let pre = c .before .before .before .before .before .before .before .before .before .before .before .before .pre in
-      let args = c .before .before .before .before .before .before .before .before .before .before .before .before .args in
-      let word-at = c .before .before .before .before .before .before .word-at in
+      let pre = c .before .before .before .before .before .before .before .before .before .before .before .before .before .pre in
+      let args = c .before .before .before .before .before .before .before .before .before .before .before .before .before .args in
+      let word-at = c .before .before .before .before .before .before .before .word-at in
       let class-at = c .before .before .before .before .before .class-at in
       let take-tag = c .before .before .before .before .take-tag in
       let if1 = c .before .before .if1 in
@@ -86,9 +86,9 @@ module _ (t : ℕ) where
 
   pub returns-3 : lts.Need-returns-3 (R t) (take-node-at t) take-node.Post Inv-loop μ-loop
   returns-3 c =
-      let pre = c .before .before .before .before .before .before .before .before .before .before .before .before .before .before .pre in
-      let args = c .before .before .before .before .before .before .before .before .before .before .before .before .before .before .args in
-      let word-at = c .before .before .before .before .before .before .before .before .word-at in
+      let pre = c .before .before .before .before .before .before .before .before .before .before .before .before .before .before .before .pre in
+      let args = c .before .before .before .before .before .before .before .before .before .before .before .before .before .before .before .args in
+      let word-at = c .before .before .before .before .before .before .before .before .before .word-at in
       let class-at = c .before .before .before .before .before .before .before .class-at in
       let take-tag = c .before .before .before .before .before .before .take-tag in
       let if1 = c .before .before .before .before .if1 in
@@ -97,14 +97,14 @@ module _ (t : ℕ) where
       let refused3 = c .refused3 in
       node-full (bitsOfBytes (args .key .now)) (length (args .nodes .now)) (length (args .names .now)) (length (args .text .now)) (args .forms .now) (args .class) (args .p) (pre .1 .1) (word-at .result) (word-at .ensures .0) (class-at .result) (class-at .ensures) (take-tag .result) (take-tag .ensures) (if1 .left) (args .left) (args .left - 1) (before-one (args .left) (if2 .left)) (args .nodes .now) (args .names .now) (args .text .now) _ (refused3 .ensures) (if3 .taken)
 
-  pub sub-t23 : lts.Need-sub-t23 (R t) (take-node-at t) take-node.Post Inv-loop μ-loop
-  sub-t23 c = search needs
+  pub sub-t27 : lts.Need-sub-t27 (R t) (take-node-at t) take-node.Post Inv-loop μ-loop
+  sub-t27 c = search needs
 
   pub loop-holds : lts.Need-loop-holds (R t) (take-node-at t) take-node.Post Inv-loop μ-loop
   loop-holds c =
-      let pre = c .before .before .before .before .before .before .before .before .before .before .before .before .before .before .pre in
-      let args = c .before .before .before .before .before .before .before .before .before .before .before .before .before .before .args in
-      let word-at = c .before .before .before .before .before .before .before .before .word-at in
+      let pre = c .before .before .before .before .before .before .before .before .before .before .before .before .before .before .before .pre in
+      let args = c .before .before .before .before .before .before .before .before .before .before .before .before .before .before .before .args in
+      let word-at = c .before .before .before .before .before .before .before .before .before .word-at in
       let class-at = c .before .before .before .before .before .before .before .class-at in
       let take-tag = c .before .before .before .before .before .before .take-tag in
       let if1 = c .before .before .before .before .if1 in
@@ -114,67 +114,67 @@ module _ (t : ℕ) where
 
   pub row-at-requires : lts.Need-row-at-requires (R t) (take-node-at t) take-node.Post Inv-loop μ-loop
   row-at-requires c κs =
-      let loop = c .before .loop in
+      let loop = c .before .before .loop in
       loop .inv .steady .in-table
 
   pub append-node-requires : lts.Need-append-node-requires (R t) (take-node-at t) take-node.Post Inv-loop μ-loop
   append-node-requires c κs =
-      let good = c .before .before .before .before .before .before .before .before .before .before .before .before .before .before .before .before .before .before .before .before .good in
-      let fits = c .before .before .before .before .before .before .before .before .before .before .before .before .before .before .before .before .before .before .before .before .fits in
-      let pre = c .before .before .before .before .before .before .before .before .before .before .before .before .before .before .before .before .before .before .before .before .pre in
-      let args = c .before .before .before .before .before .before .before .before .before .before .before .before .before .before .before .before .before .before .before .before .args in
-      let word-at = c .before .before .before .before .before .before .before .before .before .before .before .before .before .before .word-at in
-      let class-at = c .before .before .before .before .before .before .before .before .before .before .before .before .before .class-at in
-      let take-tag = c .before .before .before .before .before .before .before .before .before .before .before .before .take-tag in
-      let if1 = c .before .before .before .before .before .before .before .before .before .before .if1 in
-      let if2 = c .before .before .before .before .before .before .before .before .before .if2 in
-      let if3 = c .before .before .before .before .before .before .before .if3 in
-      let loop = c .before .before .before .before .before .loop in
+      let good = c .before .before .before .before .before .before .before .before .before .before .before .before .before .before .before .before .before .before .before .before .before .before .good in
+      let fits = c .before .before .before .before .before .before .before .before .before .before .before .before .before .before .before .before .before .before .before .before .before .before .fits in
+      let pre = c .before .before .before .before .before .before .before .before .before .before .before .before .before .before .before .before .before .before .before .before .before .before .pre in
+      let args = c .before .before .before .before .before .before .before .before .before .before .before .before .before .before .before .before .before .before .before .before .before .before .args in
+      let word-at = c .before .before .before .before .before .before .before .before .before .before .before .before .before .before .before .before .word-at in
+      let class-at = c .before .before .before .before .before .before .before .before .before .before .before .before .before .before .class-at in
+      let take-tag = c .before .before .before .before .before .before .before .before .before .before .before .before .before .take-tag in
+      let if1 = c .before .before .before .before .before .before .before .before .before .before .before .if1 in
+      let if2 = c .before .before .before .before .before .before .before .before .before .before .if2 in
+      let if3 = c .before .before .before .before .before .before .before .before .if3 in
+      let loop = c .before .before .before .before .before .before .loop in
       let g = loop .inv .housed (start-housed (bitsOfBytes (args .key .now)) (length (args .nodes .now)) (length (args .names .now)) (length (args .text .now)) (args .forms .now) (args .class) (args .p) (pre .1 .1) (word-at .result) (word-at .ensures .0) (class-at .result) (class-at .ensures) (take-tag .result) (take-tag .ensures) (if1 .left) (args .left) (args .left - 1) (before-one (args .left) (if2 .left)) (args .p .nodes - 1) (before-one (args .p .nodes) (if3 .left))) in let i = pre .1 .1 .inside in (omega (arith, g .nodes-fit), omega arith, omega arith, omega (arith, g .in-nodes, loop .inv .nodes-same, good, fits), omega (arith, i .few-names, i .few-chars, i .in-key, pre .1 .0, length-bytes (args .key .now)))
 
-  pub add-t29 : lts.Need-add-t29 (R t) (take-node-at t) take-node.Post Inv-loop μ-loop
-  add-t29 c =
-      let good = c .before .before .before .before .before .before .before .before .before .before .before .before .before .before .before .before .before .before .before .before .before .before .before .before .good in
-      let fits = c .before .before .before .before .before .before .before .before .before .before .before .before .before .before .before .before .before .before .before .before .before .before .before .before .fits in
-      let pre = c .before .before .before .before .before .before .before .before .before .before .before .before .before .before .before .before .before .before .before .before .before .before .before .before .pre in
-      let args = c .before .before .before .before .before .before .before .before .before .before .before .before .before .before .before .before .before .before .before .before .before .before .before .before .args in
-      let word-at = c .before .before .before .before .before .before .before .before .before .before .before .before .before .before .before .before .before .before .word-at in
-      let class-at = c .before .before .before .before .before .before .before .before .before .before .before .before .before .before .before .before .before .class-at in
-      let take-tag = c .before .before .before .before .before .before .before .before .before .before .before .before .before .before .before .before .take-tag in
-      let if1 = c .before .before .before .before .before .before .before .before .before .before .before .before .before .before .if1 in
-      let if2 = c .before .before .before .before .before .before .before .before .before .before .before .before .before .if2 in
-      let if3 = c .before .before .before .before .before .before .before .before .before .before .before .if3 in
-      let loop = c .before .before .before .before .before .before .before .before .before .loop in
+  pub add-t35 : lts.Need-add-t35 (R t) (take-node-at t) take-node.Post Inv-loop μ-loop
+  add-t35 c =
+      let good = c .before .before .before .before .before .before .before .before .before .before .before .before .before .before .before .before .before .before .before .before .before .before .before .before .before .before .good in
+      let fits = c .before .before .before .before .before .before .before .before .before .before .before .before .before .before .before .before .before .before .before .before .before .before .before .before .before .before .fits in
+      let pre = c .before .before .before .before .before .before .before .before .before .before .before .before .before .before .before .before .before .before .before .before .before .before .before .before .before .before .pre in
+      let args = c .before .before .before .before .before .before .before .before .before .before .before .before .before .before .before .before .before .before .before .before .before .before .before .before .before .before .args in
+      let word-at = c .before .before .before .before .before .before .before .before .before .before .before .before .before .before .before .before .before .before .before .before .word-at in
+      let class-at = c .before .before .before .before .before .before .before .before .before .before .before .before .before .before .before .before .before .before .class-at in
+      let take-tag = c .before .before .before .before .before .before .before .before .before .before .before .before .before .before .before .before .before .take-tag in
+      let if1 = c .before .before .before .before .before .before .before .before .before .before .before .before .before .before .before .if1 in
+      let if2 = c .before .before .before .before .before .before .before .before .before .before .before .before .before .before .if2 in
+      let if3 = c .before .before .before .before .before .before .before .before .before .before .before .before .if3 in
+      let loop = c .before .before .before .before .before .before .before .before .before .before .loop in
       let g = loop .inv .housed (start-housed (bitsOfBytes (args .key .now)) (length (args .nodes .now)) (length (args .names .now)) (length (args .text .now)) (args .forms .now) (args .class) (args .p) (pre .1 .1) (word-at .result) (word-at .ensures .0) (class-at .result) (class-at .ensures) (take-tag .result) (take-tag .ensures) (if1 .left) (args .left) (args .left - 1) (before-one (args .left) (if2 .left)) (args .p .nodes - 1) (before-one (args .p .nodes) (if3 .left))) in omega (arith, g .nodes-fit, loop .inv .nodes-same, good, fits)
 
   pub same-length : lts.Need-same-length (R t) (take-node-at t) take-node.Post Inv-loop μ-loop
   same-length c =
-      let loop = c .before .before .before .before .before .before .before .before .before .loop in
+      let loop = c .before .before .before .before .before .before .before .before .before .before .loop in
       let append-node = c .before .before .before .append-node in
       append-node .kept .0 ∙ loop .inv .nodes-same
 
   pub same-length-2 : lts.Need-same-length-2 (R t) (take-node-at t) take-node.Post Inv-loop μ-loop
   same-length-2 c =
-      let loop = c .before .before .before .before .before .before .before .before .before .loop in
+      let loop = c .before .before .before .before .before .before .before .before .before .before .loop in
       loop .inv .names-same
 
   pub same-length-3 : lts.Need-same-length-3 (R t) (take-node-at t) take-node.Post Inv-loop μ-loop
   same-length-3 c =
-      let loop = c .before .before .before .before .before .before .before .before .before .loop in
+      let loop = c .before .before .before .before .before .before .before .before .before .before .loop in
       loop .inv .text-same
 
   pub returns-4 : lts.Need-returns-4 (R t) (take-node-at t) take-node.Post Inv-loop μ-loop
   returns-4 c =
-      let pre = c .before .before .before .before .before .before .before .before .before .before .before .before .before .before .before .before .before .before .before .before .before .before .before .before .pre in
-      let args = c .before .before .before .before .before .before .before .before .before .before .before .before .before .before .before .before .before .before .before .before .before .before .before .before .args in
-      let word-at = c .before .before .before .before .before .before .before .before .before .before .before .before .before .before .before .before .before .before .word-at in
-      let class-at = c .before .before .before .before .before .before .before .before .before .before .before .before .before .before .before .before .before .class-at in
-      let take-tag = c .before .before .before .before .before .before .before .before .before .before .before .before .before .before .before .before .take-tag in
-      let if1 = c .before .before .before .before .before .before .before .before .before .before .before .before .before .before .if1 in
-      let if2 = c .before .before .before .before .before .before .before .before .before .before .before .before .before .if2 in
-      let if3 = c .before .before .before .before .before .before .before .before .before .before .before .if3 in
-      let loop = c .before .before .before .before .before .before .before .before .before .loop in
-      let loop-test = c .before .before .before .before .before .before .before .before .loop-test in
+      let pre = c .before .before .before .before .before .before .before .before .before .before .before .before .before .before .before .before .before .before .before .before .before .before .before .before .before .before .pre in
+      let args = c .before .before .before .before .before .before .before .before .before .before .before .before .before .before .before .before .before .before .before .before .before .before .before .before .before .before .args in
+      let word-at = c .before .before .before .before .before .before .before .before .before .before .before .before .before .before .before .before .before .before .before .before .word-at in
+      let class-at = c .before .before .before .before .before .before .before .before .before .before .before .before .before .before .before .before .before .before .class-at in
+      let take-tag = c .before .before .before .before .before .before .before .before .before .before .before .before .before .before .before .before .before .take-tag in
+      let if1 = c .before .before .before .before .before .before .before .before .before .before .before .before .before .before .before .if1 in
+      let if2 = c .before .before .before .before .before .before .before .before .before .before .before .before .before .before .if2 in
+      let if3 = c .before .before .before .before .before .before .before .before .before .before .before .before .if3 in
+      let loop = c .before .before .before .before .before .before .before .before .before .before .loop in
+      let loop-test = c .before .before .before .before .before .before .before .before .before .loop-test in
       let row-at = c .before .before .before .before .before .before .before .row-at in
       let if4 = c .before .before .before .before .before .before .if4 in
       let append-node = c .before .before .before .append-node in
@@ -188,50 +188,50 @@ module _ (t : ℕ) where
 
   pub take-nodes-requires : lts.Need-take-nodes-requires (R t) (take-node-at t) take-node.Post Inv-loop μ-loop
   take-nodes-requires c κs =
-      let pre = c .before .before .before .before .before .before .before .before .before .before .before .before .before .before .before .before .before .before .before .before .before .before .pre in
-      let args = c .before .before .before .before .before .before .before .before .before .before .before .before .before .before .before .before .before .before .before .before .before .before .args in
-      let word-at = c .before .before .before .before .before .before .before .before .before .before .before .before .before .before .before .before .word-at in
-      let class-at = c .before .before .before .before .before .before .before .before .before .before .before .before .before .before .before .class-at in
-      let take-tag = c .before .before .before .before .before .before .before .before .before .before .before .before .before .before .take-tag in
-      let if1 = c .before .before .before .before .before .before .before .before .before .before .before .before .if1 in
-      let if2 = c .before .before .before .before .before .before .before .before .before .before .before .if2 in
-      let if3 = c .before .before .before .before .before .before .before .before .before .if3 in
-      let loop = c .before .before .before .before .before .before .before .loop in
-      let loop-test = c .before .before .before .before .before .before .loop-test in
+      let pre = c .before .before .before .before .before .before .before .before .before .before .before .before .before .before .before .before .before .before .before .before .before .before .before .before .pre in
+      let args = c .before .before .before .before .before .before .before .before .before .before .before .before .before .before .before .before .before .before .before .before .before .before .before .before .args in
+      let word-at = c .before .before .before .before .before .before .before .before .before .before .before .before .before .before .before .before .before .before .word-at in
+      let class-at = c .before .before .before .before .before .before .before .before .before .before .before .before .before .before .before .before .class-at in
+      let take-tag = c .before .before .before .before .before .before .before .before .before .before .before .before .before .before .before .take-tag in
+      let if1 = c .before .before .before .before .before .before .before .before .before .before .before .before .before .if1 in
+      let if2 = c .before .before .before .before .before .before .before .before .before .before .before .before .if2 in
+      let if3 = c .before .before .before .before .before .before .before .before .before .before .if3 in
+      let loop = c .before .before .before .before .before .before .before .before .loop in
+      let loop-test = c .before .before .before .before .before .before .before .loop-test in
       let row-at = c .before .before .before .before .before .row-at in
       let z = later (loop .depth) (loop-test .taken) in
       (omega (arith, pre .0, if2 .left), (pre .1 .0, steady-as (loop .inv .steady) (loop .inv .names-same) (loop .inv .text-same), loop .inv .housed (start-housed (bitsOfBytes (args .key .now)) (length (args .nodes .now)) (length (args .names .now)) (length (args .text .now)) (args .forms .now) (args .class) (args .p) (pre .1 .1) (word-at .result) (word-at .ensures .0) (class-at .result) (class-at .ensures) (take-tag .result) (take-tag .ensures) (if1 .left) (args .left) (args .left - 1) (before-one (args .left) (if2 .left)) (args .p .nodes - 1) (before-one (args .p .nodes) (if3 .left))), row-sized (args .forms .now) (loop .s .form) (row-at .ensures) (pre .1 .1 .slim .narrow), pre .1 .1 .slim))
 
   pub same-length-4 : lts.Need-same-length-4 (R t) (take-node-at t) take-node.Post Inv-loop μ-loop
   same-length-4 c =
-      let loop = c .before .before .before .before .before .before .before .before .before .before .before .before .before .before .before .before .before .loop in
+      let loop = c .before .before .before .before .before .before .before .before .before .before .before .before .before .before .before .before .before .before .loop in
       let take-nodes = c .before .before .before .before .before .before .before .before .before .take-nodes in
       take-nodes .kept .1 .1 .0 ∙ loop .inv .nodes-same
 
   pub same-length-5 : lts.Need-same-length-5 (R t) (take-node-at t) take-node.Post Inv-loop μ-loop
   same-length-5 c =
-      let loop = c .before .before .before .before .before .before .before .before .before .before .before .before .before .before .before .before .before .loop in
+      let loop = c .before .before .before .before .before .before .before .before .before .before .before .before .before .before .before .before .before .before .loop in
       let take-nodes = c .before .before .before .before .before .before .before .before .before .take-nodes in
       take-nodes .kept .1 .1 .1 .0 ∙ loop .inv .names-same
 
   pub same-length-6 : lts.Need-same-length-6 (R t) (take-node-at t) take-node.Post Inv-loop μ-loop
   same-length-6 c =
-      let loop = c .before .before .before .before .before .before .before .before .before .before .before .before .before .before .before .before .before .loop in
+      let loop = c .before .before .before .before .before .before .before .before .before .before .before .before .before .before .before .before .before .before .loop in
       let take-nodes = c .before .before .before .before .before .before .before .before .before .take-nodes in
       take-nodes .kept .1 .1 .1 .1 .0 ∙ loop .inv .text-same
 
   pub returns-5 : lts.Need-returns-5 (R t) (take-node-at t) take-node.Post Inv-loop μ-loop
   returns-5 c =
-      let pre = c .before .before .before .before .before .before .before .before .before .before .before .before .before .before .before .before .before .before .before .before .before .before .before .before .before .before .before .before .before .before .before .before .pre in
-      let args = c .before .before .before .before .before .before .before .before .before .before .before .before .before .before .before .before .before .before .before .before .before .before .before .before .before .before .before .before .before .before .before .before .args in
-      let word-at = c .before .before .before .before .before .before .before .before .before .before .before .before .before .before .before .before .before .before .before .before .before .before .before .before .before .before .word-at in
-      let class-at = c .before .before .before .before .before .before .before .before .before .before .before .before .before .before .before .before .before .before .before .before .before .before .before .before .before .class-at in
-      let take-tag = c .before .before .before .before .before .before .before .before .before .before .before .before .before .before .before .before .before .before .before .before .before .before .before .before .take-tag in
-      let if1 = c .before .before .before .before .before .before .before .before .before .before .before .before .before .before .before .before .before .before .before .before .before .before .if1 in
-      let if2 = c .before .before .before .before .before .before .before .before .before .before .before .before .before .before .before .before .before .before .before .before .before .if2 in
-      let if3 = c .before .before .before .before .before .before .before .before .before .before .before .before .before .before .before .before .before .before .before .if3 in
-      let loop = c .before .before .before .before .before .before .before .before .before .before .before .before .before .before .before .before .before .loop in
-      let loop-test = c .before .before .before .before .before .before .before .before .before .before .before .before .before .before .before .before .loop-test in
+      let pre = c .before .before .before .before .before .before .before .before .before .before .before .before .before .before .before .before .before .before .before .before .before .before .before .before .before .before .before .before .before .before .before .before .before .before .pre in
+      let args = c .before .before .before .before .before .before .before .before .before .before .before .before .before .before .before .before .before .before .before .before .before .before .before .before .before .before .before .before .before .before .before .before .before .before .args in
+      let word-at = c .before .before .before .before .before .before .before .before .before .before .before .before .before .before .before .before .before .before .before .before .before .before .before .before .before .before .before .before .word-at in
+      let class-at = c .before .before .before .before .before .before .before .before .before .before .before .before .before .before .before .before .before .before .before .before .before .before .before .before .before .before .class-at in
+      let take-tag = c .before .before .before .before .before .before .before .before .before .before .before .before .before .before .before .before .before .before .before .before .before .before .before .before .before .take-tag in
+      let if1 = c .before .before .before .before .before .before .before .before .before .before .before .before .before .before .before .before .before .before .before .before .before .before .before .if1 in
+      let if2 = c .before .before .before .before .before .before .before .before .before .before .before .before .before .before .before .before .before .before .before .before .before .before .if2 in
+      let if3 = c .before .before .before .before .before .before .before .before .before .before .before .before .before .before .before .before .before .before .before .before .if3 in
+      let loop = c .before .before .before .before .before .before .before .before .before .before .before .before .before .before .before .before .before .before .loop in
+      let loop-test = c .before .before .before .before .before .before .before .before .before .before .before .before .before .before .before .before .before .loop-test in
       let row-at = c .before .before .before .before .before .before .before .before .before .before .before .before .before .before .before .row-at in
       let if5 = c .before .before .before .before .before .before .before .before .before .before .before .before .before .if5 in
       let take-nodes = c .before .before .before .before .before .before .before .before .before .take-nodes in
@@ -243,9 +243,9 @@ module _ (t : ℕ) where
 
   pub loop-again : lts.Need-loop-again (R t) (take-node-at t) take-node.Post Inv-loop μ-loop
   loop-again c =
-      let args = c .before .before .before .before .before .before .before .before .before .before .before .before .before .before .before .before .before .before .before .before .before .before .before .before .before .before .before .before .before .before .before .before .args in
-      let loop = c .before .before .before .before .before .before .before .before .before .before .before .before .before .before .before .before .before .loop in
-      let loop-test = c .before .before .before .before .before .before .before .before .before .before .before .before .before .before .before .before .loop-test in
+      let args = c .before .before .before .before .before .before .before .before .before .before .before .before .before .before .before .before .before .before .before .before .before .before .before .before .before .before .before .before .before .before .before .before .before .before .args in
+      let loop = c .before .before .before .before .before .before .before .before .before .before .before .before .before .before .before .before .before .before .loop in
+      let loop-test = c .before .before .before .before .before .before .before .before .before .before .before .before .before .before .before .before .before .loop-test in
       let row-at = c .before .before .before .before .before .before .before .before .before .before .before .before .before .before .before .row-at in
       let if5 = c .before .before .before .before .before .before .before .before .before .before .before .before .before .if5 in
       let take-nodes = c .before .before .before .before .before .before .before .before .before .take-nodes in
@@ -254,10 +254,10 @@ module _ (t : ℕ) where
 
   pub take-plain-requires : lts.Need-take-plain-requires (R t) (take-node-at t) take-node.Post Inv-loop μ-loop
   take-plain-requires c κs =
-      let pre = c .before .before .before .before .before .before .before .before .before .before .before .before .before .before .before .before .before .before .before .before .before .pre in
-      let args = c .before .before .before .before .before .before .before .before .before .before .before .before .before .before .before .before .before .before .before .before .before .args in
-      let loop = c .before .before .before .before .before .before .loop in
-      let loop-test = c .before .before .before .before .before .loop-test in
+      let pre = c .before .before .before .before .before .before .before .before .before .before .before .before .before .before .before .before .before .before .before .before .before .before .before .pre in
+      let args = c .before .before .before .before .before .before .before .before .before .before .before .before .before .before .before .before .before .before .before .before .before .before .before .args in
+      let loop = c .before .before .before .before .before .before .before .loop in
+      let loop-test = c .before .before .before .before .before .before .loop-test in
       let row-at = c .before .before .before .before .row-at in
       let if4 = c .before .before .before .if4 in
       let if5 = c .before .before .if5 in
@@ -265,33 +265,33 @@ module _ (t : ℕ) where
 
   pub same-length-7 : lts.Need-same-length-7 (R t) (take-node-at t) take-node.Post Inv-loop μ-loop
   same-length-7 c =
-      let loop = c .before .before .before .before .before .before .before .before .before .before .before .before .before .before .loop in
+      let loop = c .before .before .before .before .before .before .before .before .before .before .before .before .before .before .before .loop in
       loop .inv .nodes-same
 
   pub same-length-8 : lts.Need-same-length-8 (R t) (take-node-at t) take-node.Post Inv-loop μ-loop
   same-length-8 c =
-      let loop = c .before .before .before .before .before .before .before .before .before .before .before .before .before .before .loop in
+      let loop = c .before .before .before .before .before .before .before .before .before .before .before .before .before .before .before .loop in
       let take-plain = c .before .before .before .before .before .before .before .take-plain in
       take-plain .kept .1 .1 .0 ∙ loop .inv .names-same
 
   pub same-length-9 : lts.Need-same-length-9 (R t) (take-node-at t) take-node.Post Inv-loop μ-loop
   same-length-9 c =
-      let loop = c .before .before .before .before .before .before .before .before .before .before .before .before .before .before .loop in
+      let loop = c .before .before .before .before .before .before .before .before .before .before .before .before .before .before .before .loop in
       let take-plain = c .before .before .before .before .before .before .before .take-plain in
       take-plain .kept .1 .1 .1 .0 ∙ loop .inv .text-same
 
   pub returns-6 : lts.Need-returns-6 (R t) (take-node-at t) take-node.Post Inv-loop μ-loop
   returns-6 c =
-      let pre = c .before .before .before .before .before .before .before .before .before .before .before .before .before .before .before .before .before .before .before .before .before .before .before .before .before .before .before .before .before .pre in
-      let args = c .before .before .before .before .before .before .before .before .before .before .before .before .before .before .before .before .before .before .before .before .before .before .before .before .before .before .before .before .before .args in
-      let word-at = c .before .before .before .before .before .before .before .before .before .before .before .before .before .before .before .before .before .before .before .before .before .before .before .word-at in
-      let class-at = c .before .before .before .before .before .before .before .before .before .before .before .before .before .before .before .before .before .before .before .before .before .before .class-at in
-      let take-tag = c .before .before .before .before .before .before .before .before .before .before .before .before .before .before .before .before .before .before .before .before .before .take-tag in
-      let if1 = c .before .before .before .before .before .before .before .before .before .before .before .before .before .before .before .before .before .before .before .if1 in
-      let if2 = c .before .before .before .before .before .before .before .before .before .before .before .before .before .before .before .before .before .before .if2 in
-      let if3 = c .before .before .before .before .before .before .before .before .before .before .before .before .before .before .before .before .if3 in
-      let loop = c .before .before .before .before .before .before .before .before .before .before .before .before .before .before .loop in
-      let loop-test = c .before .before .before .before .before .before .before .before .before .before .before .before .before .loop-test in
+      let pre = c .before .before .before .before .before .before .before .before .before .before .before .before .before .before .before .before .before .before .before .before .before .before .before .before .before .before .before .before .before .before .before .pre in
+      let args = c .before .before .before .before .before .before .before .before .before .before .before .before .before .before .before .before .before .before .before .before .before .before .before .before .before .before .before .before .before .before .before .args in
+      let word-at = c .before .before .before .before .before .before .before .before .before .before .before .before .before .before .before .before .before .before .before .before .before .before .before .before .before .word-at in
+      let class-at = c .before .before .before .before .before .before .before .before .before .before .before .before .before .before .before .before .before .before .before .before .before .before .before .class-at in
+      let take-tag = c .before .before .before .before .before .before .before .before .before .before .before .before .before .before .before .before .before .before .before .before .before .before .take-tag in
+      let if1 = c .before .before .before .before .before .before .before .before .before .before .before .before .before .before .before .before .before .before .before .before .if1 in
+      let if2 = c .before .before .before .before .before .before .before .before .before .before .before .before .before .before .before .before .before .before .before .if2 in
+      let if3 = c .before .before .before .before .before .before .before .before .before .before .before .before .before .before .before .before .before .if3 in
+      let loop = c .before .before .before .before .before .before .before .before .before .before .before .before .before .before .before .loop in
+      let loop-test = c .before .before .before .before .before .before .before .before .before .before .before .before .before .before .loop-test in
       let row-at = c .before .before .before .before .before .before .before .before .before .before .before .before .row-at in
       let take-plain = c .before .before .before .before .before .before .before .take-plain in
       let if7 = c .if7 in
@@ -302,9 +302,9 @@ module _ (t : ℕ) where
 
   pub loop-again-2 : lts.Need-loop-again-2 (R t) (take-node-at t) take-node.Post Inv-loop μ-loop
   loop-again-2 c =
-      let args = c .before .before .before .before .before .before .before .before .before .before .before .before .before .before .before .before .before .before .before .before .before .before .before .before .before .before .before .before .before .args in
-      let loop = c .before .before .before .before .before .before .before .before .before .before .before .before .before .before .loop in
-      let loop-test = c .before .before .before .before .before .before .before .before .before .before .before .before .before .loop-test in
+      let args = c .before .before .before .before .before .before .before .before .before .before .before .before .before .before .before .before .before .before .before .before .before .before .before .before .before .before .before .before .before .before .before .args in
+      let loop = c .before .before .before .before .before .before .before .before .before .before .before .before .before .before .before .loop in
+      let loop-test = c .before .before .before .before .before .before .before .before .before .before .before .before .before .before .loop-test in
       let row-at = c .before .before .before .before .before .before .before .before .before .before .before .before .row-at in
       let take-plain = c .before .before .before .before .before .before .before .take-plain in
       let if7 = c .if7 in
@@ -330,9 +330,9 @@ module _ (t : ℕ) where
 
   pub returns-7 : lts.Need-returns-7 (R t) (take-node-at t) take-node.Post Inv-loop μ-loop
   returns-7 c =
-      let pre = c .before .before .before .before .before .before .before .before .before .before .before .before .before .before .before .before .before .before .pre in
-      let args = c .before .before .before .before .before .before .before .before .before .before .before .before .before .before .before .before .before .before .args in
-      let word-at = c .before .before .before .before .before .before .before .before .before .before .before .before .word-at in
+      let pre = c .before .before .before .before .before .before .before .before .before .before .before .before .before .before .before .before .before .before .before .pre in
+      let args = c .before .before .before .before .before .before .before .before .before .before .before .before .before .before .before .before .before .before .before .args in
+      let word-at = c .before .before .before .before .before .before .before .before .before .before .before .before .before .word-at in
       let class-at = c .before .before .before .before .before .before .before .before .before .before .before .class-at in
       let take-tag = c .before .before .before .before .before .before .before .before .before .before .take-tag in
       let if1 = c .before .before .before .before .before .before .before .before .if1 in

@@ -29,14 +29,14 @@ abbrev pub μ-loop : lts.MeasureT-loop
 module _ (t : ℕ) where
   pub loop-holds : lts.Need-loop-holds (R t) (take-nodes-at t) take-nodes.Post Inv-loop μ-loop
   loop-holds c =
-      let pre = c .before .before .before .before .before .pre in
-      let args = c .before .before .before .before .before .args in
+      let pre = c .before .before .before .before .pre in
+      let args = c .before .before .before .before .args in
       kids-none (bitsOfBytes (args .key .now)) (length (args .names .now)) (length (args .text .now)) (grammarOf (args .forms .now)) (args .left) (args .r) (args .s) (args .nodes .now) (args .names .now) (args .text .now) (pre .1 .1)
 
   pub take-node-requires : lts.Need-take-node-requires (R t) (take-nodes-at t) take-nodes.Post Inv-loop μ-loop
   take-node-requires c κs =
-      let pre = c .before .before .before .before .before .before .before .before .before .before .before .pre in
-      let args = c .before .before .before .before .before .before .before .before .before .before .before .args in
+      let pre = c .before .before .before .before .before .before .before .before .before .before .pre in
+      let args = c .before .before .before .before .before .before .before .before .before .before .args in
       let loop = c .before .before .before .before .before .loop in (
         omega (arith, pre .0),
         (
@@ -55,28 +55,28 @@ module _ (t : ℕ) where
 
   pub same-length : lts.Need-same-length (R t) (take-nodes-at t) take-nodes.Post Inv-loop μ-loop
   same-length c =
-      let args = c .before .before .before .before .before .before .before .before .before .before .before .before .before .before .before .before .before .before .before .before .before .args in
+      let args = c .before .before .before .before .before .before .before .before .before .before .before .before .before .before .before .before .before .before .before .before .args in
       let loop = c .before .before .before .before .before .before .before .before .before .before .before .before .before .before .before .loop in
       let take-node = c .before .before .before .before .before .before .before .before .before .take-node in
       take-node .kept .1 .1 .0 ∙ kids-nodes (bitsOfBytes (args .key .now)) (length (args .names .now)) (length (args .text .now)) (grammarOf (args .forms .now)) (args .left) (args .r) (args .s) (args .nodes .now) (args .names .now) (args .text .now) (loop .inv)
 
   pub same-length-2 : lts.Need-same-length-2 (R t) (take-nodes-at t) take-nodes.Post Inv-loop μ-loop
   same-length-2 c =
-      let args = c .before .before .before .before .before .before .before .before .before .before .before .before .before .before .before .before .before .before .before .before .before .args in
+      let args = c .before .before .before .before .before .before .before .before .before .before .before .before .before .before .before .before .before .before .before .before .args in
       let loop = c .before .before .before .before .before .before .before .before .before .before .before .before .before .before .before .loop in
       let take-node = c .before .before .before .before .before .before .before .before .before .take-node in
       take-node .kept .1 .1 .1 .0 ∙ kids-names (bitsOfBytes (args .key .now)) (length (args .names .now)) (length (args .text .now)) (grammarOf (args .forms .now)) (args .left) (args .r) (args .s) (args .nodes .now) (args .names .now) (args .text .now) (loop .inv)
 
   pub same-length-3 : lts.Need-same-length-3 (R t) (take-nodes-at t) take-nodes.Post Inv-loop μ-loop
   same-length-3 c =
-      let args = c .before .before .before .before .before .before .before .before .before .before .before .before .before .before .before .before .before .before .before .before .before .args in
+      let args = c .before .before .before .before .before .before .before .before .before .before .before .before .before .before .before .before .before .before .before .before .args in
       let loop = c .before .before .before .before .before .before .before .before .before .before .before .before .before .before .before .loop in
       let take-node = c .before .before .before .before .before .before .before .before .before .take-node in
       take-node .kept .1 .1 .1 .1 .0 ∙ kids-text (bitsOfBytes (args .key .now)) (length (args .names .now)) (length (args .text .now)) (grammarOf (args .forms .now)) (args .left) (args .r) (args .s) (args .nodes .now) (args .names .now) (args .text .now) (loop .inv)
 
   pub returns : lts.Need-returns (R t) (take-nodes-at t) take-nodes.Post Inv-loop μ-loop
   returns c =
-      let args = c .before .before .before .before .before .before .before .before .before .before .before .before .before .before .before .before .before .before .before .before .before .args in
+      let args = c .before .before .before .before .before .before .before .before .before .before .before .before .before .before .before .before .before .before .before .before .args in
       let loop = c .before .before .before .before .before .before .before .before .before .before .before .before .before .before .before .loop in
       let loop-test = c .before .before .before .before .before .before .before .before .before .before .before .before .before .before .loop-test in
       let take-node = c .before .before .before .before .before .before .before .before .before .take-node in
@@ -86,8 +86,8 @@ module _ (t : ℕ) where
 
   pub link-child-requires : lts.Need-link-child-requires (R t) (take-nodes-at t) take-nodes.Post Inv-loop μ-loop
   link-child-requires c κs =
-      let pre = c .before .before .before .before .before .before .before .before .before .before .before .before .before .before .before .before .before .before .before .before .before .pre in
-      let args = c .before .before .before .before .before .before .before .before .before .before .before .before .before .before .before .before .before .before .before .before .before .args in
+      let pre = c .before .before .before .before .before .before .before .before .before .before .before .before .before .before .before .before .before .before .before .before .pre in
+      let args = c .before .before .before .before .before .before .before .before .before .before .before .before .before .before .before .before .before .before .before .before .args in
       let loop = c .before .before .before .before .before .before .before .before .before .before .before .before .before .before .before .loop in
       let take-node = c .before .before .before .before .before .before .before .before .before .take-node in
       let if1 = c .before .if1 in
@@ -98,8 +98,8 @@ module _ (t : ℕ) where
 
   pub take-after-requires : lts.Need-take-after-requires (R t) (take-nodes-at t) take-nodes.Post Inv-loop μ-loop
   take-after-requires c κs =
-      let pre = c .before .before .before .before .before .before .before .before .before .before .before .before .before .before .before .before .before .before .before .before .before .before .before .before .before .before .pre in
-      let args = c .before .before .before .before .before .before .before .before .before .before .before .before .before .before .before .before .before .before .before .before .before .before .before .before .before .before .args in
+      let pre = c .before .before .before .before .before .before .before .before .before .before .before .before .before .before .before .before .before .before .before .before .before .before .before .before .before .pre in
+      let args = c .before .before .before .before .before .before .before .before .before .before .before .before .before .before .before .before .before .before .before .before .before .before .before .before .before .args in
       let loop = c .before .before .before .before .before .before .before .before .before .before .before .before .before .before .before .before .before .before .before .before .loop in
       let loop-test = c .before .before .before .before .before .before .before .before .before .before .before .before .before .before .before .before .before .before .before .loop-test in
       let take-node = c .before .before .before .before .before .before .before .before .before .before .before .before .before .before .take-node in
@@ -110,7 +110,7 @@ module _ (t : ℕ) where
 
   pub same-length-4 : lts.Need-same-length-4 (R t) (take-nodes-at t) take-nodes.Post Inv-loop μ-loop
   same-length-4 c =
-      let args = c .before .before .before .before .before .before .before .before .before .before .before .before .before .before .before .before .before .before .before .before .before .before .before .before .before .before .before .before .before .before .before .before .before .before .args in
+      let args = c .before .before .before .before .before .before .before .before .before .before .before .before .before .before .before .before .before .before .before .before .before .before .before .before .before .before .before .before .before .before .before .before .before .args in
       let loop = c .before .before .before .before .before .before .before .before .before .before .before .before .before .before .before .before .before .before .before .before .before .before .before .before .before .before .before .before .loop in
       let take-node = c .before .before .before .before .before .before .before .before .before .before .before .before .before .before .before .before .before .before .before .before .before .before .take-node in
       let link-child = c .before .before .before .before .before .before .before .before .before .before .before .before .link-child in
@@ -118,7 +118,7 @@ module _ (t : ℕ) where
 
   pub same-length-5 : lts.Need-same-length-5 (R t) (take-nodes-at t) take-nodes.Post Inv-loop μ-loop
   same-length-5 c =
-      let args = c .before .before .before .before .before .before .before .before .before .before .before .before .before .before .before .before .before .before .before .before .before .before .before .before .before .before .before .before .before .before .before .before .before .before .args in
+      let args = c .before .before .before .before .before .before .before .before .before .before .before .before .before .before .before .before .before .before .before .before .before .before .before .before .before .before .before .before .before .before .before .before .before .args in
       let loop = c .before .before .before .before .before .before .before .before .before .before .before .before .before .before .before .before .before .before .before .before .before .before .before .before .before .before .before .before .loop in
       let take-node = c .before .before .before .before .before .before .before .before .before .before .before .before .before .before .before .before .before .before .before .before .before .before .take-node in
       let take-after = c .before .before .before .before .before .before .before .take-after in
@@ -126,7 +126,7 @@ module _ (t : ℕ) where
 
   pub same-length-6 : lts.Need-same-length-6 (R t) (take-nodes-at t) take-nodes.Post Inv-loop μ-loop
   same-length-6 c =
-      let args = c .before .before .before .before .before .before .before .before .before .before .before .before .before .before .before .before .before .before .before .before .before .before .before .before .before .before .before .before .before .before .before .before .before .before .args in
+      let args = c .before .before .before .before .before .before .before .before .before .before .before .before .before .before .before .before .before .before .before .before .before .before .before .before .before .before .before .before .before .before .before .before .before .args in
       let loop = c .before .before .before .before .before .before .before .before .before .before .before .before .before .before .before .before .before .before .before .before .before .before .before .before .before .before .before .before .loop in
       let take-node = c .before .before .before .before .before .before .before .before .before .before .before .before .before .before .before .before .before .before .before .before .before .before .take-node in
       let take-after = c .before .before .before .before .before .before .before .take-after in
@@ -134,7 +134,7 @@ module _ (t : ℕ) where
 
   pub returns-2 : lts.Need-returns-2 (R t) (take-nodes-at t) take-nodes.Post Inv-loop μ-loop
   returns-2 c =
-      let args = c .before .before .before .before .before .before .before .before .before .before .before .before .before .before .before .before .before .before .before .before .before .before .before .before .before .before .before .before .before .before .before .before .before .before .args in
+      let args = c .before .before .before .before .before .before .before .before .before .before .before .before .before .before .before .before .before .before .before .before .before .before .before .before .before .before .before .before .before .before .before .before .before .args in
       let loop = c .before .before .before .before .before .before .before .before .before .before .before .before .before .before .before .before .before .before .before .before .before .before .before .before .before .before .before .before .loop in
       let loop-test = c .before .before .before .before .before .before .before .before .before .before .before .before .before .before .before .before .before .before .before .before .before .before .before .before .before .before .before .loop-test in
       let take-node = c .before .before .before .before .before .before .before .before .before .before .before .before .before .before .before .before .before .before .before .before .before .before .take-node in
@@ -146,7 +146,7 @@ module _ (t : ℕ) where
 
   pub add-i : lts.Need-add-i (R t) (take-nodes-at t) take-nodes.Post Inv-loop μ-loop
   add-i c =
-      let pre = c .before .before .before .before .before .before .before .before .before .before .before .before .before .before .before .before .before .before .before .before .before .before .before .before .before .before .before .before .before .before .before .before .before .before .pre in
+      let pre = c .before .before .before .before .before .before .before .before .before .before .before .before .before .before .before .before .before .before .before .before .before .before .before .before .before .before .before .before .before .before .before .before .before .pre in
       let loop-test = c .before .before .before .before .before .before .before .before .before .before .before .before .before .before .before .before .before .before .before .before .before .before .before .before .before .before .before .loop-test in
       omega (arith, loop-test .taken, pre .1 .1 .few)
 
@@ -157,7 +157,7 @@ module _ (t : ℕ) where
 
   pub loop-again : lts.Need-loop-again (R t) (take-nodes-at t) take-nodes.Post Inv-loop μ-loop
   loop-again c =
-      let args = c .before .before .before .before .before .before .before .before .before .before .before .before .before .before .before .before .before .before .before .before .before .before .before .before .before .before .before .before .before .before .before .before .before .before .args in
+      let args = c .before .before .before .before .before .before .before .before .before .before .before .before .before .before .before .before .before .before .before .before .before .before .before .before .before .before .before .before .before .before .before .before .before .args in
       let loop = c .before .before .before .before .before .before .before .before .before .before .before .before .before .before .before .before .before .before .before .before .before .before .before .before .before .before .before .before .loop in
       let loop-test = c .before .before .before .before .before .before .before .before .before .before .before .before .before .before .before .before .before .before .before .before .before .before .before .before .before .before .before .loop-test in
       let take-node = c .before .before .before .before .before .before .before .before .before .before .before .before .before .before .before .before .before .before .before .before .before .before .take-node in
@@ -169,25 +169,25 @@ module _ (t : ℕ) where
 
   pub same-length-7 : lts.Need-same-length-7 (R t) (take-nodes-at t) take-nodes.Post Inv-loop μ-loop
   same-length-7 c =
-      let args = c .before .before .before .before .before .before .before .before .args in
+      let args = c .before .before .before .before .before .before .before .args in
       let loop = c .before .before .loop in
       kids-nodes (bitsOfBytes (args .key .now)) (length (args .names .now)) (length (args .text .now)) (grammarOf (args .forms .now)) (args .left) (args .r) (args .s) (args .nodes .now) (args .names .now) (args .text .now) (loop .inv)
 
   pub same-length-8 : lts.Need-same-length-8 (R t) (take-nodes-at t) take-nodes.Post Inv-loop μ-loop
   same-length-8 c =
-      let args = c .before .before .before .before .before .before .before .before .args in
+      let args = c .before .before .before .before .before .before .before .args in
       let loop = c .before .before .loop in
       kids-names (bitsOfBytes (args .key .now)) (length (args .names .now)) (length (args .text .now)) (grammarOf (args .forms .now)) (args .left) (args .r) (args .s) (args .nodes .now) (args .names .now) (args .text .now) (loop .inv)
 
   pub same-length-9 : lts.Need-same-length-9 (R t) (take-nodes-at t) take-nodes.Post Inv-loop μ-loop
   same-length-9 c =
-      let args = c .before .before .before .before .before .before .before .before .args in
+      let args = c .before .before .before .before .before .before .before .args in
       let loop = c .before .before .loop in
       kids-text (bitsOfBytes (args .key .now)) (length (args .names .now)) (length (args .text .now)) (grammarOf (args .forms .now)) (args .left) (args .r) (args .s) (args .nodes .now) (args .names .now) (args .text .now) (loop .inv)
 
   pub returns-3 : lts.Need-returns-3 (R t) (take-nodes-at t) take-nodes.Post Inv-loop μ-loop
   returns-3 c =
-      let pre = c .before .before .before .before .before .before .before .before .pre in
-      let args = c .before .before .before .before .before .before .before .before .args in
+      let pre = c .before .before .before .before .before .before .before .pre in
+      let args = c .before .before .before .before .before .before .before .args in
       let loop = c .before .before .loop in
       kids-all (bitsOfBytes (args .key .now)) (length (args .names .now)) (length (args .text .now)) (grammarOf (args .forms .now)) (args .left) (args .r) (args .s) (args .nodes .now) (args .names .now) (args .text .now) (loop .inv) (omega arith) (pre .1 .3 .b)
