@@ -539,7 +539,6 @@ fn parts(sets: &[Set], trees: &[Trees], lent: &RefCell<Lent>) {
 #[inline(never)]
 extern "C" fn counted(job: &mut Box<dyn FnMut() + '_>) {
     job();
-    black_box(job); // so that the call above is not the last thing done, which the counter could not tell from going on
 }
 
 /// What a call takes if it is lent just what it uses, what the header says, and all that any call can use, over the first

@@ -102,8 +102,8 @@ class Bench:
         b.say("sizes", "- Key out and take back are in ns a byte of key, the others in ns a token, the Eof not counted. Measured on " + "; ".join(sizes.values()) + ".")
 
     def instructions(b):
-        """Instructions by part and by function."""
-        if not shutil.which("valgrind"):
+        """Instructions by part and by function; not on Arm, where valgrind does not see where the counted function ends."""
+        if not shutil.which("valgrind") or platform.machine() != "x86_64":
             return
         c = counts.all_counts(b.out)
         total = lambda *key: sum(c[key].values())
