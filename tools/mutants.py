@@ -134,8 +134,8 @@ def main():
         crate = Crate(name)
         if a.random:
             rng = random.Random("%d %s" % (a.seed, name))
-            for n in range(a.random):
-                changes, where = chance(crate, rng)
+            drawn = [chance(crate, rng) for _ in range(20 * a.random)]
+            for where, changes in list({where: changes for changes, where in drawn}.items())[:a.random]:
                 counts[crate.tried(where, changes)] += 1
         else:
             for e in sorted(os.listdir(os.path.join(base, name))):
