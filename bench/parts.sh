@@ -14,6 +14,8 @@ mkdir -p "$out/crates/parts_try/src"; out=$(cd "$out" && pwd -P)
 for d in "$root"/crates/*; do ln -s "$d" "$out/crates/"; done
 { cat "$root/crates.txt"; sed -n 's/^calls:/parts_try:/p' "$root/crates.txt"; } >"$out/crates.txt"
 cat >"$out/crates/parts_try/src/main.rt" <<'END'
+use checks::check::Checked;
+use checks::check::check;
 use key_out::out::put_key;
 use keys::store;
 use keys::store::clear_words;
@@ -22,8 +24,6 @@ use marks::notes::copy_notes;
 use marks::state::Given;
 use marks::state::Mark;
 use readers::ring::ty;
-use words::check::Checked;
-use words::check::check;
 use words::kind::class_words;
 use words::limits::OpenRules;
 use words::limits::Tree;

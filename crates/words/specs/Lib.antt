@@ -5,6 +5,5 @@ pub mod Kind
 pub mod Class
 pub mod Spelling
 pub mod Check
-pub mod Verdict
 pub mod Cursor
 pub mod Ahead

@@ -1,9 +1,7 @@
-// Token words: what a caller hands in, checked and looked at.
+// Token words, as a caller hands them in: their fields, their kinds, a cursor over them, look-ahead; and the limits.
 pub mod ahead;
-pub mod check;
 pub mod cursor;
 pub mod kind;
 pub mod limits;
-pub mod spelling;
 mod tables;
 pub mod token;

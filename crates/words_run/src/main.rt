@@ -1,4 +1,4 @@
-// Runs the crate `words` on each record of the file that the first argument names, and prints a line for each.
+// Runs the crates `words` and `checks` on each record of the file that the first argument names, and prints a line for each.
 // A record: op (1 byte), a, b, the text's length, the number of words (4 bytes each, lowest first), the text, the
 // words (8 bytes each, lowest first). A record that the file cuts short, or that is too large, prints `cut`.
 mod answer;

@@ -1,6 +1,6 @@
 -- The call is what the check says of it: a reading of a sound list, or a refusal.
 use mathlib.Core.Path.{sym, ap, _∙_}
-use Rattle.words.specs.Verdict.{verdict}
+use Rattle.checks.specs.Verdict.{verdict}
 use Rattle.calls.proofs.Ruled.{reads-bad}
 use borrow.Author.Needs.{needs}
 use Rattle.calls.proofs.reading.read.Statement.{statement}
