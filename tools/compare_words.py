@@ -1,5 +1,5 @@
 #!/usr/bin/env python3
-"""Runs the crate `words` beside model.py on generated lists, sound and damaged, and compares each line.
+"""Runs the crates `words` and `checks` beside model.py on generated lists, sound and damaged, and compares each line.
 
     compare_words.py [COUNT [SEED [BUILD]]]     COUNT lists (120000), SEED (1), BUILD (O3, or O0, or checked)
 

@@ -1,7 +1,7 @@
 #!/usr/bin/env python3
-"""Writes the constant tables of crates/words/src/tables.rt: class words, places of spellings, letters, guesses.
+"""Writes the constant tables: class words in crates/words/src/tables.rt; letters, places and guesses of spellings in crates/checks/src/tables.rt.
 
-    tools/tables.py          write them
+    tools/tables.py          write them (then rt fmt)
     tools/tables.py --check  say whether they are as they would be written
 
 The tables are proved to be what the definitions say; this script only spares typing them.
@@ -48,25 +48,39 @@ def array(name, kind, values):
 
 
 def tables():
+    """The tables of each crate."""
     text, places = letters()
-    yield "pub const LETTERS: [u8; %d] = *b\"%s\";\n" % (len(text), text.decode())
-    yield array("CLASSES", "u16", [classes(k) for k in range(256)])
-    yield array("PLACES", "u16", places)
-    yield array("GUESSES", "u8", guesses())
+    return {
+        "words": [array("CLASSES", "u16", [classes(k) for k in range(256)])],
+        "checks": ["pub const LETTERS: [u8; %d] = *b\"%s\";\n" % (len(text), text.decode()), array("PLACES", "u16", places), array("GUESSES", "u8", guesses())],
+    }
+
+
+def put(old, texts):
+    """A file's text with these tables in the place of those that it has under their names."""
+    for text in texts:
+        const = re.match(r"pub const \w+", text).group()
+        old, found = re.subn(const + r": .*?;\n(?=\n|\Z)", lambda _: text, old, flags=re.S)
+        if found != 1:
+            sys.exit("`%s` is there %d times" % (const, found))
+    return old
 
 
 def main():
-    path = os.path.join(ROOT, "crates", "words", "src", "tables.rt")
-    old = new = open(path).read()
-    for text in tables():
-        const = re.match(r"pub const (\w+)", text).group(1)
-        new = re.sub(r"pub const %s: \[[^\]]*\] = [^;]*;.*?\n(?=\n|$)" % const if const != "LETTERS" else r'pub const LETTERS: .*";\n', lambda _: text, new)
-    same = re.sub(r"\s", "", new) == re.sub(r"\s", "", old)
-    print("the tables are as they would be written" if same else "the tables differ" if "--check" in sys.argv else "written")
+    alike = True
+    for crate, texts in tables().items():
+        path = os.path.join(ROOT, "crates", crate, "src", "tables.rt")
+        with open(path) as f:
+            old = f.read()
+        new = put(old, texts)
+        same = re.sub(r"\s", "", new) == re.sub(r"\s", "", old)
+        alike = alike and same
+        if not same and "--check" not in sys.argv:
+            with open(path, "w") as f:
+                f.write(new)
+    print("the tables are as they would be written" if alike else "the tables differ" if "--check" in sys.argv else "written")
     if "--check" in sys.argv:
-        sys.exit(not same)
-    if not same:
-        open(path, "w").write(new)
+        sys.exit(not alike)
 
 
 main()
