@@ -1,5 +1,5 @@
 -- The three demands, sentence by sentence, of what a caller of the open calls sees, what W9 asks of the third, W4's count, and W14's positions and spaces. A text or a key is a list of bytes; trees are compared as bare values, positions aside.
--- That what is seen is `left c`, `takeBack` or `differ`, whatever is given and lent, is the promise of each call: `Reads` in `answers/specs/Reading`, `TakesBack` in Taking, `Differs` in `comparing/specs/Call`.
+-- That what is seen is `left c`, `takeBack` or `differ`, whatever is given and lent, is the promise of each call: `Reads` in `answers/specs/Reading`, `TakesBack` in `taking_back/specs/Call`, `Differs` in `comparing/specs/Call`.
 use mathlib.Core.Path.{_≡_, refl, sym, ap, _∙_, subst}
 use mathlib.Core.Logic.{_↔_}
 use mathlib.Core.Bool.{Bool, true, false}
@@ -35,16 +35,16 @@ use Rattle.comparing.specs.Call as differing
 use Rattle.differs.proofs.Theorems as pairs
 use Rattle.comparing.proofs.Keys as alike
 use Rattle.answers.specs.Reading as reading
-use Rattle.typekey.specs.Taking as taking
+use Rattle.taking_back.specs.Call as taking
 use Rattle.answers.specs.declared.reading.Reading.{Reading}
 use Rattle.answers.specs.declared.reading.Reading.the-variants as reads
 use Rattle.answers.specs.declared.reading.Reading.the-variants.{Read}
 use Rattle.comparing.specs.declared.differ.Differing.{Differing}
 use Rattle.comparing.specs.declared.differ.Differing.the-variants as compares
 use Rattle.comparing.specs.declared.differ.Differing.the-variants.{Found}
-use Rattle.typekey.specs.declared.taking.Taking.{Taking}
-use Rattle.typekey.specs.declared.taking.Taking.the-variants as takes
-use Rattle.typekey.specs.declared.taking.Taking.the-variants.{Taken}
+use Rattle.taking_back.specs.declared.call.Taking.{Taking}
+use Rattle.taking_back.specs.declared.call.Taking.the-variants as takes
+use Rattle.taking_back.specs.declared.call.Taking.the-variants.{Taken}
 
 -- ---- What a caller of `read` sees
 module _ (c : Call) (bytes : Bytes (c .text)) {z : Called} (seen : z ≡ left c) where

@@ -1,3 +1,2 @@
--- The promises of the open calls, and the three demands.
-pub mod Taking
+-- The three demands, and what W4, W9 and W14 ask.
 pub mod Demands

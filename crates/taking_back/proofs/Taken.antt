@@ -6,8 +6,8 @@ use Rattle.keys.specs.Store.{TakenBack}
 use Rattle.key_in.specs.Back.{told, Answers}
 use Rattle.key_in.specs.declared.back.Answer.{Answer}
 use Rattle.key_in.specs.declared.back.Answer.the-variants.{Taken, Refused}
-use Rattle.typekey.specs.Taking.{seen}
-use Rattle.typekey.specs.declared.taking.Taking.the-variants as taking
+use Rattle.taking_back.specs.Call.{seen}
+use Rattle.taking_back.specs.declared.call.Taking.the-variants as taking
 
 pub seen-taken : {d : TakenBack} {a : Answer} {n m x : ℕ} {N M X : List ℕ} → Answers d a N M X → a ≡ Taken n m x
     → seen (taking.Taken (record { nodes = n; names = m; letters = x })) N M X ≡ d

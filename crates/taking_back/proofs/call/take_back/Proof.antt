@@ -1,8 +1,8 @@
 -- The answer of the crate `key_in`, in other words.
-use Rattle.typekey.proofs.Taken.{seen-taken, seen-refused}
+use Rattle.taking_back.proofs.Taken.{seen-taken, seen-refused}
 use borrow.Author.Needs.{needs}
-use Rattle.typekey.proofs.taking.take_back.Statement.{statement}
-use Rattle.typekey.proofs.taking.take_back.Tie as tie
+use Rattle.taking_back.proofs.call.take_back.Statement.{statement}
+use Rattle.taking_back.proofs.call.take_back.Tie as tie
 
 take-back-requires : tie.Need-take-back-requires
 take-back-requires c κs = search needs

@@ -3,10 +3,15 @@ use mathlib.Core.Path.{_≡_}
 use mathlib.Core.List.{List}
 use Prim.Native.Nat.{ℕ}
 use lib.ListN.{length}
+use denote.Ref.{RefT}
+use denote.Triple.Both.{Both}
 use Rattle.keys.specs.Store.{Answer, back, no, TakenBack, takeBack}
-use Rattle.answers.specs.Reading.{Slice}
-use Rattle.typekey.specs.declared.taking.Taking.{Taking}
-use Rattle.typekey.specs.declared.taking.Taking.the-variants.{Taken, Refused}
+use Rattle.taking_back.specs.declared.call.Taking.{Taking}
+use Rattle.taking_back.specs.declared.call.Taking.the-variants.{Taken, Refused}
+
+-- A slice at a function's two moments.
+abbrev pub Slice : Type 0
+Slice = Both (RefT (List ℕ)) (RefT (List ℕ))
 
 -- The code's answer in the words of the definitions.
 abbrev pub answerOf : Taking → Answer

@@ -1,0 +1,2 @@
+-- What the call that takes a key back promises.
+pub mod Call
