@@ -24,7 +24,7 @@ use Rattle.keys.specs.Key.{nodeTable}
 use Rattle.differs.specs.Content.{Pair, contentOf, differences}
 use Rattle.differs.specs.Differ as differs
 use Rattle.differs.specs.Differ.{checked, begins, besides, compared, reported, differ, found}
-use Rattle.typekey_c.specs.Words.{told, toldBack, toldDifference}
+use Rattle.told.specs.Answer.{told, toldBack, toldDifference}
 
 -- ---- Reading
 
