@@ -1,28 +1,16 @@
--- The eight words by which an exported call tells its answer, and what it promises: they and all that is lent are the definition's.
-use mathlib.Core.Path.{_≡_, sym, ap, _∙_}
-use mathlib.Core.Bool.{Bool}
-use mathlib.Core.List.{List, [], _∷_}
-use Prim.Native.Nat.{ℕ, _%_}
-use lib.Dec.{eqb}
+-- What an exported call promises: the eight words that tell its answer, and all that is lent, are the definition's.
+use mathlib.Core.Path.{_≡_, sym, _∙_}
+use mathlib.Core.List.{List}
+use Prim.Native.Nat.{ℕ}
 use lib.ListN.{length}
-use Rattle.keys.specs.Store as store
 use Rattle.keys.specs.Store.{TakenBack, takeBack}
-use Rattle.rules.specs.Read as rules
 use Rattle.rules.specs.Read.{Called, read}
 use Rattle.answers.specs.Reading.{Slice, lentOf}
-use Rattle.differs.specs.Differ as differs
 use Rattle.differs.specs.Differ.{Differed, differ}
+use Rattle.told.specs.Options.{preserveParens}
+use Rattle.told.specs.Answer.{told, toldBack, toldDifference}
 
 -- ---- Reading
-
--- 0, nodes, names, diagnostics, bytes of key, the end's token and half, and type rules entered; or a refusal's number, token, half and byte. Then zeros.
-abbrev pub told : rules.Answer → List ℕ
-told (rules.reads nodes names notes at half key entered) = 0 ∷ nodes ∷ names ∷ notes ∷ key ∷ at ∷ half ∷ entered ∷ []
-told (rules.refuses number token half byte) = number ∷ token ∷ half ∷ byte ∷ 0 ∷ 0 ∷ 0 ∷ 0 ∷ []
-
--- The lowest bit of the options is preserve_parens; the others say nothing.
-abbrev pub preserveParens : ℕ → Bool
-preserveParens options = eqb (options % 2) 1
 
 -- The answer's words and the final content of all that is lent are those of a call.
 pub record TellsIn (c : Called) (A N M O K : List ℕ) : Type 0 where
@@ -46,11 +34,6 @@ one-told x y =
 
 -- ---- Taking back
 
--- 0, nodes, names and bytes of text; or a refusal's number and bit. Then zeros.
-abbrev pub toldBack : store.Answer → List ℕ
-toldBack (store.back nodes names letters) = 0 ∷ nodes ∷ names ∷ letters ∷ 0 ∷ 0 ∷ 0 ∷ 0 ∷ []
-toldBack (store.no number place) = number ∷ place ∷ 0 ∷ 0 ∷ 0 ∷ 0 ∷ 0 ∷ 0 ∷ []
-
 -- The answer's words and the final content of all that is lent are those of a key taken back.
 pub record TellsBackIn (d : TakenBack) (A N M X : List ℕ) : Type 0 where
   pub answer-is : A ≡ toldBack (d .answer)
@@ -70,11 +53,6 @@ one-told-back x y =
     (x .answer-is ∙ sym (y .answer-is), x .nodes-are ∙ sym (y .nodes-are), x .names-are ∙ sym (y .names-are), x .text-is ∙ sym (y .text-is))
 
 -- ---- What differs
-
--- 0 and the number of pairs; or a refusal's number, side and bit. Then zeros.
-abbrev pub toldDifference : differs.Answer → List ℕ
-toldDifference (differs.found pairs) = 0 ∷ pairs ∷ 0 ∷ 0 ∷ 0 ∷ 0 ∷ 0 ∷ 0 ∷ []
-toldDifference (differs.no number side bit) = number ∷ side ∷ bit ∷ 0 ∷ 0 ∷ 0 ∷ 0 ∷ 0 ∷ []
 
 -- The answer's words and the final content of the list are those of two keys compared.
 pub record TellsDifferenceIn (d : Differed) (A L : List ℕ) : Type 0 where

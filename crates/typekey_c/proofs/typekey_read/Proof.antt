@@ -4,14 +4,14 @@ use borrow.Author.Needs.{needs}
 use Rattle.typekey_c.proofs.typekey_read.Statement.{statement}
 use Rattle.typekey_c.proofs.typekey_read.Tie as tie
 
+preserve-parens-requires : tie.Need-preserve-parens-requires
+preserve-parens-requires c κs = search needs
+
 read-requires : tie.Need-read-requires
 read-requires c κs = search needs
 
-enum-known-r : tie.Need-enum-known-r
-enum-known-r c = search needs
-
-enum-known-r-2 : tie.Need-enum-known-r-2
-enum-known-r-2 c = search needs
+tell-reading-requires : tie.Need-tell-reading-requires
+tell-reading-requires c κs = search needs
 
 same-length : tie.Need-same-length
 same-length c = search needs
@@ -27,42 +27,20 @@ same-length-4 c = search needs
 
 returns : tie.Need-returns
 returns c =
-    let read = c .before .before .before .before .before .before .before .before .before .before .before .before .read in
-    let r = c .before .before .r in
-    tells (read .ensures) (r .given .1)
-
-same-length-5 : tie.Need-same-length-5
-same-length-5 c = search needs
-
-same-length-6 : tie.Need-same-length-6
-same-length-6 c = search needs
-
-same-length-7 : tie.Need-same-length-7
-same-length-7 c = search needs
-
-same-length-8 : tie.Need-same-length-8
-same-length-8 c = search needs
-
-returns-2 : tie.Need-returns-2
-returns-2 c =
-    let read = c .before .before .before .before .before .before .before .before .before .before .before .before .read in
-    let r2 = c .before .before .r2 in
-    tells (read .ensures) (r2 .given .1)
+    let preserve-parens = c .before .before .before .before .before .before .before .before .before .before .before .before .before .before .before .preserve-parens in
+    let read = c .before .before .before .before .before .before .before .before .before .before .read in
+    let tell-reading = c .tell-reading in
+    tells (rw (preserve-parens .ensures) at (read .ensures)) (tell-reading .ensures)
 
 pub typekey-read-spec : {M : Type 1} → statement M
 typekey-read-spec =
     tie.close
     (tie.spec
+    preserve-parens-requires
     read-requires
-    enum-known-r
-    enum-known-r-2
+    tell-reading-requires
     same-length
     same-length-2
     same-length-3
     same-length-4
-    returns
-    same-length-5
-    same-length-6
-    same-length-7
-    same-length-8
-    returns-2)
+    returns)
