@@ -55,6 +55,10 @@ pub record Outcomes (c : Call) (t : Placed) (s : State) : Type 0 where
   pub is : outcome (c .text) (c .words) (c .start) (c .parens) (c .lent) ≡ granted t (s .notes) (s .at) (s .half) (keyOf (bare t)) (s .tally .entered)
   pub fit : fits (c .lent) t (keyOf (bare t)) ≡ true
 
+-- What is not granted is nothing else.
+ungranted : {A : Type 0} → false ≡ true → A
+ungranted e = clash (cc)
+
 outcome-of : (c : Call) (t : Placed) (s : State) → grants (left c .answer) ≡ true → ruled c ≡ got t s → Outcomes c t s
 unfolding read
 outcome-of c t s e f = by (check (c .text) (c .words) (c .start)) refl e
@@ -63,7 +67,7 @@ outcome-of c t s e f = by (check (c .text) (c .words) (c .start)) refl e
         → grants (written (c .lent) (test b (λ _. granted t (s .notes) (s .at) (s .half) (keyOf (bare t)) (s .tally .entered)) λ _. denied noSpace 0 0 0) .answer) ≡ true
         → fits (c .lent) t (keyOf (bare t)) ≡ true
     by-fit true i j = i
-    by-fit false i j = clash (cc)
+    by-fit false i j = ungranted j
 
     by : (v : Verdict) → check (c .text) (c .words) (c .start) ≡ v
         → grants (written (c .lent) (checked (given (c .text) (c .words) (c .parens) (c .lent)) (c .start) (c .lent) v) .answer) ≡ true → Outcomes c t s
@@ -71,7 +75,7 @@ outcome-of c t s e f = by (check (c .text) (c .words) (c .start)) refl e
       where
         fit : fits (c .lent) t (keyOf (bare t)) ≡ true
         fit = by-fit (fits (c .lent) t (keyOf (bare t))) refl (rw f at j)
-    by (refused n p) i j = clash (cc)
+    by (refused n p) i j = ungranted j
 
 -- What a call on a list that passed the check leaves, by what the rules come to.
 pub left-by : (c : Call) → check (c .text) (c .words) (c .start) ≡ sound → left c ≡ written (c .lent) (keyed (given (c .text) (c .words) (c .parens) (c .lent)) (c .lent) (ruled c))
@@ -87,8 +91,8 @@ ruled-by c e = by (check (c .text) (c .words) (c .start)) (ruled c) refl e
         → grants (written (c .lent) (checked (given (c .text) (c .words) (c .parens) (c .lent)) (c .start) (c .lent) v) .answer) ≡ true
         → (t : Placed) × (s : State) × (ruled c ≡ got t s)
     by sound (got t s) i j = (t, s, i)
-    by sound (refuse n p h) i j = let k = rw i at j in clash (cc)
-    by (refused n p) r i j = clash (cc)
+    by sound (refuse n p h) i j = ungranted (rw i at j)
+    by (refused n p) r i j = ungranted j
 
 -- The key and the spellings fit what is lent.
 pub record Fit (l : Lent) (t : Placed) (key : List ℕ) : Type 0 where
@@ -179,6 +183,10 @@ check-refused text words start {n} {p} e = by (goodList text words start) e
         let y : p ≡ 0 = cc in
         rw (x, y) is-badList
 
+-- A refusal has one number, token, half and byte.
+same-refusal : {m q k d n p h b : ℕ} → refuses m q k d ≡ refuses n p h b → (m ≡ n) × (q ≡ p) × (k ≡ h) × (d ≡ b)
+same-refusal e = (cc, cc, cc, cc)
+
 pub call-refusal : (c : Call) → Bytes (c .text) → {n p h b : ℕ} → left c .answer ≡ refuses n p h b → IsRefusal (c .text) (c .words) n p h b
 unfolding read
 call-refusal c bytes {n} {p} {h} {b} e = by (check (c .text) (c .words) (c .start)) refl (ruled c) refl e
@@ -187,28 +195,16 @@ call-refusal c bytes {n} {p} {h} {b} e = by (check (c .text) (c .words) (c .star
         → written (c .lent) (test fit (λ _. granted t (s .notes) (s .at) (s .half) (keyOf (bare t)) (s .tally .entered)) λ _. denied noSpace 0 0 0) .answer ≡ refuses n p h b
         → IsRefusal (c .text) (c .words) n p h b
     by-fit true t s j = clash (cc)
-    by-fit false t s j =
-        let x : n ≡ noSpace = cc in
-        let y : p ≡ 0 = cc in
-        let z : h ≡ 0 = cc in
-        let w : b ≡ 0 = cc in
-        rw (x, y, z, w) is-noSpace
+    by-fit false t s j = let same = same-refusal j in rw (← (same .0), ← (same .1), ← (same .2), ← (same .3)) is-noSpace
 
     by : (v : Verdict) → check (c .text) (c .words) (c .start) ≡ v → (r : Result Placed) → ruled c ≡ r
         → written (c .lent) (checked (given (c .text) (c .words) (c .parens) (c .lent)) (c .start) (c .lent) v) .answer ≡ refuses n p h b
         → IsRefusal (c .text) (c .words) n p h b
     by (refused m q) i r f j =
-        let x : m ≡ n = cc in
-        let y : q ≡ p = cc in
-        let z : h ≡ 0 = cc in
-        let w : b ≡ 0 = cc in
-        rw (z, w) (check-refused (c .text) (c .words) (c .start) (i ∙ cc))
+        let same = same-refusal j in
+        rw (← (same .0), ← (same .1), ← (same .2), ← (same .3)) (check-refused (c .text) (c .words) (c .start) i)
     by sound i (got t s) f j = by-fit (fits (c .lent) t (keyOf (bare t))) t s (rw f at j)
     by sound i (refuse m q k) f j =
-        let l = rw f at j in
-        let x : m ≡ n = cc in
-        let y : q ≡ p = cc in
-        let z : k ≡ h = cc in
-        let w : firstByte (c .words) q k ≡ b = cc in
+        let same = same-refusal (rw f at j) in
         let r = stopped (reading-gives _ (record { bytes = bytes; start = c .start; sound = i })) f in
-        rw (← x, ← y, ← z, ← w) (is-rules (r .0) (r .1))
+        rw (← (same .0), ← (same .1), ← (same .2), ← (same .3)) (is-rules (r .0) (r .1))
