@@ -14,12 +14,10 @@ use fields::put;
 use keys::store;
 use node_table::forms;
 use node_table::forms::Row;
+use node_table::forms::TABLE;
 use node_table::moves;
 use node_table::moves::Mark;
 use node_table::moves::Walk;
-
-// How many words the node table has.
-const TABLE: usize = 526;
 
 // The next spelling, its length in w bits.
 fn put_spelling(names: &[u64], text: &[u8], key: &mut [u8], w: usize, o: Mark) -> Mark

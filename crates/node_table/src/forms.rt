@@ -31,8 +31,11 @@ pub const CHOICE: usize = 5;
 
 pub const TIMES: usize = 6;
 
+// How many words the table has.
+pub const TABLE: usize = 526;
+
 // The whole table, to be taken once a call and lent.
-pub fn words() -> [u16; 526]
+pub fn words() -> [u16; TABLE]
     ensures { λ r. ⌜ r ≡ tableWords countWidth ⌝ }
 {
     tables::WORDS

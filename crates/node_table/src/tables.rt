@@ -1,10 +1,11 @@
 // The constant table of the node table's words. It is proved, where it is handed out, to be what the definitions say.
+use crate::forms::TABLE;
 
 // The width of a list's count.
 const COUNT: u16 = 12;
 
 // The forms, four words each: operation, width and two numbers; then the lists of the forms that choices lead to.
-pub const WORDS: [u16; 526] = [
+pub const WORDS: [u16; TABLE] = [
     0,
     14,
     7,
