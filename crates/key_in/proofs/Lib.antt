@@ -1,10 +1,4 @@
 pub mod BackLaws
-pub mod Nevers
-pub mod Steps
-pub mod Spelling
 pub mod Walk
 pub mod Nodes
-pub mod Padding
-pub mod Lines
-pub mod Rows
 pub mod Whole

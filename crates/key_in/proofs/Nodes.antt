@@ -17,13 +17,17 @@ use Rattle.keys.proofs.StoredLaws.{stored-none, stored-choice, stored-node}
 use Rattle.node_table.specs.Forms.{Entry, listed, formBy, formOf, stepsOf, entryAt, classAt, grammarOf, leads, entryOf, IsRow, Narrow, nodesThen, spellingIf, tableMost}
 use Rattle.node_table.proofs.FormsLaws.{form-at}
 use Rattle.node_table.specs.declared.forms.Row.{Row}
-use Rattle.key_in.specs.Runs.{Ran, ran, halt, after, thenRun, asChild, roomRun, haltAt, choiceRun, formRun, nodeRun}
-use Rattle.key_in.specs.Back.{stateAt, Inside, Steady, Housed, Spans, Slim, Sized, refusedAt, fillAt, withChild, fillOn, atBit, Named, NamesIn, Picked, Went, PlainIn, Grown, NodeIn, Asks, Linked, AfterIn, NodesIn}
-use Rattle.key_in.specs.declared.back.Pos.{Pos}
-use Rattle.key_in.specs.declared.back.Fill.{Fill}
-use Rattle.key_in.specs.declared.back.Pick.{Pick}
-use Rattle.key_in.proofs.Nevers.{some-times}
-use Rattle.key_in.proofs.Steps.{inside-as}
+use Rattle.key_parts.specs.Runs.{Ran, ran, halt, after, thenRun, asChild, roomRun, haltAt, choiceRun, formRun, nodeRun}
+use Rattle.key_parts.specs.Place.{stateAt, Inside, refusedAt, fillAt, atBit}
+use Rattle.key_parts.specs.Spelling.{Named, NamesIn}
+use Rattle.key_parts.specs.Choice.{Picked}
+use Rattle.key_parts.specs.Widths.{Spans, Slim, Sized}
+use Rattle.key_in.specs.Back.{Steady, Housed, withChild, fillOn, Went, PlainIn, Grown, NodeIn, Asks, Linked, AfterIn, NodesIn}
+use Rattle.key_parts.specs.declared.place.Pos.{Pos}
+use Rattle.key_parts.specs.declared.place.Fill.{Fill}
+use Rattle.key_parts.specs.declared.choice.Pick.{Pick}
+use Rattle.key_parts.proofs.NeverLaws.{some-times}
+use Rattle.key_parts.proofs.Steps.{inside-as}
 use Rattle.key_in.proofs.Walk.{went-none, went-then, names-went, went-fillOn, spans-nodes, nodes-spans}
 
 -- ---- The same over lengths that are equal

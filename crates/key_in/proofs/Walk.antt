@@ -1,55 +1,30 @@
 -- The walk of a node's fields: steps, and how they join.
 use mathlib.Core.Path.{_≡_, refl, sym, ap, ap₂, _∙_, subst, subst₂}
-use mathlib.Core.List.{List, [], _∷_, _++_}
+use mathlib.Core.List.{List}
 use mathlib.Core.Logic.{_⊎_, inl, inr}
-use Prim.Native.Nat.{ℕ, zero, suc, _+_, _-_, _*_, _^_, _≤_, _<_}
-use native.Mathlib.Nat.{add-comm, mul-comm}
+use Prim.Native.Nat.{ℕ, zero, suc, _+_, _-_, _*_, _≤_, _<_}
 use native.Mathlib.Omega.{arith}
-use lib.Arith.{digits-lt}
-use lib.Pow.{pow-add, pow-mono}
-use lib.ListN.{length, set, drop, length-set, length-drop}
+use lib.ListN.{length, set, length-set, length-drop}
 use Rattle.keys.specs.Limits.{choicesWide}
 use Rattle.keys.specs.Bits.{Bits}
-use Rattle.keys.specs.Form.{Form, never, one, word, choose, both, child, Grammar, State, state}
-use Rattle.keys.specs.Store.{Run, done, chose, name, kid, _⊕_}
-use Rattle.keys.proofs.StoreLaws.{join-done, join-join}
+use Rattle.keys.specs.Form.{Form, word, choose, both, child, State}
+use Rattle.keys.specs.Store.{Run, done, chose, _⊕_}
+use Rattle.keys.proofs.StoreLaws.{join-join}
 use Rattle.keys.specs.Stored.{Base, base, Stored, Own}
 use Rattle.keys.proofs.StoredLaws.{stored-same, own-same, stored-choice, own-choice, kid-first, kid-next, own-first, own-next}
 use Rattle.node_table.specs.Forms.{formBy, formOf, leads, entryOf, spellingsThen, nodesThen, spellingIf, tableMost}
 use Rattle.node_table.specs.declared.forms.Row.{Row}
-use Rattle.key_in.specs.Runs.{Ran, ran, halt, after, thenRun, formRun, nodeRun}
-use Rattle.key_in.specs.Back.{stateAt, Inside, Steady, Housed, Spans, Sized, refusedAt, fillAt, withChild, fillOn, atBit, chosen, Named, NamesIn, SpellingIn, SpellingsIn, Picked, Went, PlainIn, Grown, NodeIn, Linked, AfterIn, NodesIn}
-use Rattle.key_in.specs.declared.back.Pos.{Pos}
-use Rattle.key_in.specs.declared.back.Fill.{Fill}
-use Rattle.key_in.specs.declared.back.Pick.{Pick}
-use Rattle.key_in.proofs.Steps.{after-done, after-after, names-none, if-spelled}
-
--- ---- A node's own choices in one word
-
-pack-lt : (x a y b : ℕ) → x < 2 ^ a → y < 2 ^ b → x + 2 ^ a * y < 2 ^ (a + b)
-pack-lt x a y b f g =
-    subst (λ (i : ℕ). i < 2 ^ (a + b)) (add-comm (y * 2 ^ a) x ∙ ap (λ (i : ℕ). x + i) (mul-comm y (2 ^ a)))
-    (subst (λ (i : ℕ). y * 2 ^ a + x < i) (mul-comm (2 ^ b) (2 ^ a) ∙ sym (pow-add 2 a b)) (digits-lt g f))
-
-pub pack-fits : (x a y b p : ℕ) → x < 2 ^ a → y < 2 ^ b → a + b ≤ choicesWide → p ≡ 2 ^ a → (p * y < 2 ^ choicesWide) × (x + p * y < 2 ^ 61)
-pack-fits x a y b p f g h e =
-    let q : y * 2 ^ a + x < 2 ^ b * 2 ^ a = digits-lt g f in
-    let m : 2 ^ b * 2 ^ a ≤ 2 ^ choicesWide = subst (λ (i : ℕ). i ≤ 2 ^ choicesWide) (pow-add 2 a b ∙ mul-comm (2 ^ a) (2 ^ b)) (pow-mono {j = choicesWide} h) in
-    let n : p * y ≡ y * 2 ^ a = ap (λ (i : ℕ). i * y) e ∙ mul-comm (2 ^ a) y in
-    (omega arith, omega arith)
-
-module _ (s : Fill) (c : Pick) (w : ℕ) where
-  pub refuses : (p : Pos) (r : Fill) → (c .why ≡ 0 → ⊥) → p ≡ refusedAt 10 (s .at .bit) → r ≡ fillAt s p
-      → ((c .why ≡ 0 → ⊥) → (r .at .why ≡ 10) × (r .at .bit ≡ s .at .bit)) × (c .why ≡ 0 → r ≡ chosen s c w)
-  refuses p r z e i = ((λ _. (ap (λ (x : Fill). x .at .why) i ∙ ap (λ (x : Pos). x .why) e, ap (λ (x : Fill). x .at .bit) i ∙ ap (λ (x : Pos). x .bit) e)), λ o. absurd (z o))
-
-  pub chooses : (scale : ℕ) → c .why ≡ 0 → scale ≡ 2 ^ s .shift
-      → ((c .why ≡ 0 → ⊥) → _≡_ {A = ℕ} 0 10 × (c .bit ≡ s .at .bit))
-      × (c .why ≡ 0 → _≡_ {A = Fill} (record { at = atBit (s .at) (c .bit); base = s .base; word = s .word + scale * c .number; shift = s .shift + w; child = s .child; form = c .form; n = c .n }) (chosen s c w))
-  chooses scale z e = (
-    (λ o. absurd (o z)),
-    λ _. ap (λ (x : ℕ). record { at = atBit (s .at) (c .bit); base = s .base; word = s .word + x * c .number; shift = s .shift + w; child = s .child; form = c .form; n = c .n }) e,
-  )
+use Rattle.key_parts.specs.Runs.{Ran, halt, after, formRun}
+use Rattle.key_parts.specs.Place.{stateAt, Inside, refusedAt, fillAt, atBit}
+use Rattle.key_parts.specs.Spelling.{NamesIn, SpellingIn, SpellingsIn}
+use Rattle.key_parts.specs.Choice.{chosen, Picked}
+use Rattle.key_parts.specs.Widths.{Spans, Sized}
+use Rattle.key_in.specs.Back.{Steady, withChild, fillOn, Went, PlainIn, Linked, AfterIn}
+use Rattle.key_parts.specs.declared.place.Pos.{Pos}
+use Rattle.key_parts.specs.declared.place.Fill.{Fill}
+use Rattle.key_parts.specs.declared.choice.Pick.{Pick}
+use Rattle.key_parts.proofs.ChoiceLaws.{pack-lt}
+use Rattle.key_parts.proofs.Steps.{after-done, after-after, names-none, if-spelled}
 
 -- ---- Widths
 

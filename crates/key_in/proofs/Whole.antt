@@ -27,13 +27,16 @@ use Rattle.fields.proofs.Chunks.{Told}
 use Rattle.fields.proofs.ReaderLaws.{field-cut, read-told, read-next}
 use Rattle.node_table.specs.Forms.{grammarOf, tableWords}
 use Rattle.node_table.proofs.FormsLaws.{words-are}
-use Rattle.key_in.specs.Runs.{Ran, ran, halt, nodeRun}
-use Rattle.key_in.specs.Back.{stateAt, Inside, Slim, refusedAt, NodeIn, Asks, Grown, Ends, Held, WholeIn, Answers, told}
-use Rattle.key_in.specs.declared.back.Pos.{Pos}
+use Rattle.key_parts.specs.Runs.{Ran, ran, halt, nodeRun}
+use Rattle.key_parts.specs.Place.{stateAt, Inside, refusedAt}
+use Rattle.key_parts.specs.Padding.{Ends}
+use Rattle.key_parts.specs.Widths.{Slim}
+use Rattle.key_in.specs.Back.{NodeIn, Asks, Grown, Held, WholeIn, Answers, told}
+use Rattle.key_parts.specs.declared.place.Pos.{Pos}
 use Rattle.key_in.specs.declared.back.Answer.{Answer}
 use Rattle.key_in.specs.declared.back.Answer.the-variants.{Taken, Refused}
-use Rattle.key_in.proofs.Lines.{runBy, node-run, lined-run}
-use Rattle.key_in.proofs.Rows.{table-fine, words-slim}
+use Rattle.key_parts.proofs.Lines.{runBy, node-run, lined-run}
+use Rattle.key_parts.proofs.Rows.{table-fine, words-slim}
 
 -- ---- What a tree's run holds
 

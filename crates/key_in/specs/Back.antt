@@ -1,43 +1,30 @@
 -- What each function that takes a key back answers, and what it leaves in the outputs (01, The two calls; Refusal numbers).
 use mathlib.Core.Path.{_≡_}
-use mathlib.Core.Bool.{Bool}
-use mathlib.Core.List.{List, [], _∷_, _++_}
-use Prim.Native.Nat.{ℕ, _+_, _-_, _*_, _/_, _%_, _^_, _≤_, _<_}
+use mathlib.Core.List.{List}
+use Prim.Native.Nat.{ℕ, _+_, _-_, _*_, _/_, _^_, _≤_, _<_}
 use lib.Dec.{eqb}
-use lib.ListN.{length, take, drop}
-use denote.Ref.{RefT}
-use denote.Triple.Both.{Both}
+use lib.ListN.{length, take}
 use Rattle.keys.specs.Bits.{Bits, bitsOfBytes}
-use Rattle.keys.specs.Form.{Value, spelt, nodes, names, letters, Form, never, one, word, choose, both, child, Grammar, State, state, Result, got, stop, takeSpelling, wider}
-use Rattle.keys.specs.Limits.{longestKey, recordWords, badKey, noSpace, widest, choicesWide}
+use Rattle.keys.specs.Form.{Value, nodes, names, letters, Form, word, child, Grammar, State}
+use Rattle.keys.specs.Limits.{longestKey, recordWords, noSpace, choicesWide}
 use Rattle.keys.specs.Placed.{laid}
-use Rattle.keys.specs.Key.{padding, taken, refused, refusalPlace, takeKey}
-use Rattle.keys.specs.Store.{Run, done, chose, name, kid, under, called, packed, firstKid, records, nameOf, namesIn, nodesOf, namesOf, textOf, TakenBack, takeBack, _⊕_, span}
+use Rattle.keys.specs.Key.{taken, refused, refusalPlace, takeKey}
+use Rattle.keys.specs.Store.{Run, done, kid, nodesOf, namesOf, textOf, TakenBack, takeBack, _⊕_}
 use Rattle.keys.specs.Store as store
 use Rattle.keys.specs.Words.{firstNodes, firstNames}
 use Rattle.keys.specs.Stored.{Base, base, Stored, Own}
-use Rattle.node_table.specs.Forms.{formOf, formBy, leads, entryAt, classAt, grammarOf, entryOf, spellingsThen, nodesThen, spellingIf, Narrow, tableMost}
+use Rattle.node_table.specs.Forms.{formOf, formBy, grammarOf, entryOf, nodesThen, spellingIf, tableMost}
 use Rattle.node_table.specs.declared.forms.Row.{Row}
-use Rattle.key_in.specs.Runs.{Ran, ran, halt, after, choiceRun, formRun, nodeRun}
-use Rattle.key_in.specs.declared.back.Pos.{Pos}
-use Rattle.key_in.specs.declared.back.Fill.{Fill}
-use Rattle.key_in.specs.declared.back.Pick.{Pick}
+use Rattle.key_parts.specs.Runs.{Ran, ran, halt, after, formRun, nodeRun}
+use Rattle.key_parts.specs.Place.{stateAt, Inside, fillAt, Lent, bitsIn, long}
+use Rattle.key_parts.specs.Spelling.{NamesIn}
+use Rattle.key_parts.specs.Widths.{Spans, Slim, Sized}
+use Rattle.key_parts.specs.declared.place.Pos.{Pos}
+use Rattle.key_parts.specs.declared.place.Fill.{Fill}
 use Rattle.key_in.specs.declared.back.Answer.{Answer}
 use Rattle.key_in.specs.declared.back.Answer.the-variants.{Taken, Refused}
 
 -- ---- Where taking is
-
--- What is left at a place, of bits, names and text of these lengths.
-abbrev pub stateAt : Bits → (lm lx : ℕ) → Pos → State
-stateAt bs lm lx p = state (p .nodes) (lm - p .names) (lx - p .chars) (drop (p .bit) bs)
-
--- A place inside the key, the names and the text.
-pub record Inside (bs : Bits) (lm lx : ℕ) (p : Pos) : Type 0 where
-  pub in-key : p .bit ≤ length bs
-  pub in-names : p .names ≤ lm
-  pub in-text : p .chars ≤ lx
-  pub few-names : p .names ≤ p .chars
-  pub few-chars : p .chars * 8 ≤ p .bit
 
 -- A place inside a node: its choices fit their word, its numbers the table.
 pub record Steady (bs : Bits) (lm lx : ℕ) (s : Fill) : Type 0 where
@@ -54,34 +41,6 @@ pub record Housed (ln : ℕ) (s : Fill) : Type 0 where
   pub nodes-fit : (s .at .used + s .at .nodes + 1) * recordWords ≤ ln
   pub in-nodes : s .child * recordWords ≤ ln
 
--- How many bits the choices of a form in line have: at most n.
-abbrev pub Spans : Form → ℕ → Type 0
-Spans never n = Unit {0}
-Spans one n = Unit {0}
-Spans (word w) n = Unit {0}
-Spans (choose w x fs) n = (wider w x ≤ n) × ((k : ℕ) → Spans (fs k) (n - wider w x))
-Spans (both f g) n = Spans g n
-Spans (child c) n = Unit {0}
-
--- The table's choices fit: each in 24 bits, all of a node's in 60.
-pub record Slim (T : List ℕ) : Type 0 where
-  pub narrow : Narrow T
-  pub rows : (c t : ℕ) → Spans (grammarOf T .row c t) (choicesWide - classAt T c .w)
-
--- What a row that was read has: widths to 24 bits, numbers that fit the table.
-pub record Sized (r : Row) : Type 0 where
-  pub w : r .w ≤ widest
-  pub a : r .a < tableMost
-  pub b : r .b < tableMost
-
--- A place that is refused.
-abbrev pub refusedAt : (why bit : ℕ) → Pos
-refusedAt why bit = record { why = why; bit = bit; nodes = 0; used = 0; names = 0; chars = 0 }
-
--- The walk of a node at another place.
-abbrev pub fillAt : Fill → Pos → Fill
-fillAt s p = record { at = p; base = s .base; word = s .word; shift = s .shift; child = s .child; form = s .form; n = s .n }
-
 -- The walk at another place, with another first child.
 abbrev pub withChild : Fill → Pos → ℕ → Fill
 withChild s p x = record { at = p; base = s .base; word = s .word; shift = s .shift; child = x; form = s .form; n = s .n }
@@ -89,69 +48,6 @@ withChild s p x = record { at = p; base = s .base; word = s .word; shift = s .sh
 -- The walk at another place, with another form to come.
 abbrev pub fillOn : Fill → Pos → (form n : ℕ) → Fill
 fillOn s p f n = record { at = p; base = s .base; word = s .word; shift = s .shift; child = s .child; form = f; n = n }
-
--- A place further on in the key.
-abbrev pub atBit : Pos → ℕ → Pos
-atBit p bit = record { why = 0; bit = bit; nodes = p .nodes; used = p .used; names = p .names; chars = p .chars }
-
--- No choice, at a bit.
-abbrev pub unpicked : ℕ → Pick
-unpicked bit = record { why = badKey; bit = bit; number = 0; form = 0; n = 0 }
-
--- The walk after a choice of w bits: its number stands above those before it.
-abbrev pub chosen : Fill → Pick → ℕ → Fill
-chosen s c w =
-    record {
-      at = atBit (s .at) (c .bit);
-      base = s .base;
-      word = s .word + 2 ^ s .shift * c .number;
-      shift = s .shift + w;
-      child = s .child;
-      form = c .form;
-      n = c .n;
-    }
-
--- ---- Names alone
-
--- From p to q names were stored, which are the run u: nothing but names and text has changed.
-pub record Named (bs : Bits) (lm lx : ℕ) (p : Pos) (M X : List ℕ) (q : Pos) (M' X' : List ℕ) (u : Run) : Type 0 where
-  pub ok : q .why ≡ 0
-  pub inside : Inside bs lm lx q
-  pub used : q .used ≡ p .used
-  pub nodes : q .nodes ≡ p .nodes
-  pub stored : (B : Base) (t : Run) (N : List ℕ) → Stored B t N M X (p .used) (p .names) (p .chars) → Stored B (t ⊕ u) N M' X' (q .used) (q .names) (q .chars)
-  pub own : (B : Base) (t : Run) (a b c : ℕ) → Own B t a b c → Own B (t ⊕ u) a b c
-
--- Some form at p is the form g at q with a run of names before it; or it is refused as q says.
-pub record NamesIn (bs : Bits) (lm lx : ℕ) (f g : Form) (p : Pos) (M X : List ℕ) (q : Pos) (M' X' : List ℕ) : Type 0 where
-  pub names-same : length M' ≡ length M
-  pub text-same : length X' ≡ length X
-  pub in-key : q .bit ≤ length bs
-  pub stopped : (q .why ≡ 0 → ⊥) → (Y : ℕ → State → Ran) → formRun lx Y f (stateAt bs lm lx p) ≡ halt (q .why) (length bs - q .bit)
-  pub run : Run
-  pub went : q .why ≡ 0 → (Y : ℕ → State → Ran) → formRun lx Y f (stateAt bs lm lx p) ≡ after run (formRun lx Y g (stateAt bs lm lx q))
-  pub left : q .why ≡ 0 → Named bs lm lx p M X q M' X' run
-
--- A spelling, and then any form.
-abbrev pub SpellingIn : (bs : Bits) (lm lx w : ℕ) (p : Pos) (M X : List ℕ) (q : Pos) (M' X' : List ℕ) → Type 0
-SpellingIn bs lm lx w p M X q M' X' = (g : Form) → NamesIn bs lm lx (both (word w) g) g p M X q M' X'
-
--- n spellings, and then any form.
-abbrev pub SpellingsIn : (bs : Bits) (lm lx w n : ℕ) (p : Pos) (M X : List ℕ) (q : Pos) (M' X' : List ℕ) → Type 0
-SpellingsIn bs lm lx w n p M X q M' X' = (g : Form) → NamesIn bs lm lx (spellingsThen n w g) g p M X q M' X'
-
--- ---- Choices
-
--- A choice among forms: refused with 10 at its bit, or its number, the bit after it and the form that it leads to.
-pub record Picked (bs : Bits) (T : List ℕ) (steps w : ℕ) (fs : ℕ → Form) (bit : ℕ) (c : Pick) : Type 0 where
-  pub stopped : (c .why ≡ 0 → ⊥) → (n k m : ℕ) (K : ℕ → Bits → Ran) → choiceRun w fs (state n k m (drop bit bs)) K ≡ halt badKey (length bs - bit)
-  pub went : c .why ≡ 0 → (n k m : ℕ) (K : ℕ → Bits → Ran) → choiceRun w fs (state n k m (drop bit bs)) K ≡ K (c .number) (drop (c .bit) bs)
-  pub small : c .why ≡ 0 → c .number < 2 ^ w
-  pub next : c .why ≡ 0 → c .bit ≡ bit + w
-  pub inside : c .bit ≤ length bs
-  pub to : c .why ≡ 0 → fs (c .number) ≡ formOf T steps (c .n) (c .form)
-  pub in-table : c .form < tableMost
-  pub few : c .n < tableMost
 
 -- ---- Steps inside a node
 
@@ -235,12 +131,6 @@ pub record NodesIn (bs : Bits) (lm lx : ℕ) (G : Grammar) (left : ℕ) (r : Row
 
 -- ---- The whole key
 
--- The first bit after a tree that may not stand there is r; none is set and no byte is left over where r is the end.
-pub record Ends (bs : Bits) (bit r : ℕ) : Type 0 where
-  pub inside : r ≤ length bs
-  pub stopped : r < length bs → (v : Value) → padding v (length (drop bit bs) % 8) (drop bit bs) ≡ stop badKey (length bs - r)
-  pub went : r ≡ length bs → (v : Value) → padding v (length (drop bit bs) % 8) (drop bit bs) ≡ got v (state 0 0 0 [])
-
 -- A tree was taken, with room for n nodes, k names and m bytes: the outputs hold it, used as q says.
 pub record Held (key : List ℕ) (n k m : ℕ) (q : Pos) (N M X : List ℕ) : Type 0 where
   pub tree : Value
@@ -274,14 +164,6 @@ pub record Answers (d : TakenBack) (r : Answer) (N M X : List ℕ) : Type 0 wher
 
 -- ---- What is asked of a key and of what is lent beside it
 
--- A place inside a key that is not too long, with spellings whose lengths have w bits.
-abbrev pub AsksSpelling : (key names text : List ℕ) (w : ℕ) (p : Pos) → Type 0
-AsksSpelling key names text w p = (length key ≤ longestKey) × (w ≤ widest) × Inside (bitsOfBytes key) (length names) (length text) p
-
--- The same of spellings in a row.
-abbrev pub AsksSpellings : (key names text : List ℕ) (w : ℕ) (p : Pos) → Type 0
-AsksSpellings key names text w p = (length key ≤ longestKey) × (w ≤ widest) × (p .why ≡ 0) × Inside (bitsOfBytes key) (length names) (length text) p
-
 -- A place inside a node, whose row is no end and no row of nodes, and whose choices fit.
 abbrev pub AsksPlain : (forms key names text : List ℕ) (steps : ℕ) (r : Row) (s : Fill) → Type 0
 AsksPlain forms key names text steps r s =
@@ -298,31 +180,6 @@ AsksNodes forms key nodes names text r s =
     (length key ≤ longestKey) × Steady (bitsOfBytes key) (length names) (length text) s × Housed (length nodes) s × Sized r × Slim forms
 
 -- ---- What is answered over what is lent
-
--- A slice at a function's two moments.
-abbrev pub Lent : Type 0
-Lent = Both (RefT (List ℕ)) (RefT (List ℕ))
-
--- The bits of a key that is lent.
-abbrev pub bitsIn : Lent → Bits
-bitsIn key = bitsOfBytes (key .entry .now)
-
--- How long a slice is.
-abbrev pub long : Lent → ℕ
-long s = length (s .entry .now)
-
-abbrev pub TakesSpelling : (key names text : Lent) (w : ℕ) (p q : Pos) → Type 0
-TakesSpelling key names text w p q =
-    SpellingIn (bitsIn key) (long names) (long text) w p (names .entry .now) (text .entry .now) q (names .exit .now) (text .exit .now)
-
-abbrev pub TakesSpellings : (key names text : Lent) (w n : ℕ) (p q : Pos) → Type 0
-TakesSpellings key names text w n p q =
-    SpellingsIn (bitsIn key) (long names) (long text) w n p (names .entry .now) (text .entry .now) q (names .exit .now) (text .exit .now)
-
--- A choice among the forms that a row leads to, which it lists as `way` says.
-abbrev pub TakesChoice : (forms key : Lent) (steps : ℕ) (r : Row) (way bit : ℕ) (c : Pick) → Type 0
-TakesChoice forms key steps r way bit c =
-    Picked (bitsIn key) (forms .entry .now) steps (r .w) (leads (forms .entry .now) (formOf (forms .entry .now) steps) (entryOf r) way) bit c
 
 abbrev pub TakesPlain : (forms key names text : Lent) (steps : ℕ) (r : Row) (s q : Fill) → Type 0
 TakesPlain forms key names text steps r s q =

@@ -1,3 +1,2 @@
 // Key in: a key taken back, from its bytes to nodes, names and text.
 pub mod back;
-pub mod refusal;

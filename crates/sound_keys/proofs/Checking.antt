@@ -14,10 +14,10 @@ use Rattle.fields.specs.declared.take.TakenField.the-variants.{Number, Short}
 use Rattle.fields.proofs.Chunks.{Told, number-told, field-short}
 use Rattle.node_table.specs.Forms.{formOf, formBy, leads, entryOf, spellingsThen, spellingIf}
 use Rattle.node_table.specs.declared.forms.Row.{Row}
-use Rattle.key_in.proofs.Nevers.{before-one}
-use Rattle.key_in.proofs.Steps.{bytes-cut, bytes-whole, if-spelled}
+use Rattle.key_parts.proofs.NeverLaws.{before-one}
+use Rattle.key_parts.proofs.Steps.{bytes-cut, bytes-whole, if-spelled}
 use Rattle.differs.specs.Content.{Content, ends, chooses, spells, enters}
-use Rattle.key_in.specs.Back.{Sized}
+use Rattle.key_parts.specs.Widths.{Sized}
 use Rattle.sound_keys.specs.Sound.{Scan, reads, fails, _⊕_, after, thenRead, readAllowed, readWhole, readLetters, readLength, readChoice, readSpelling, readForm, ComesTo, Onward, Spotted, noForm, checkAt, SpellingsOn, AfterOn, ChoiceOn, PlainOn}
 use Rattle.sound_keys.specs.declared.sound.Check.{Check}
 use Rattle.sound_keys.specs.declared.sound.Spot.{Spot}

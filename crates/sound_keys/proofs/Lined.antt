@@ -6,7 +6,7 @@ use lib.ListN.{drop}
 use Rattle.keys.specs.Bits.{Bits, Field, short, field, takeField}
 use Rattle.keys.specs.Form.{Form, one, Grammar, isNever}
 use Rattle.keys.specs.Lines.{inLine, lined}
-use Rattle.key_in.proofs.Lines.{Fine, never-fine, one-fine, word-fine, child-fine, choose-fine, both-fine}
+use Rattle.key_parts.proofs.Lines.{Fine, never-fine, one-fine, word-fine, child-fine, choose-fine, both-fine}
 use Rattle.differs.specs.Content.{Content, ends, chooses}
 use Rattle.sound_keys.specs.Sound.{Scan, reads, fails, after, thenRead, asNode, readAllowed, readWhole, readForm, readNode}
 use Rattle.sound_keys.proofs.Checking.{join-ends, after-ends, then-after}

@@ -11,7 +11,7 @@ use Rattle.node_table.specs.Forms.{Entry, formOf, formBy, leads, grammarOf, ent
 use Rattle.node_table.proofs.FormsLaws.{form-at}
 use Rattle.node_table.specs.declared.forms.Row.{Row}
 use Rattle.differs.specs.Content.{ends, chooses, enters}
-use Rattle.key_in.specs.Back.{Sized}
+use Rattle.key_parts.specs.Widths.{Sized}
 use Rattle.sound_keys.specs.Sound.{Scan, fails, _⊕_, after, asNode, readChoice, readForm, readNode, ComesTo, Onward, Spotted, checkAt, AfterOn, ChoiceOn, NodesOn}
 use Rattle.sound_keys.specs.declared.sound.Check.{Check}
 use Rattle.sound_keys.specs.declared.sound.Spot.{Spot}

@@ -18,8 +18,8 @@ use Rattle.fields.specs.declared.take.TakenField.the-variants.{Number, Short}
 use Rattle.fields.proofs.Chunks.{Told, number-told, field-short}
 use Rattle.node_table.specs.Forms.{grammarOf, tableWords}
 use Rattle.node_table.proofs.FormsLaws.{words-are}
-use Rattle.key_in.specs.Back.{Ends}
-use Rattle.key_in.proofs.Rows.{table-fine}
+use Rattle.key_parts.specs.Padding.{Ends}
+use Rattle.key_parts.proofs.Rows.{table-fine}
 use Rattle.differs.specs.Content.{contentOf}
 use Rattle.differs.specs.Differ.{checked}
 use Rattle.sound_keys.specs.Sound.{reads, fails, readNode, ComesTo, checkAt, verdict, Judges, Wholly}

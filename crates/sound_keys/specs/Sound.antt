@@ -4,14 +4,13 @@ use mathlib.Core.List.{List}
 use mathlib.Core.Path.{_≡_}
 use Prim.Native.Nat.{ℕ, zero, suc, _+_, _*_, _≤_, _<_, _^_}
 use lib.ListN.{length, drop}
-use denote.Ref.{RefT}
-use denote.Triple.Both.{Both}
 use Rattle.keys.specs.Bits.{Bits, bitsOfBytes, Field, short, field, takeField, Row, cut, row, takeBytes}
 use Rattle.keys.specs.Form.{Value, Form, never, one, word, choose, both, child, Grammar, isNever}
 use Rattle.keys.specs.Key.{Taken, taken, refused, nodeTable}
 use Rattle.keys.specs.Limits.{tooTall, badKey, longestKey, tallest, editionWidth}
 use Rattle.node_table.specs.Forms.{formOf, formBy, leads, grammarOf, entryOf, spellingsThen, spellingIf, nodesThen}
 use Rattle.node_table.specs.declared.forms.Row.{Row as TableRow}
+use Rattle.key_parts.specs.Place.{Lent, bitsIn}
 use Rattle.differs.specs.Content.{Content, ends, chooses, spells, enters, contentOf}
 use Rattle.differs.specs.Differ.{checked}
 use Rattle.sound_keys.specs.declared.sound.Check.{Check}
@@ -174,14 +173,6 @@ pub record Wholly (T key : List ℕ) (r : Check) : Type 0 where
   pub read : r .why ≡ 0 → readNode (bitsOfBytes key) (grammarOf T) tallest 0 editionWidth ≡ reads (contentOf nodeTable (judges .tree)) end
 
 -- ---- The same over what is lent
-
--- A slice at a function's two moments.
-abbrev pub Lent : Type 0
-Lent = Both (RefT (List ℕ)) (RefT (List ℕ))
-
--- The bits of a key that is lent.
-abbrev pub bitsIn : Lent → Bits
-bitsIn key = bitsOfBytes (key .entry .now)
 
 -- A choice among the forms that a row leads to, which it lists as `way` says.
 abbrev pub Chooses : (forms key : Lent) (steps : ℕ) (r : TableRow) (way bit : ℕ) (q : Spot) → Type 0

@@ -1,17 +1,19 @@
 // Is this a key? A check that goes through it once and stores nothing.
 ghost use mathlib.Core.Path.{_≡_};
-ghost use Prim.Native.Nat.{ℕ, _-_, _*_, _^_, _<_, _≤_};
+ghost use Prim.Native.Nat.{_-_, _*_, _^_, _<_, _≤_};
 ghost use lib.ListN.{length};
 ghost use Rattle.keys.specs.Limits.{longestKey, widest, countWidth};
 ghost use Rattle.keys.specs.Bits.{bitsOfBytes};
-ghost use Rattle.keys.specs.Form.{isNever};
-ghost use Rattle.node_table.specs.Forms.{formOf, grammarOf, tableWords, Narrow};
-ghost use Rattle.key_in.specs.Back.{Ends, Sized};
+ghost use Rattle.node_table.specs.Forms.{grammarOf, tableWords, Narrow};
+ghost use Rattle.key_parts.specs.Widths.{Sized};
 ghost use Rattle.differs.specs.Differ.{checked};
 ghost use Rattle.sound_keys.specs.Sound as check;
 use fields::take;
 use fields::take::TakenField;
-use key_in::refusal::Refusal;
+use key_parts::never;
+use key_parts::padding;
+use key_parts::place;
+use key_parts::refusal::Refusal;
 use node_table::forms;
 use node_table::forms::Row;
 use words::limits::Key;
@@ -29,12 +31,6 @@ pub struct Spot {
     pub bit: usize,
     pub form: usize,
     pub n: usize,
-}
-
-fn slim(x: u32) -> usize
-    ensures { λ r. ⌜ (r ≡ x) × (r < 2 ^ 32) ⌝ }
-{
-    x as usize
 }
 
 // No form, at a bit.
@@ -65,7 +61,7 @@ fn check_spelling(key: &[u8], w: usize, bit: usize) -> Check
     let TakenField::Number(n) = taken else {
         return stopped(Refusal::BAD_KEY, bit);
     };
-    let count = slim(n);
+    let count = place::slim(n);
     if count == 0 {
         return stopped(Refusal::BAD_KEY, bit);
     }
@@ -94,40 +90,6 @@ fn check_spellings(key: &[u8], w: usize, n: usize, bit: usize) -> Check
     stopped(0, at)
 }
 
-// Whether the table has no form there, of so many steps.
-fn is_none(forms: &[u16], steps: usize, form: usize) -> bool
-    requires { ⌜ form < 2 ^ 32 ⌝ }
-    ensures { λ r. ⌜ ((n : ℕ) → 1 ≤ n → r ≡ isNever (formOf (now (forms .entry)) steps n form)) ⌝ }
-{
-    if steps == 0 {
-        return true;
-    }
-    let r = forms::row_at(forms, form);
-    r.op == 0
-}
-
-// The same where the form's first step is done n times: done 0 times it is the form after it.
-fn is_never(forms: &[u16], steps: usize, n: usize, form: usize) -> bool
-    requires { ⌜ form < 2 ^ 32 ⌝ }
-    ensures { λ r. ⌜ r ≡ isNever (formOf (now (forms .entry)) steps n form) ⌝ }
-{
-    if n != 0 {
-        return is_none(forms, steps, form);
-    }
-    if steps == 0 {
-        return true;
-    }
-    let r = forms::row_at(forms, form);
-    let op = r.op;
-    if op == forms::SPELLINGS {
-        return is_none(forms, steps - 1, r.b);
-    }
-    if op == forms::NODES {
-        return is_none(forms, steps - 1, r.b);
-    }
-    op == 0
-}
-
 // A field that chooses: 10 where it is cut short or leads to no form.
 fn check_choice(forms: &[u16], key: &[u8], steps: usize, r: Row, bit: usize) -> Spot
     requires { ⌜ (length (now key) ≤ longestKey) × (bit ≤ length (now key) * 8) × (r .w ≤ widest) × (r .a < 2 ^ 32) × (r .b < 2 ^ 32) × (5 ≤ r .op) ⌝ }
@@ -137,9 +99,9 @@ fn check_choice(forms: &[u16], key: &[u8], steps: usize, r: Row, bit: usize) -> 
     let TakenField::Number(n) = taken else {
         return no_form(bit);
     };
-    let t = slim(n);
+    let t = place::slim(n);
     let j = forms::jump_at(forms, r, t);
-    if is_never(forms, steps, j.n, j.form) {
+    if never::is_never(forms, steps, j.n, j.form) {
         return no_form(bit);
     }
     Spot {
@@ -159,9 +121,9 @@ fn check_tag(forms: &[u16], key: &[u8], steps: usize, tags: Row, bit: usize) -> 
     let TakenField::Number(n) = taken else {
         return no_form(bit);
     };
-    let t = slim(n);
+    let t = place::slim(n);
     let j = forms::listed_at(forms, tags, t);
-    if is_none(forms, steps, j.form) {
+    if never::is_none(forms, steps, j.form) {
         return no_form(bit);
     }
     Spot {
@@ -298,21 +260,6 @@ fn check_nodes(forms: &[u16], key: &[u8], left: usize, r: Row, s: Spot) -> Spot
     }
 }
 
-// The first bit after a tree that may not stand there: a set one before the next byte, or that byte's first; the end if there is none.
-fn pad_end(key: &[u8], bit: usize) -> usize
-    requires { ⌜ (length (now key) ≤ longestKey) × (bit ≤ length (now key) * 8) ⌝ }
-    ensures { λ r. ⌜ Ends (bitsOfBytes (now (key .entry))) bit r ⌝ }
-{
-    let mut at = bit;
-    while at % 8 != 0 {
-        if take::number_at(key, at, 1) == 1 {
-            return at;
-        }
-        at += 1;
-    }
-    at
-}
-
 // A whole key by the table: not too long, its edition, its tree, zero bits to the byte and no byte more.
 pub fn check_whole(forms: &[u16], key: &[u8]) -> Check
     requires { ⌜ (now forms) ≡ tableWords countWidth ⌝ }
@@ -332,7 +279,7 @@ pub fn check_whole(forms: &[u16], key: &[u8]) -> Check
     if c.why != 0 {
         return c;
     }
-    let end = pad_end(key, c.bit);
+    let end = padding::pad_end(key, c.bit);
     if end < key.len() * 8 {
         return stopped(Refusal::BAD_KEY, end);
     }

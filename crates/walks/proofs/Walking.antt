@@ -17,7 +17,7 @@ use Rattle.fields.specs.Take.{answered}
 use Rattle.fields.specs.declared.take.TakenField.the-variants.{Number}
 use Rattle.fields.proofs.Chunks.{Told, number-told, take-rest}
 use Rattle.node_table.specs.Forms.{spellingsThen, spellingIf, nodesThen}
-use Rattle.key_in.proofs.Steps.{bytes-whole, if-spelled}
+use Rattle.key_parts.proofs.Steps.{bytes-whole, if-spelled}
 use Rattle.differs.specs.Content.{Content, ends, spells, enters, own, Pair, unless, inside, differences}
 use Rattle.sound_keys.specs.Sound.{Scan, reads, fails, _⊕_, after, thenRead, readLetters, readLength, readSpelling, readForm, readNode}
 use Rattle.walks.specs.Walk.{Grows, Puts, Beside, beside-ends, beside-chooses, beside-spells, beside-enters, IsRead, Inside, Abreast, noNode, SpelledOn, SpelledAll, SpelledAfter, Walked, WalkedAll}

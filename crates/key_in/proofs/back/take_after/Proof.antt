@@ -7,8 +7,8 @@ use Rattle.key_in.proofs.back.take_after.Statement.{statement}
 use Rattle.key_in.proofs.back.take_after.Tie as tie
 use Rattle.key_in.proofs.back.take_after.Reads as reads
 use Rattle.key_in.proofs.back.take_after.Lts as lts
-use Rattle.key_in.proofs.back.moved.Reads as moved-reads
-use Rattle.key_in.proofs.back.take_spelling.Reads as take-spelling-reads
+use Rattle.key_parts.proofs.place.moved.Reads as moved-reads
+use Rattle.key_parts.proofs.spelling.take_spelling.Reads as take-spelling-reads
 
 returns : tie.Need-returns
 returns c =

@@ -9,12 +9,12 @@ use Rattle.key_in.proofs.back.take_plain.Statement.{statement}
 use Rattle.key_in.proofs.back.take_plain.Tie as tie
 use Rattle.key_in.proofs.back.take_plain.Reads as reads
 use Rattle.key_in.proofs.back.take_plain.Lts as lts
-use Rattle.key_in.proofs.back.choose.Reads as choose-reads
-use Rattle.key_in.proofs.back.moved.Reads as moved-reads
-use Rattle.key_in.proofs.back.refused.Reads as refused-reads
-use Rattle.key_in.proofs.back.take_choice.Reads as take-choice-reads
-use Rattle.key_in.proofs.back.take_spelling.Reads as take-spelling-reads
-use Rattle.key_in.proofs.back.take_spellings.Reads as take-spellings-reads
+use Rattle.key_parts.proofs.choice.choose.Reads as choose-reads
+use Rattle.key_parts.proofs.place.moved.Reads as moved-reads
+use Rattle.key_parts.proofs.place.refused.Reads as refused-reads
+use Rattle.key_parts.proofs.choice.take_choice.Reads as take-choice-reads
+use Rattle.key_parts.proofs.spelling.take_spelling.Reads as take-spelling-reads
+use Rattle.key_parts.proofs.spelling.take_spellings.Reads as take-spellings-reads
 
 take-choice-requires : tie.Need-take-choice-requires
 take-choice-requires c κs =

@@ -12,8 +12,8 @@ use Rattle.key_in.proofs.back.take_whole.Statement.{statement}
 use Rattle.key_in.proofs.back.take_whole.Tie as tie
 use Rattle.key_in.proofs.back.take_whole.Reads as reads
 use Rattle.key_in.proofs.back.take_whole.Lts as lts
-use Rattle.key_in.proofs.back.pad_end.Reads as pad-end-reads
-use Rattle.key_in.proofs.back.refused.Reads as refused-reads
+use Rattle.key_parts.proofs.padding.pad_end.Reads as pad-end-reads
+use Rattle.key_parts.proofs.place.refused.Reads as refused-reads
 use Rattle.key_in.proofs.back.take_node.Reads as take-node-reads
 
 refused-requires : tie.Need-refused-requires

@@ -14,9 +14,9 @@ use Rattle.sound_keys.proofs.sound.check_choice.Statement.{statement}
 use Rattle.sound_keys.proofs.sound.check_choice.Tie as tie
 use Rattle.sound_keys.proofs.sound.check_choice.Reads as reads
 use Rattle.sound_keys.proofs.sound.check_choice.Lts as lts
-use Rattle.sound_keys.proofs.sound.is_never.Reads as is-never-reads
+use Rattle.key_parts.proofs.never.is_never.Reads as is-never-reads
 use Rattle.sound_keys.proofs.sound.no_form.Reads as no-form-reads
-use Rattle.sound_keys.proofs.sound.slim.Reads as slim-reads
+use Rattle.key_parts.proofs.place.slim.Reads as slim-reads
 use Rattle.fields.proofs.take.take_field.Reads as take-field-reads
 use Rattle.node_table.proofs.forms.jump_at.Reads as jump-at-reads
 

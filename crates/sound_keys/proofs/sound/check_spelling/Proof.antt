@@ -8,7 +8,7 @@ use Rattle.sound_keys.proofs.sound.check_spelling.Statement.{statement}
 use Rattle.sound_keys.proofs.sound.check_spelling.Tie as tie
 use Rattle.sound_keys.proofs.sound.check_spelling.Reads as reads
 use Rattle.sound_keys.proofs.sound.check_spelling.Lts as lts
-use Rattle.sound_keys.proofs.sound.slim.Reads as slim-reads
+use Rattle.key_parts.proofs.place.slim.Reads as slim-reads
 use Rattle.sound_keys.proofs.sound.stopped.Reads as stopped-reads
 use Rattle.fields.proofs.take.take_field.Reads as take-field-reads
 

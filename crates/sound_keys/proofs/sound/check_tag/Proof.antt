@@ -14,9 +14,9 @@ use Rattle.sound_keys.proofs.sound.check_tag.Statement.{statement}
 use Rattle.sound_keys.proofs.sound.check_tag.Tie as tie
 use Rattle.sound_keys.proofs.sound.check_tag.Reads as reads
 use Rattle.sound_keys.proofs.sound.check_tag.Lts as lts
-use Rattle.sound_keys.proofs.sound.is_none.Reads as is-none-reads
+use Rattle.key_parts.proofs.never.is_none.Reads as is-none-reads
 use Rattle.sound_keys.proofs.sound.no_form.Reads as no-form-reads
-use Rattle.sound_keys.proofs.sound.slim.Reads as slim-reads
+use Rattle.key_parts.proofs.place.slim.Reads as slim-reads
 use Rattle.fields.proofs.take.take_field.Reads as take-field-reads
 use Rattle.node_table.proofs.forms.listed_at.Reads as listed-at-reads
 

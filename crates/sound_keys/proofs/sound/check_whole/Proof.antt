@@ -11,7 +11,7 @@ use Rattle.sound_keys.proofs.sound.check_whole.Tie as tie
 use Rattle.sound_keys.proofs.sound.check_whole.Reads as reads
 use Rattle.sound_keys.proofs.sound.check_whole.Lts as lts
 use Rattle.sound_keys.proofs.sound.check_node.Reads as check-node-reads
-use Rattle.sound_keys.proofs.sound.pad_end.Reads as pad-end-reads
+use Rattle.key_parts.proofs.padding.pad_end.Reads as pad-end-reads
 use Rattle.sound_keys.proofs.sound.stopped.Reads as stopped-reads
 use Rattle.fields.proofs.take.take_field.Reads as take-field-reads
 

@@ -6,7 +6,7 @@ use Rattle.keys.proofs.BitsLaws.{length-bytes}
 use Prim.Native.Nat.{ℕ, _-_, _≤_}
 use Rattle.keys.specs.Limits.{widest}
 use Rattle.node_table.specs.Forms.{Entry}
-use Rattle.key_in.proofs.Nevers.{before-one}
+use Rattle.key_parts.proofs.NeverLaws.{before-one}
 use Rattle.sound_keys.proofs.Nodes.{node-bad, node-tall, tag-placed, node-done, placed-as}
 use Prim.Native.Nat.{ℕ}
 use borrow.Author.Needs.{needs}
