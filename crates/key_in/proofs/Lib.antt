@@ -1,4 +1,3 @@
 pub mod BackLaws
-pub mod Walk
 pub mod Nodes
 pub mod Whole

@@ -22,13 +22,14 @@ use Rattle.key_parts.specs.Place.{stateAt, Inside, refusedAt, fillAt, atBit}
 use Rattle.key_parts.specs.Spelling.{Named, NamesIn}
 use Rattle.key_parts.specs.Choice.{Picked}
 use Rattle.key_parts.specs.Widths.{Spans, Slim, Sized}
-use Rattle.key_in.specs.Back.{Steady, Housed, withChild, fillOn, Went, PlainIn, Grown, NodeIn, Asks, Linked, AfterIn, NodesIn}
+use Rattle.key_parts.specs.Step.{Steady, Housed, withChild, fillOn, Went, PlainIn, Linked, AfterIn}
+use Rattle.key_in.specs.Back.{Grown, NodeIn, Asks, NodesIn}
 use Rattle.key_parts.specs.declared.place.Pos.{Pos}
 use Rattle.key_parts.specs.declared.place.Fill.{Fill}
 use Rattle.key_parts.specs.declared.choice.Pick.{Pick}
 use Rattle.key_parts.proofs.NeverLaws.{some-times}
 use Rattle.key_parts.proofs.Steps.{inside-as}
-use Rattle.key_in.proofs.Walk.{went-none, went-then, names-went, went-fillOn, spans-nodes, nodes-spans}
+use Rattle.key_parts.proofs.Walk.{went-none, went-then, names-went, went-fillOn, spans-nodes, nodes-spans}
 
 -- ---- The same over lengths that are equal
 

@@ -1,11 +1,8 @@
 // Taking a key back: from its bytes to nodes, names and text, by the table of forms.
 ghost use mathlib.Core.Path.{_≡_};
-ghost use Prim.Native.Nat.{_*_, _<_, _≤_};
 ghost use lib.Dec.{eqb};
-ghost use lib.ListN.{length};
-ghost use Rattle.keys.specs.Limits.{recordWords, noSpace};
+ghost use Rattle.keys.specs.Limits.{noSpace};
 ghost use Rattle.keys.specs.Key.{refusalPlace};
-ghost use Rattle.key_parts.specs.Spelling.{AsksSpellings};
 ghost use Rattle.key_in.specs.Back as back;
 use fields::reader;
 use fields::reader::Field;
@@ -15,104 +12,13 @@ use key_parts::place;
 use key_parts::place::Fill;
 use key_parts::place::Pos;
 use key_parts::refusal::Refusal;
-use key_parts::spelling;
+use key_parts::step;
 use keys::store;
 use node_table::forms;
 use node_table::forms::Row;
 use node_table::forms::TABLE;
 use words::limits::Key;
 use words::limits::Tree;
-
-// A step that goes into no child.
-fn take_plain(
-    forms: &[u16; TABLE],
-    key: &[u8],
-    names: &mut [u64],
-    text: &mut [u8],
-    steps: usize,
-    r: Row,
-    s: Fill,
-) -> Fill
-    requires { ⌜ back.AsksPlain (now forms) (now key) (now names) (now text) steps r s ⌝ }
-    ensures { λ q. ⌜ back.TakesPlain forms key names text steps r s q ⌝ }
-{
-    let op = r.op;
-    if forms::CHOICE <= op {
-        let p = s.at;
-        let c = choice::take_choice(forms, key, steps, r, p.bit);
-        return choice::choose(s, r.w, c);
-    }
-    let p = s.at;
-    if op == forms::SPELLINGS {
-        let at = spelling::take_spellings(key, names, text, r.w, s.n, p);
-        return Fill {
-            at,
-            base: s.base,
-            word: s.word,
-            shift: s.shift,
-            child: s.child,
-            form: r.b,
-            n: 1,
-        };
-    }
-    if op == forms::SPELLING {
-        let at = spelling::take_spelling(key, names, text, r.w, p);
-        return Fill {
-            at,
-            base: s.base,
-            word: s.word,
-            shift: s.shift,
-            child: s.child,
-            form: r.b,
-            n: s.n,
-        };
-    }
-    place::moved(s, place::refused(Refusal::BAD_KEY, p.bit))
-}
-
-// The walk after a child: it is the first, or the next of the child before it.
-fn link_child(nodes: &mut [u64], s: Fill, at: Pos) -> Fill
-    requires { ⌜ (s .base ≤ s .at .used) × (s .at .used < at .used) × (at .used * recordWords ≤ length (now nodes)) × (s .child * recordWords ≤ length (now nodes)) ⌝ }
-    ensures { λ q. ⌜ back.Linked (now (nodes .entry)) s at q (now (nodes .exit)) ⌝ }
-{
-    let p = s.at;
-    let used = p.used;
-    let last = at.used - 1;
-    if s.base < used {
-        store::link_node(nodes, used - 1, last);
-        return Fill {
-            at,
-            base: s.base,
-            word: s.word,
-            shift: s.shift,
-            child: s.child,
-            form: s.form,
-            n: s.n,
-        };
-    }
-    Fill {
-        at,
-        base: s.base,
-        word: s.word,
-        shift: s.shift,
-        child: last,
-        form: s.form,
-        n: s.n,
-    }
-}
-
-// The spelling after a child, if its length has any bits.
-fn take_after(key: &[u8], names: &mut [u64], text: &mut [u8], w: usize, s: Fill) -> Fill
-    requires { ⌜ AsksSpellings (now key) (now names) (now text) w (s .at) ⌝ }
-    ensures { λ q. ⌜ back.TakesAfter key names text w s q ⌝ }
-{
-    if w == 0 {
-        return s;
-    }
-    let from = s.at;
-    let at = spelling::take_spelling(key, names, text, w, from);
-    place::moved(s, at)
-}
 
 // A node of a class, with room for `left` nodes one above the other: it meets 10 at its tag, 6, 8, then its fields in order.
 fn take_node(
@@ -182,7 +88,7 @@ fn take_node(
                 return q;
             }
         } else {
-            s = take_plain(forms, key, names, text, depth, r, s);
+            s = step::take_plain(forms, key, names, text, depth, r, s);
             let q = s.at;
             if q.why != 0 {
                 return q;
@@ -216,8 +122,8 @@ fn take_nodes(
         if at.why != 0 {
             return place::moved(q, at);
         }
-        q = link_child(nodes, q, at);
-        q = take_after(key, names, text, r.w, q);
+        q = step::link_child(nodes, q, at);
+        q = step::take_after(key, names, text, r.w, q);
         let p = q.at;
         if p.why != 0 {
             return q;

@@ -4,3 +4,4 @@ pub mod Spelling
 pub mod Choice
 pub mod Padding
 pub mod Widths
+pub mod Step

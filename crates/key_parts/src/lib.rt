@@ -5,3 +5,4 @@ pub mod padding;
 pub mod place;
 pub mod refusal;
 pub mod spelling;
+pub mod step;

@@ -13,16 +13,16 @@ use Rattle.node_table.proofs.forms.class_at.Reads as class-at-reads
 use Rattle.node_table.proofs.forms.row_at.Reads as row-at-reads
 use Rattle.node_table.proofs.forms.word_at.Reads as word-at-reads
 use Rattle.key_parts.specs.Runs.{nodeRun}
-use Rattle.key_in.specs.Back.{Went}
+use Rattle.key_parts.specs.Step.{Went}
 use Rattle.key_parts.specs.declared.place.Pos.{Pos}
 use Rattle.key_parts.proofs.NeverLaws.{before-one, later}
-use Rattle.key_in.proofs.Walk.{went-none, steady-as}
+use Rattle.key_parts.proofs.Walk.{went-none, steady-as}
 use Rattle.key_in.proofs.Nodes.{row-sized, node-bad, node-tall, node-full, start-steady, start-housed, start-spans, node-stop, node-done, form-is, at-op, plain-on, plain-off, nodes-on, nodes-off, never-off}
 use Rattle.key_in.proofs.back.take_node.Reads as take-node
 use Rattle.key_in.proofs.back.take_nodes.Reads as take-nodes
 use Rattle.key_parts.proofs.place.refused.Reads as refused-reads
 use Rattle.key_parts.proofs.choice.take_tag.Reads as take-tag-reads
-use Rattle.key_in.proofs.back.take_plain.Reads as take-plain-reads
+use Rattle.key_parts.proofs.step.take_plain.Reads as take-plain-reads
 use Rattle.key_in.proofs.back.+take_node+take_nodes.Lts-take_node as lts
 use Rattle.key_in.proofs.back.+take_node+take_nodes.Proof.Base.{take-node-at, take-node-below, take-nodes-at, take-nodes-below}
 

@@ -10,9 +10,9 @@ use Rattle.key_parts.proofs.Steps.{inside-as}
 use Rattle.key_in.proofs.Nodes.{node-as, after-as, Kids, kids-none, kids-steady, kids-housed, kids-nodes, kids-names, kids-text, kids-bad, kid-steady, kids-cut, kids-more, kids-all}
 use Rattle.key_in.proofs.back.take_node.Reads as take-node
 use Rattle.key_in.proofs.back.take_nodes.Reads as take-nodes
-use Rattle.key_in.proofs.back.link_child.Reads as link-child-reads
+use Rattle.key_parts.proofs.step.link_child.Reads as link-child-reads
 use Rattle.key_parts.proofs.place.moved.Reads as moved-reads
-use Rattle.key_in.proofs.back.take_after.Reads as take-after-reads
+use Rattle.key_parts.proofs.step.take_after.Reads as take-after-reads
 use Rattle.key_in.proofs.back.+take_node+take_nodes.Lts-take_nodes as lts
 use Rattle.key_in.proofs.back.+take_node+take_nodes.Proof.Base.{take-node-at, take-node-below, take-nodes-at, take-nodes-below}
 

@@ -14,17 +14,17 @@ use Rattle.keys.specs.Stored.{Base, base, Stored, Own}
 use Rattle.keys.proofs.StoredLaws.{stored-same, own-same, stored-choice, own-choice, kid-first, kid-next, own-first, own-next}
 use Rattle.node_table.specs.Forms.{formBy, formOf, leads, entryOf, spellingsThen, nodesThen, spellingIf, tableMost}
 use Rattle.node_table.specs.declared.forms.Row.{Row}
 use Rattle.key_parts.specs.Runs.{Ran, halt, after, formRun}
 use Rattle.key_parts.specs.Place.{stateAt, Inside, refusedAt, fillAt, atBit}
 use Rattle.key_parts.specs.Spelling.{NamesIn, SpellingIn, SpellingsIn}
 use Rattle.key_parts.specs.Choice.{chosen, Picked}
 use Rattle.key_parts.specs.Widths.{Spans, Sized}
-use Rattle.key_in.specs.Back.{Steady, withChild, fillOn, Went, PlainIn, Linked, AfterIn}
+use Rattle.key_parts.specs.Step.{Steady, withChild, fillOn, Went, PlainIn, Linked, AfterIn}
 use Rattle.key_parts.specs.declared.place.Pos.{Pos}
 use Rattle.key_parts.specs.declared.place.Fill.{Fill}
 use Rattle.key_parts.specs.declared.choice.Pick.{Pick}
 use Rattle.key_parts.proofs.ChoiceLaws.{pack-lt}
 use Rattle.key_parts.proofs.Steps.{after-done, after-after, names-none, if-spelled}
 
 -- ---- Widths
 

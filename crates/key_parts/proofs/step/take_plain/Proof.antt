@@ -3,18 +3,18 @@ use native.Mathlib.Omega.{arith}
 use lib.ListN.{length}
 use Rattle.keys.specs.Bits.{bitsOfBytes}
 use Rattle.keys.proofs.BitsLaws.{length-bytes}
-use Rattle.key_in.proofs.Walk.{plain-words, plain-word, choice-fits, plain-choice, plain-never, nothing-else}
+use Rattle.key_parts.proofs.Walk.{plain-words, plain-word, choice-fits, plain-choice, plain-never, nothing-else}
 use borrow.Author.Needs.{needs}
-use Rattle.key_in.proofs.back.take_plain.Statement.{statement}
-use Rattle.key_in.proofs.back.take_plain.Tie as tie
-use Rattle.key_in.proofs.back.take_plain.Reads as reads
-use Rattle.key_in.proofs.back.take_plain.Lts as lts
+use Rattle.key_parts.proofs.step.take_plain.Statement.{statement}
+use Rattle.key_parts.proofs.step.take_plain.Tie as tie
+use Rattle.key_parts.proofs.step.take_plain.Reads as reads
+use Rattle.key_parts.proofs.step.take_plain.Lts as lts
 use Rattle.key_parts.proofs.choice.choose.Reads as choose-reads
 use Rattle.key_parts.proofs.place.moved.Reads as moved-reads
 use Rattle.key_parts.proofs.place.refused.Reads as refused-reads
 use Rattle.key_parts.proofs.choice.take_choice.Reads as take-choice-reads
 use Rattle.key_parts.proofs.spelling.take_spelling.Reads as take-spelling-reads
 use Rattle.key_parts.proofs.spelling.take_spellings.Reads as take-spellings-reads
 
 take-choice-requires : tie.Need-take-choice-requires
 take-choice-requires c κs =

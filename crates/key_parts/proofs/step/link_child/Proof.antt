@@ -1,13 +1,13 @@
 -- A child is the first, or the next of the one before it.
 use native.Mathlib.Omega.{arith}
 use mathlib.Core.Path.{sym}
-use Rattle.key_in.proofs.Walk.{linked-next, linked-first}
+use Rattle.key_parts.proofs.Walk.{linked-next, linked-first}
 use borrow.Author.Needs.{needs}
 use Rattle.keys.proofs.store.link_node.Reads as link-node-reads
-use Rattle.key_in.proofs.back.link_child.Statement.{statement}
-use Rattle.key_in.proofs.back.link_child.Tie as tie
-use Rattle.key_in.proofs.back.link_child.Reads as reads
-use Rattle.key_in.proofs.back.link_child.Lts as lts
+use Rattle.key_parts.proofs.step.link_child.Statement.{statement}
+use Rattle.key_parts.proofs.step.link_child.Tie as tie
+use Rattle.key_parts.proofs.step.link_child.Reads as reads
+use Rattle.key_parts.proofs.step.link_child.Lts as lts
 
 sub-last : tie.Need-sub-last
 sub-last c = search needs

@@ -1,14 +1,14 @@
 -- The spelling after a child, if there is one.
 use Rattle.keys.specs.Bits.{bitsOfBytes}
 use lib.ListN.{length}
-use Rattle.key_in.proofs.Walk.{after-none, after-some}
+use Rattle.key_parts.proofs.Walk.{after-none, after-some}
 use borrow.Author.Needs.{needs}
-use Rattle.key_in.proofs.back.take_after.Statement.{statement}
-use Rattle.key_in.proofs.back.take_after.Tie as tie
-use Rattle.key_in.proofs.back.take_after.Reads as reads
-use Rattle.key_in.proofs.back.take_after.Lts as lts
+use Rattle.key_parts.proofs.step.take_after.Statement.{statement}
+use Rattle.key_parts.proofs.step.take_after.Tie as tie
+use Rattle.key_parts.proofs.step.take_after.Reads as reads
+use Rattle.key_parts.proofs.step.take_after.Lts as lts
 use Rattle.key_parts.proofs.place.moved.Reads as moved-reads
 use Rattle.key_parts.proofs.spelling.take_spelling.Reads as take-spelling-reads
 
 returns : tie.Need-returns
 returns c =
