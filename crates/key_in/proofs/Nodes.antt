@@ -6,29 +6,26 @@ use native.Mathlib.Nat.{add-zero}
 use native.Mathlib.Omega.{arith}
 use lib.ListN.{length, drop, length-drop}
 use Rattle.keys.specs.Bits.{Bits}
-use Rattle.keys.specs.Form.{Form, never, one, word, choose, both, child, Grammar, State, state}
-use Rattle.keys.specs.Limits.{widest, badKey, tooTall, noRoom, halfWord, choicesWide}
-use Rattle.keys.specs.Store.{Run, done, chose, name, kid, _⊕_}
+use Rattle.keys.specs.Form.{Form, one, word, both, child, Grammar, State, state}
+use Rattle.keys.specs.Limits.{widest, halfWord, choicesWide}
+use Rattle.keys.specs.Store.{Run, done, chose, kid}
 use Rattle.keys.proofs.StoreLaws.{join-done}
 use Rattle.keys.specs.Table.{oneOf}
 use Rattle.keys.specs.Words.{firstNodes}
-use Rattle.keys.specs.Stored.{Base, base, Stored, Own}
+use Rattle.keys.specs.Stored.{base, Stored, Own}
 use Rattle.keys.proofs.StoredLaws.{stored-none, stored-choice, stored-node}
-use Rattle.node_table.specs.Forms.{Entry, listed, formBy, formOf, stepsOf, entryAt, classAt, grammarOf, leads, entryOf, IsRow, Narrow, nodesThen, spellingIf, tableMost}
+use Rattle.node_table.specs.Forms.{Entry, listed, formBy, formOf, stepsOf, entryAt, classAt, grammarOf, leads, entryOf, IsRow, nodesThen, spellingIf, tableMost}
 use Rattle.node_table.proofs.FormsLaws.{form-at}
 use Rattle.node_table.specs.declared.forms.Row.{Row}
-use Rattle.key_parts.specs.Runs.{Ran, ran, halt, after, thenRun, asChild, roomRun, haltAt, choiceRun, formRun, nodeRun}
-use Rattle.key_parts.specs.Place.{stateAt, Inside, refusedAt, fillAt, atBit}
-use Rattle.key_parts.specs.Spelling.{Named, NamesIn}
+use Rattle.key_parts.specs.Runs.{Ran, ran, halt, after, thenRun, asChild, roomRun, formRun, nodeRun}
+use Rattle.key_parts.specs.Place.{stateAt, refusedAt, fillAt}
 use Rattle.key_parts.specs.Choice.{Picked}
-use Rattle.key_parts.specs.Widths.{Spans, Slim, Sized}
+use Rattle.key_parts.specs.Widths.{Spans}
 use Rattle.key_parts.specs.Step.{Steady, Housed, withChild, fillOn, Went, PlainIn, Linked, AfterIn}
 use Rattle.key_in.specs.Back.{Grown, NodeIn, Asks, NodesIn}
 use Rattle.key_parts.specs.declared.place.Pos.{Pos}
 use Rattle.key_parts.specs.declared.place.Fill.{Fill}
 use Rattle.key_parts.specs.declared.choice.Pick.{Pick}
-use Rattle.key_parts.proofs.NeverLaws.{some-times}
-use Rattle.key_parts.proofs.Steps.{inside-as}
 use Rattle.key_parts.proofs.Walk.{went-none, went-then, names-went, went-fillOn, spans-nodes, nodes-spans}
 
 -- ---- The same over lengths that are equal
@@ -40,9 +37,6 @@ node-as {bs} {lm} {lx} {lm'} {lx'} {G} {left} {c} {p} {N} {M} {X} {q} {N'} {M'} 
 pub after-as : {bs : Bits} {lm lx lm' lx' w : ℕ} {s : Fill} {M X : List ℕ} {q : Fill} {M' X' : List ℕ} → lm' ≡ lm → lx' ≡ lx
     → AfterIn bs lm' lx' w s M X q M' X' → AfterIn bs lm lx w s M X q M' X'
 after-as {bs} {lm} {lx} {lm'} {lx'} {w} {s} {M} {X} {q} {M'} {X'} a b d = subst₂ (λ (x y : ℕ). AfterIn bs x y w s M X q M' X') a b d
-
-pub row-sized : (T : List ℕ) (f : ℕ) {r : Row} → IsRow (entryAt T f) r → Narrow T → Sized r
-row-sized T f {r} i n = record { w = subst (λ (x : Entry). x .w ≤ widest) (sym (i .is)) (n .at f); a = i .from; b = i .next }
 
 -- ---- n nodes, i of them taken
 

@@ -1,25 +1,24 @@
 -- A whole key: its length, its edition, its tree and its last bits; and what the call leaves of it.
 use mathlib.Core.Path.{_≡_, refl, sym, ap, ap₂, _∙_, subst, subst₂}
 use mathlib.Core.Bool.{Bool, true, false}
-use mathlib.Core.List.{List, [], _∷_, _++_, append-assoc, append-nil}
-use Prim.Native.Nat.{ℕ, zero, suc, _+_, _-_, _*_, _/_, _%_, _≤_, _<_}
+use mathlib.Core.List.{List, [], _++_, append-assoc, append-nil}
+use Prim.Native.Nat.{ℕ, _+_, _-_, _*_, _/_, _%_, _≤_, _<_}
 use native.Mathlib.Omega.{arith}
-use borrow.Author.Tests.{le-leb, lt-leb, ne-eqb}
-use lib.Dec.{leb, eqb}
+use borrow.Author.Tests.{le-leb, lt-leb}
+use lib.Dec.{eqb}
 use lib.ListN.{length, take, drop}
-use Rattle.keys.specs.Bits.{Bits, Field, short, field, takeField, bitsOfBytes}
-use Rattle.keys.specs.Form.{Value, nothing, spelt, choice, pair, node, Form, never, choose, child, Grammar, isNever, nodes, names, letters, State, state, Result, got, stop, into, allowed, ifWhole, takeForm, takeNode}
+use Rattle.keys.specs.Bits.{Bits, takeField, bitsOfBytes}
+use Rattle.keys.specs.Form.{Value, nothing, spelt, choice, pair, node, Form, child, Grammar, isNever, nodes, names, letters, State, state, Result, got, stop, into, allowed, ifWhole, takeForm, takeNode}
 use Rattle.keys.specs.Limits.{longestKey, tallest, newest, countWidth, recordWords, badKey, noSpace}
-use Rattle.keys.specs.Table.{when, type, typeUnder, wholeKey}
+use Rattle.keys.specs.Table.{type, typeUnder, wholeKey}
 use Rattle.keys.specs.Placed.{bare, laid}
-use Rattle.keys.specs.Key.{padding, closed, taken, refused, refusalPlace, outcome, takeWhole, nodeTable, takeWithin, takeKey}
-use Rattle.keys.specs.Store.{Run, done, chose, name, kid, plant, under, called, records, namesIn, nodesOf, namesOf, textOf, filled, lent, takeBack}
+use Rattle.keys.specs.Key.{padding, closed, refused, refusalPlace, outcome, nodeTable, takeWithin, takeKey}
+use Rattle.keys.specs.Store.{Run, done, kid, plant, under, called, records, namesIn, nodesOf, namesOf, textOf, filled, lent, takeBack}
 use Rattle.keys.specs.Store as store
 use Rattle.keys.proofs.BitsLaws.{clash, length-bytes}
 use Rattle.keys.proofs.StoreLaws.{under-plant, called-plant, length-textOf, bare-laid}
 use Rattle.keys.specs.Words.{firstNodes, firstNames}
-use Rattle.keys.specs.Lines.{lined}
-use Rattle.keys.specs.Stored.{lettersIn, base, Stored}
+use Rattle.keys.specs.Stored.{lettersIn}
 use Rattle.fields.specs.Take.{answered}
 use Rattle.fields.specs.Reader.{remembered}
 use Rattle.fields.specs.declared.reader.Field.the-variants.{Read, Cut}
@@ -27,16 +26,15 @@ use Rattle.fields.proofs.Chunks.{Told}
 use Rattle.fields.proofs.ReaderLaws.{field-cut, read-told, read-next}
 use Rattle.node_table.specs.Forms.{grammarOf, tableWords}
 use Rattle.node_table.proofs.FormsLaws.{words-are}
-use Rattle.key_parts.specs.Runs.{Ran, ran, halt, nodeRun}
-use Rattle.key_parts.specs.Place.{stateAt, Inside, refusedAt}
+use Rattle.key_parts.specs.Runs.{ran, halt, nodeRun}
+use Rattle.key_parts.specs.Place.{stateAt, refusedAt}
 use Rattle.key_parts.specs.Padding.{Ends}
 use Rattle.key_parts.specs.Widths.{Slim}
-use Rattle.key_in.specs.Back.{NodeIn, Asks, Grown, Held, WholeIn, Answers, told}
+use Rattle.key_in.specs.Back.{NodeIn, Asks, Grown, Held, WholeIn, Answers}
 use Rattle.key_parts.specs.declared.place.Pos.{Pos}
-use Rattle.key_in.specs.declared.back.Answer.{Answer}
 use Rattle.key_in.specs.declared.back.Answer.the-variants.{Taken, Refused}
 use Rattle.key_parts.proofs.Lines.{runBy, node-run, lined-run}
-use Rattle.key_parts.proofs.Rows.{table-fine, words-slim}
+use Rattle.key_parts.proofs.Rows.{table-fine, words-slim, other-edition}
 
 -- ---- What a tree's run holds
 
@@ -87,10 +85,6 @@ node-is lm lx T e bs p z y h c =
 place-zero : (b : Bool) → refusalPlace b 0 ≡ 0
 place-zero true = refl
 place-zero false = refl
-
--- Another edition's number leads to nothing.
-other-edition : (e : ℕ) → (e ≡ 1 → ⊥) → isNever (typeUnder newest e) ≡ true
-other-edition e h = ap (λ (b : Bool). isNever (when b type)) (ne-eqb e 1 h)
 
 module _ (key : List ℕ) (n k m : ℕ) where
   abbrev bs : Bits

@@ -107,7 +107,8 @@ pub data Fine : Form → ℕ → Type 0 where
   choose-fine : {w x n : ℕ} {fs : ℕ → Form} (m : ℕ) → wider w x + m ≤ n → ((k : ℕ) → Fine (fs k) m) → Fine (choose w x fs) n
   both-fine : {f g : Form} {n : ℕ} (a b : ℕ) → a + b ≤ n → isNever f ≡ false → isNever g ≡ false → Fine f a → Fine g b → Fine (both f g) n
 
-never-line : {f : Form} {n : ℕ} → Fine f n → (g : Form) → isNever g ≡ false → isNever (inLine f g) ≡ isNever f
+-- A form with another behind it is never exactly where it is never by itself.
+pub never-line : {f : Form} {n : ℕ} → Fine f n → (g : Form) → isNever g ≡ false → isNever (inLine f g) ≡ isNever f
 never-line never-fine g z = refl
 never-line one-fine g z = z
 never-line word-fine g z = refl

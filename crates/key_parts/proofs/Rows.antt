@@ -4,10 +4,11 @@ use mathlib.Core.Bool.{Bool, true, false}
 use mathlib.Core.List.{List, [], _∷_}
 use Prim.Native.Nat.{ℕ, zero, suc, _+_, _-_, _≤_}
 use native.Mathlib.Omega.{arith}
+use borrow.Author.Tests.{ne-eqb}
 use lib.Dec.{leb, ltb}
 use Rattle.keys.specs.Form.{Form, never, one, word, choose, both, child, Grammar, isNever}
 use Rattle.keys.specs.Limits.{newest, countWidth, tagWide, choicesWide}
-use Rattle.keys.specs.Table.{when, oneOf, times, flag, below, opt, needed, spelling, subject, list, args, rows, rowsOf, table, namedRow, typeParamRow, paramRow, propertyKey, signatureRow, literals, type, underRest}
+use Rattle.keys.specs.Table.{when, oneOf, times, flag, below, opt, needed, spelling, subject, list, args, rows, rowsOf, table, namedRow, typeParamRow, paramRow, propertyKey, signatureRow, literals, type, underRest, typeUnder}
 use Rattle.keys.specs.Key.{nodeTable}
 use Rattle.keys.specs.Lines.{inLine, lined}
 use Rattle.node_table.specs.Forms.{grammarOf, tableWords}
@@ -204,3 +205,7 @@ words-slim =
       narrow = words-narrow;
       rows = λ c t. subst (λ (G : Grammar). Spans (G .row c t) (choicesWide - G .tagWidth c)) (sym (words-are newest)) (row-spans c t);
     }
+
+-- Another edition's number leads to nothing.
+pub other-edition : (e : ℕ) → (e ≡ 1 → ⊥) → isNever (typeUnder newest e) ≡ true
+other-edition e h = ap (λ (b : Bool). isNever (when b type)) (ne-eqb e 1 h)

@@ -5,14 +5,14 @@ use mathlib.Core.Logic.{_⊎_, inl, inr}
 use Prim.Native.Nat.{ℕ, zero, suc, _+_, _-_, _*_, _≤_, _<_}
 use native.Mathlib.Omega.{arith}
 use lib.ListN.{length, set, length-set, length-drop}
-use Rattle.keys.specs.Limits.{choicesWide}
+use Rattle.keys.specs.Limits.{widest, choicesWide}
 use Rattle.keys.specs.Bits.{Bits}
 use Rattle.keys.specs.Form.{Form, word, choose, both, child, State}
 use Rattle.keys.specs.Store.{Run, done, chose, _⊕_}
 use Rattle.keys.proofs.StoreLaws.{join-join}
 use Rattle.keys.specs.Stored.{Base, base, Stored, Own}
 use Rattle.keys.proofs.StoredLaws.{stored-same, own-same, stored-choice, own-choice, kid-first, kid-next, own-first, own-next}
-use Rattle.node_table.specs.Forms.{formBy, formOf, leads, entryOf, spellingsThen, nodesThen, spellingIf, tableMost}
+use Rattle.node_table.specs.Forms.{Entry, formBy, formOf, leads, entryOf, spellingsThen, nodesThen, spellingIf, tableMost, entryAt, IsRow, Narrow}
 use Rattle.node_table.specs.declared.forms.Row.{Row}
 use Rattle.key_parts.specs.Runs.{Ran, halt, after, formRun}
 use Rattle.key_parts.specs.Place.{stateAt, Inside, refusedAt, fillAt, atBit}
@@ -27,6 +27,10 @@ use Rattle.key_parts.proofs.ChoiceLaws.{pack-lt}
 use Rattle.key_parts.proofs.Steps.{after-done, after-after, names-none, if-spelled}
 
 -- ---- Widths
+
+-- A row that was read fits the table.
+pub row-sized : (T : List ℕ) (f : ℕ) {r : Row} → IsRow (entryAt T f) r → Narrow T → Sized r
+row-sized T f {r} i n = record { w = subst (λ (x : Entry). x .w ≤ widest) (sym (i .is)) (n .at f); a = i .from; b = i .next }
 
 pub spans-words : (n w : ℕ) (g : Form) (m : ℕ) → Spans (spellingsThen n w g) m → Spans g m
 spans-words zero w g m h = h

@@ -6,18 +6,10 @@ use lib.ListN.{drop}
 use Rattle.keys.specs.Bits.{Bits, Field, short, field, takeField}
 use Rattle.keys.specs.Form.{Form, one, Grammar, isNever}
 use Rattle.keys.specs.Lines.{inLine, lined}
-use Rattle.key_parts.proofs.Lines.{Fine, never-fine, one-fine, word-fine, child-fine, choose-fine, both-fine}
+use Rattle.key_parts.proofs.Lines.{Fine, never-fine, one-fine, word-fine, child-fine, choose-fine, both-fine, never-line}
 use Rattle.differs.specs.Content.{Content, ends, chooses}
 use Rattle.sound_keys.specs.Sound.{Scan, reads, fails, after, thenRead, asNode, readAllowed, readWhole, readForm, readNode}
 use Rattle.sound_keys.proofs.Checking.{join-ends, after-ends, then-after}
-
-never-line : {f : Form} {n : ℕ} → Fine f n → (g : Form) → isNever g ≡ false → isNever (inLine f g) ≡ isNever f
-never-line never-fine g z = refl
-never-line one-fine g z = z
-never-line word-fine g z = refl
-never-line child-fine g z = refl
-never-line (choose-fine m l k) g z = refl
-never-line (both-fine {f = f} {g = h} a b l x y p q) g z = never-line p (inLine h g) (never-line q g z ∙ y) ∙ x
 
 then-then : (x : Scan) (k m : ℕ → Scan) → thenRead x (λ e. thenRead (k e) m) ≡ thenRead (thenRead x k) m
 then-then (reads c e) k m = sym (then-after c (k e) m)

@@ -6,20 +6,15 @@ use native.Mathlib.Omega.{arith}
 use lib.ListN.{length}
 use Rattle.keys.specs.Bits.{Bits}
 use Rattle.keys.specs.Form.{Form, child}
-use Rattle.keys.specs.Limits.{badKey, tooTall, widest}
-use Rattle.node_table.specs.Forms.{Entry, formOf, formBy, leads, grammarOf, entryOf, entryAt, classAt, stepsOf, IsRow, spellingIf, nodesThen, Narrow}
+use Rattle.keys.specs.Limits.{badKey, tooTall}
+use Rattle.node_table.specs.Forms.{Entry, formOf, formBy, leads, grammarOf, entryOf, entryAt, classAt, stepsOf, IsRow, spellingIf, nodesThen}
 use Rattle.node_table.proofs.FormsLaws.{form-at}
 use Rattle.node_table.specs.declared.forms.Row.{Row}
 use Rattle.differs.specs.Content.{ends, chooses, enters}
-use Rattle.key_parts.specs.Widths.{Sized}
 use Rattle.sound_keys.specs.Sound.{Scan, fails, _⊕_, after, asNode, readChoice, readForm, readNode, ComesTo, Onward, Spotted, checkAt, AfterOn, ChoiceOn, NodesOn}
 use Rattle.sound_keys.specs.declared.sound.Check.{Check}
 use Rattle.sound_keys.specs.declared.sound.Spot.{Spot}
 use Rattle.sound_keys.proofs.Checking.{on-none, on-then, on-child, checks-bad, checks-good}
-
--- A row that was read fits the table.
-pub row-sized : (T : List ℕ) → Narrow T → (f : ℕ) (r : Row) → IsRow (entryAt T f) r → Sized r
-row-sized T n f r i = record { w = subst (λ (x : Entry). x .w ≤ widest) (sym (i .is)) (n .at f); a = i .from; b = i .next }
 
 pub placed-as : {a b : ℕ} {s : Spot} → a ≡ b → Spotted a s → Spotted b s
 placed-as {s = s} e p = subst (λ (x : ℕ). Spotted x s) e p

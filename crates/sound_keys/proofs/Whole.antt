@@ -1,25 +1,25 @@
 -- A whole key: its length, its edition, its tree and its last bits.
 use mathlib.Core.Path.{_≡_, refl, sym, ap, ap₂, _∙_, subst}
-use mathlib.Core.Bool.{Bool, true}
+use mathlib.Core.Bool.{Bool}
 use mathlib.Core.List.{List}
 use Prim.Native.Nat.{ℕ, zero, suc, _+_, _-_, _*_, _%_, _≤_, _<_}
 use native.Mathlib.Nat.{le-refl}
 use native.Mathlib.Omega.{arith}
-use borrow.Author.Tests.{le-leb, lt-leb, ne-eqb}
+use borrow.Author.Tests.{le-leb, lt-leb}
 use lib.ListN.{length, drop, length-drop}
-use Rattle.keys.specs.Bits.{Bits, short, field, takeField, bitsOfBytes}
+use Rattle.keys.specs.Bits.{Bits, short, takeField, bitsOfBytes}
 use Rattle.keys.proofs.BitsLaws.{clash, length-bytes}
 use Rattle.keys.specs.Form.{Value, nothing, choice, child, Grammar, isNever, State, state, Result, stop, into, allowed, ifWhole, takeForm, takeNode}
 use Rattle.keys.specs.Limits.{longestKey, tallest, newest, countWidth, badKey}
-use Rattle.keys.specs.Table.{when, type, typeUnder, wholeKey}
-use Rattle.keys.specs.Key.{Taken, padding, closed, taken, refused, refusalPlace, outcome, nodeTable, takeWithin}
+use Rattle.keys.specs.Table.{typeUnder, wholeKey}
+use Rattle.keys.specs.Key.{Taken, padding, closed, refused, refusalPlace, outcome, nodeTable, takeWithin}
 use Rattle.fields.specs.Take.{answered}
 use Rattle.fields.specs.declared.take.TakenField.the-variants.{Number, Short}
 use Rattle.fields.proofs.Chunks.{Told, number-told, field-short}
 use Rattle.node_table.specs.Forms.{grammarOf, tableWords}
 use Rattle.node_table.proofs.FormsLaws.{words-are}
 use Rattle.key_parts.specs.Padding.{Ends}
-use Rattle.key_parts.proofs.Rows.{table-fine}
+use Rattle.key_parts.proofs.Rows.{table-fine, other-edition}
 use Rattle.differs.specs.Content.{contentOf}
 use Rattle.differs.specs.Differ.{checked}
 use Rattle.sound_keys.specs.Sound.{reads, fails, readNode, ComesTo, checkAt, verdict, Judges, Wholly}
@@ -39,10 +39,6 @@ eager-table (suc (suc (suc (suc (suc zero))))) zero e = eager-both (eager-choose
 eager-table (suc (suc (suc (suc (suc zero))))) (suc t) e = eager-never
 eager-table (suc (suc (suc (suc (suc (suc zero)))))) t e = absurd (omega arith)
 eager-table (suc (suc (suc (suc (suc (suc (suc c))))))) t e = eager-never
-
--- Another edition's number leads to nothing.
-other-edition : (e : ℕ) → (e ≡ 1 → ⊥) → isNever (typeUnder newest e) ≡ true
-other-edition e h = ap (λ (b : Bool). isNever (when b type)) (ne-eqb e 1 h)
 
 module _ (T key : List ℕ) where
   abbrev bs : Bits

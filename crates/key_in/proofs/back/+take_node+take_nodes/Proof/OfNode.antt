@@ -16,8 +16,8 @@ use Rattle.key_parts.specs.Runs.{nodeRun}
 use Rattle.key_parts.specs.Step.{Went}
 use Rattle.key_parts.specs.declared.place.Pos.{Pos}
 use Rattle.key_parts.proofs.NeverLaws.{before-one, later}
-use Rattle.key_parts.proofs.Walk.{went-none, steady-as}
-use Rattle.key_in.proofs.Nodes.{row-sized, node-bad, node-tall, node-full, start-steady, start-housed, start-spans, node-stop, node-done, form-is, at-op, plain-on, plain-off, nodes-on, nodes-off, never-off}
+use Rattle.key_parts.proofs.Walk.{row-sized, went-none, steady-as}
+use Rattle.key_in.proofs.Nodes.{node-bad, node-tall, node-full, start-steady, start-housed, start-spans, node-stop, node-done, form-is, at-op, plain-on, plain-off, nodes-on, nodes-off, never-off}
 use Rattle.key_in.proofs.back.take_node.Reads as take-node
 use Rattle.key_in.proofs.back.take_nodes.Reads as take-nodes
 use Rattle.key_parts.proofs.place.refused.Reads as refused-reads

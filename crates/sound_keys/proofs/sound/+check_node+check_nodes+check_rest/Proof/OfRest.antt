@@ -6,7 +6,8 @@ use Rattle.keys.proofs.BitsLaws.{length-bytes}
 use Prim.Native.Nat.{ℕ, _-_}
 use Rattle.node_table.specs.Forms.{grammarOf}
 use Rattle.sound_keys.specs.Sound.{readNode}
-use Rattle.sound_keys.proofs.Nodes.{row-sized, placed-as, Going, going-none, going-never, going-end, going-stop, going-more, nodes-step}
+use Rattle.key_parts.proofs.Walk.{row-sized}
+use Rattle.sound_keys.proofs.Nodes.{placed-as, Going, going-none, going-never, going-end, going-stop, going-more, nodes-step}
 use Prim.Native.Nat.{ℕ}
 use borrow.Author.Needs.{needs}
 use Rattle.sound_keys.proofs.sound.check_plain.Reads as check-plain-reads
@@ -60,7 +61,7 @@ module _ (t : ℕ) where
       let args = c .before .before .before .before .before .before .before .args in
       let loop = c .before .before .before .before .loop in
       let row-at = c .before .before .row-at in
-      (omega (arith, pre .0), (pre .1 .0, placed-as (length-bytes (args .key .now)) (loop .inv .placed), row-sized (args .forms .now) (pre .1 .2) (loop .s .form) (row-at .result) (row-at .ensures), pre .1 .2))
+      (omega (arith, pre .0), (pre .1 .0, placed-as (length-bytes (args .key .now)) (loop .inv .placed), row-sized (args .forms .now) (loop .s .form) (row-at .ensures) (pre .1 .2), pre .1 .2))
 
   pub stopped-requires-2 : lts.Need-stopped-requires-2 (R t) (check-rest-at t) check-rest.Post Inv-loop μ-loop
   stopped-requires-2 c κs = search needs
@@ -100,7 +101,7 @@ module _ (t : ℕ) where
       let row-at = c .before .before .row-at in
       let if1 = c .before .if1 in
       let if2 = c .if2 in
-      (pre .1 .0, placed-as (length-bytes (args .key .now)) (loop .inv .placed), row-sized (args .forms .now) (pre .1 .2) (loop .s .form) (row-at .result) (row-at .ensures), if1 .left, if2 .left)
+      (pre .1 .0, placed-as (length-bytes (args .key .now)) (loop .inv .placed), row-sized (args .forms .now) (loop .s .form) (row-at .ensures) (pre .1 .2), if1 .left, if2 .left)
 
   pub stopped-requires-3 : lts.Need-stopped-requires-3 (R t) (check-rest-at t) check-rest.Post Inv-loop μ-loop
   stopped-requires-3 c κs = search needs
