@@ -1,6 +1,7 @@
 // A node or a name of a tree on one line: its tag unless its spelling says it, its choices in words and its spellings, and
 // in brackets its children.
 ghost use Prim.Native.Nat.{_<_};
+use crate::say;
 use crate::tree::Known;
 use crate::tree::choice_word;
 use crate::tree::choosing;
@@ -18,7 +19,6 @@ use speech::put::byte_at;
 use speech::put::least;
 use speech::put::more;
 use speech::put::pick;
-use speech::say;
 use visits::visits::CHOICE;
 use visits::visits::NAME;
 use visits::visits::NODE;

@@ -1,6 +1,9 @@
 // One JSON object for a reading: what it came to, its place or its key, end, type rules entered, diagnostics and tree.
 ghost use Prim.Native.Nat.{_<_};
 ghost use lib.ListN.{length};
+use crate::place;
+use crate::place::place_of;
+use crate::say;
 use crate::tree::Tag;
 use crate::tree::place_word;
 use crate::tree::spelling;
@@ -9,8 +12,6 @@ use lines::line::byte;
 use lines::line::bytes;
 use noted::Note;
 use noted::notes_of;
-use speech::place;
-use speech::place::place_of;
 use speech::put::Shape;
 use speech::put::copy;
 use speech::put::least;
@@ -18,7 +19,6 @@ use speech::put::more;
 use speech::put::numbered;
 use speech::put::pick;
 use speech::put::times;
-use speech::say;
 use visits::visits::CHOICE;
 use visits::visits::NODE;
 use visits::visits::Visit;

@@ -4,6 +4,7 @@ ghost use lib.ListN.{length};
 use crate::json;
 use crate::reading::ok_key;
 use crate::reading::visit_words;
+use crate::say;
 use crate::tagged::walk;
 use crate::tree;
 use lines::line::byte;
@@ -13,7 +14,6 @@ use speech::ask::Form;
 use speech::hex::pointed;
 use speech::put::least;
 use speech::put::numbered;
-use speech::say;
 use words::limits::Tree;
 
 fn refused_all(out: &mut [u8; 65536], at: usize, key: &[u8], number: usize, bit: usize) -> usize

@@ -1,6 +1,7 @@
 // A tree printed by its visits: a line for each node, indented, with its tag, its bytes, its choices in words and its spellings.
 ghost use Prim.Native.Nat.{_<_};
 ghost use lib.ListN.{length};
+use crate::say;
 use keys::store::name_at;
 use lines::line::byte;
 use lines::line::bytes;
@@ -10,7 +11,6 @@ use speech::put::more;
 use speech::put::numbered;
 use speech::put::pick;
 use speech::put::times;
-use speech::say;
 use visits::visits::CHOICE;
 use visits::visits::NODE;
 use visits::visits::Visit;

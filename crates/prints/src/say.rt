@@ -1,11 +1,11 @@
 // Refusals, diagnostics and tags in words.
 ghost use Prim.Native.Nat.{_<_};
 ghost use lib.ListN.{length};
-use crate::put::Shape;
-use crate::put::copy;
-use crate::put::pick;
 use lines::line::bytes;
 use noted::Note;
+use speech::put::Shape;
+use speech::put::copy;
+use speech::put::pick;
 
 // Which of two things is spoken of, if there are two.
 pub fn side(out: &mut [u8; 65536], at: usize, number: usize) -> usize

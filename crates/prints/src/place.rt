@@ -1,18 +1,18 @@
 // Places of a text: line and column, and the source line with carets under some of its bytes.
 ghost use Prim.Native.Nat.{_<_, _≤_};
 ghost use lib.ListN.{length};
-use crate::put::Shape;
-use crate::put::byte_at;
-use crate::put::copy;
-use crate::put::count;
-use crate::put::goes_on;
-use crate::put::least;
-use crate::put::more;
-use crate::put::numbered;
-use crate::put::since;
-use crate::put::until;
 use lines::line::byte;
 use lines::line::bytes;
+use speech::put::Shape;
+use speech::put::byte_at;
+use speech::put::copy;
+use speech::put::count;
+use speech::put::goes_on;
+use speech::put::least;
+use speech::put::more;
+use speech::put::numbered;
+use speech::put::since;
+use speech::put::until;
 
 // A line and a column, both from 1 on; columns count characters.
 pub struct Place {
