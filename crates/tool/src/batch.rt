@@ -1,14 +1,14 @@
 // A type a line on standard input, each read and printed.
 ghost use Prim.Native.Nat.{_<_};
 use crate::show;
+use intake::feed::Feed;
+use intake::feed::footed;
+use intake::feed::headed;
+use intake::feed::line;
+use intake::feed::progress;
+use intake::feed::trimmed;
 use speech::ask::Job;
 use speech::ask::for_line;
-use speech::feed::Feed;
-use speech::feed::footed;
-use speech::feed::headed;
-use speech::feed::line;
-use speech::feed::progress;
-use speech::feed::trimmed;
 use speech::put::part;
 
 // What a line came to.

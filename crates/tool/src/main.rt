@@ -5,6 +5,8 @@ mod diff;
 mod show;
 
 ghost use Prim.Native.Nat.{_<_};
+use intake::room;
+use intake::source::sought;
 use lines::line::flush;
 use speech::ask;
 use speech::ask::Asked;
@@ -13,8 +15,6 @@ use speech::ask::job_of;
 use speech::help::help;
 use speech::help::version;
 use speech::put::part;
-use speech::room;
-use speech::source::sought;
 
 // The type that begins a text.
 fn typed(

@@ -1,16 +1,16 @@
 // A text read by the library, and printed.
 ghost use Prim.Native.Nat.{_<_, _≤_};
 ghost use lib.ListN.{length};
+use intake::cut::cut;
+use intake::room::note_room;
 use prints::reading::Extent;
 use prints::reading::Stop;
 use prints::reading::granted;
 use prints::reading::refused;
 use speech::ask::Job;
-use speech::cut::cut;
 use speech::put::least;
 use speech::put::part;
 use speech::put::part_words;
-use speech::room::note_room;
 use typekey::reading::Counts;
 use typekey::reading::Reading;
 use typekey::reading::Refused;

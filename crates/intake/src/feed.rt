@@ -1,16 +1,16 @@
 // Lines of standard input, and what is said around each.
 ghost use mathlib.Core.Path.{_≡_};
 ghost use Prim.Native.Nat.{_<_};
-use crate::ask::Form;
-use crate::ask::Job;
-use crate::put::Shape;
-use crate::put::byte_at;
-use crate::put::copy;
-use crate::put::least;
-use crate::put::numbered;
 use lines::line::byte;
 use lines::line::bytes;
 use lines::line::flush;
+use speech::ask::Form;
+use speech::ask::Job;
+use speech::put::Shape;
+use speech::put::byte_at;
+use speech::put::copy;
+use speech::put::least;
+use speech::put::numbered;
 
 // The input that is at hand: the next byte and the end of it.
 pub struct Feed {

@@ -1,7 +1,7 @@
 -- `cut::turns` is safe and ends: the turns that are left fall. Assumes nothing.
 use borrow.Author.Needs.{needs}
-use Rattle.speech.proofs.cut.turns.Statement.{statement}
-use Rattle.speech.proofs.cut.turns.Tie as tie
+use Rattle.intake.proofs.cut.turns.Statement.{statement}
+use Rattle.intake.proofs.cut.turns.Tie as tie
 
 abbrev Inv-loop : tie.InvT-loop
 Inv-loop text words₀ stack₀ c₀ left₀ words stack c left = Unit {0}

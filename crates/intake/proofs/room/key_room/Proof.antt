@@ -2,8 +2,8 @@
 use Prim.Native.Nat.{ℕ}
 use mathlib.Core.Path.{sym}
 use lib.ListN.{length-replicate}
-use Rattle.speech.proofs.room.key_room.Statement.{statement}
-use Rattle.speech.proofs.room.key_room.Tie as tie
+use Rattle.intake.proofs.room.key_room.Statement.{statement}
+use Rattle.intake.proofs.room.key_room.Tie as tie
 
 returns : tie.Need-returns
 returns c = sym (length-replicate {0} {A = ℕ} 262160 0)

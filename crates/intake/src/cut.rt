@@ -4,11 +4,11 @@
 ghost use mathlib.Core.Path.{_≡_};
 ghost use Prim.Native.Nat.{_+_, _-_, _<_, _≤_};
 ghost use lib.ListN.{length};
-use crate::put::byte_at;
-use crate::put::count;
-use crate::put::entry_of;
-use crate::put::least;
-use crate::put::more;
+use speech::put::byte_at;
+use speech::put::count;
+use speech::put::entry_of;
+use speech::put::least;
+use speech::put::more;
 use words::kind::Kind;
 use words::token::word;
 

@@ -1,8 +1,8 @@
 -- `feed::line` is safe and ends: the place stays within the buffer, and the turns that are left fall. Assumes nothing.
 use borrow.Author.Needs.{needs}
 use Prim.Native.Nat.{_<_}
-use Rattle.speech.proofs.feed.line.Statement.{statement}
-use Rattle.speech.proofs.feed.line.Tie as tie
+use Rattle.intake.proofs.feed.line.Statement.{statement}
+use Rattle.intake.proofs.feed.line.Tie as tie
 
 abbrev Inv-loop : tie.InvT-loop
 Inv-loop out₀ at input₀ text₀ p₀ f₀ size₀ left₀ out input text p f size left = p < 65536

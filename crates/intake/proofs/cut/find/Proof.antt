@@ -2,8 +2,8 @@
 use borrow.Author.Needs.{needs}
 use Prim.Native.Nat.{_-_}
 use lib.ListN.{length}
-use Rattle.speech.proofs.cut.find.Statement.{statement}
-use Rattle.speech.proofs.cut.find.Tie as tie
+use Rattle.intake.proofs.cut.find.Statement.{statement}
+use Rattle.intake.proofs.cut.find.Tie as tie
 
 abbrev Inv-loop : tie.InvT-loop
 Inv-loop text from what i₀ i = Unit {0}

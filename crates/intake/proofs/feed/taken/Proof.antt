@@ -1,8 +1,8 @@
 -- `feed::taken` is safe and ends: the input that is left falls. Assumes nothing.
 use borrow.Author.Needs.{needs}
 use Prim.Native.Nat.{_-_}
-use Rattle.speech.proofs.feed.taken.Statement.{statement}
-use Rattle.speech.proofs.feed.taken.Tie as tie
+use Rattle.intake.proofs.feed.taken.Statement.{statement}
+use Rattle.intake.proofs.feed.taken.Tie as tie
 
 abbrev Inv-loop : tie.InvT-loop
 Inv-loop text₀ size input f at n₀ i₀ text n i = Unit {0}

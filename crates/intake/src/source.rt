@@ -1,7 +1,7 @@
 // The text or the key that an argument names.
-use crate::ask::Asked;
-use crate::ask::From;
-use crate::put::byte_at;
+use speech::ask::Asked;
+use speech::ask::From;
+use speech::put::byte_at;
 
 // A text's length without the line break that ends it.
 fn trimmed(text: &[u8], size: usize) -> usize {
