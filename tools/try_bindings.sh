@@ -1,7 +1,7 @@
 #!/bin/sh
 # try_bindings.sh: runs the tests and examples of C, Rust, Python and JavaScript over the library in target/lib, or in the
 # folder that TYPEKEY_LIB names; if it is not in target/lib, it is built there first, without proof. Then the cases of the tool.
-# The parts run beside each other. One line for each; one that can't be run here is skipped and says so; of one that fails
+# The parts run beside each other, C's fuzzer for a quarter of the cases that it tries alone. One line for each; one that can't be run here is skipped and says so; of one that fails
 # all that it printed is shown. Exit 1 if one fails.
 set -eu
 root=$(cd "$(dirname "$0")/.." && pwd -P)
@@ -35,7 +35,7 @@ part() {
     fi
 }
 
-part gcc tests/c/run.sh
+part gcc tests/c/run.sh "$TYPEKEY_LIB" 50000
 part gcc examples/c/run.sh
 part cargo bindings/rust/run_tests.sh
 part cargo examples/rust/run.sh
