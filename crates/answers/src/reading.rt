@@ -16,14 +16,14 @@ use marks::tally::entered;
 use words::limits::{Key, Tree};
 
 // What the call answers.
-#[derive(Drop)]
+#[derive(Clone, Copy)]
 pub enum Reading {
     Read(Counts),
     Refused(Refused),
 }
 
 // How much was used of each slice, where the last node is the root; the end cursor; and how many type rules were entered.
-#[derive(Drop)]
+#[derive(Clone, Copy)]
 pub struct Counts {
     pub nodes: usize,
     pub names: usize,
@@ -35,7 +35,7 @@ pub struct Counts {
 }
 
 // A refusal's number; its token, the half used of it, and the first byte not used: all 0 where there is no such place.
-#[derive(Drop)]
+#[derive(Clone, Copy)]
 pub struct Refused {
     pub number: usize,
     pub token: usize,

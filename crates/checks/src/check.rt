@@ -11,7 +11,7 @@ use words::limits::{Text, Tokens};
 use words::token;
 
 // What a check finds: nothing wrong, or a refusal.
-#[derive(Drop)]
+#[derive(Clone, Copy)]
 pub enum Checked {
     Sound,
     // refusal 1, at 0

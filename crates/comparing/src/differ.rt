@@ -24,7 +24,7 @@ pub const RIGHT: u32 = 2;
 pub const PAIR: usize = 2;
 
 // What the call answers: how many pairs there are; or a refusal's number, side and bit.
-#[derive(Drop)]
+#[derive(Clone, Copy)]
 pub enum Differing {
     Found(usize),
     Refused(u32, u32, usize),

@@ -18,7 +18,7 @@ pub fn list_room() -> [u64; 65536]
 }
 
 // The words that a record lends, and the lengths of its keys.
-#[derive(Drop)]
+#[derive(Clone, Copy)]
 pub struct Rooms {
     pub list: usize,
     pub left: usize,

@@ -9,14 +9,14 @@ use crate::take;
 use crate::take::TakenField;
 
 // A key, and the bit of it that is taken next.
-#[derive(Drop)]
+#[derive(Clone, Copy)]
 pub struct KeyReader<'a> {
     pub key: &'a [u8],
     pub bit: usize,
 }
 
 // What a reader took: a field's number and the bit that it remembers after it, or that the bits end inside the field.
-#[derive(Drop)]
+#[derive(Clone, Copy)]
 pub enum Field {
     Read(u32, usize),
     Cut,

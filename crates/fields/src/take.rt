@@ -6,7 +6,7 @@ ghost use Rattle.fields.specs.Put.{far};
 ghost use Rattle.fields.specs.Take.{answered, Four, Copied};
 
 // A field's number, or that the bits end inside it.
-#[derive(Drop)]
+#[derive(Clone, Copy)]
 pub enum TakenField {
     Number(u32),
     Short,

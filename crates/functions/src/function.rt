@@ -55,7 +55,7 @@ pub fn begins(words: &[u64], classes: &[u16; 256], m: Mark) -> bool
 }
 
 // A function type up to its type parameters: where it begins, whether abstract and new stood there, where they ended.
-#[derive(Drop)]
+#[derive(Clone, Copy)]
 pub struct FunctionHead {
     pub b: Begin,
     pub is_abstract: bool,
@@ -81,7 +81,7 @@ pub fn function_head(words: &[u64], m: Mark) -> FunctionHead
 
 // The `this` of a parameter list, which is no node: 0 for none, else its two bits as the node table has them (1, and 2 for
 // its type); its first and end byte.
-#[derive(Drop)]
+#[derive(Clone, Copy)]
 pub struct This {
     pub bits: usize,
     pub first: usize,
@@ -101,7 +101,7 @@ impl This {
 }
 
 // Parameters: the children of the function type so far, how many of them are parameters, and the `this`; or a refusal.
-#[derive(Drop)]
+#[derive(Clone, Copy)]
 pub struct Params {
     pub why: usize,
     pub count: usize,

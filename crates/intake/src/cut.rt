@@ -8,7 +8,7 @@ use words::kind::Kind;
 use words::token::word;
 
 // Where the cutter stands: the next byte, the words made, 1 behind a line break, the braces and templates open.
-#[derive(Drop)]
+#[derive(Clone, Copy)]
 struct Standing {
     pos: usize,
     made: usize,
@@ -17,7 +17,7 @@ struct Standing {
 }
 
 // A token's kind and the index behind it.
-#[derive(Drop)]
+#[derive(Clone, Copy)]
 struct Piece {
     kind: usize,
     end: usize,
@@ -99,7 +99,7 @@ fn wide_blank(text: &[u8], i: usize) -> usize {
 
 // ---- Runs of bytes
 
-#[derive(Drop)]
+#[derive(Clone, Copy)]
 struct Run {}
 
 impl Run {

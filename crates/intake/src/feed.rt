@@ -6,14 +6,14 @@ use speech::ask::{Form, Job};
 use speech::put::{Shape, byte_at, copy, least, numbered};
 
 // The input that is at hand: the next byte and the end of it.
-#[derive(Drop)]
+#[derive(Clone, Copy)]
 pub struct Feed {
     pub at: usize,
     pub end: usize,
 }
 
 // A line: its length, whether it is one, the input behind it, and the place in the buffer of what is printed.
-#[derive(Drop)]
+#[derive(Clone, Copy)]
 pub struct Got {
     pub size: usize,
     pub is: bool,

@@ -20,7 +20,7 @@ fn trimmed(text: &[u8], size: usize) -> usize {
 }
 
 // A text that was found, its length, or why there is none.
-#[derive(Drop)]
+#[derive(Clone, Copy)]
 pub struct Found {
     pub size: usize,
     pub is: bool,

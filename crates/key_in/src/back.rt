@@ -182,7 +182,7 @@ fn take_whole(key: &[u8], nodes: &mut [u64], names: &mut [u64], text: &mut [u8])
 }
 
 // What taking back answers: the nodes, names and bytes of text used; or a refusal's number and place.
-#[derive(Drop)]
+#[derive(Clone, Copy)]
 pub enum Answer {
     Taken(usize, usize, usize),
     Refused(u32, usize),

@@ -13,7 +13,7 @@ use node_table::forms;
 use node_table::forms::{Row, TABLE};
 
 // A choice: why it stopped, the bit after it, its number, and what it leads to.
-#[derive(Drop)]
+#[derive(Clone, Copy)]
 pub struct Pick {
     pub why: u32,
     pub bit: usize,

@@ -4,7 +4,7 @@ ghost use Rattle.node_table.specs.Forms.{table_most};
 ghost use Rattle.key_parts.specs.Place.{refused_at, fill_at};
 
 // Where taking is: why it stopped (0: it did not) and the bit; the nodes left; the nodes, names and bytes of text used.
-#[derive(Drop)]
+#[derive(Clone, Copy)]
 pub struct Pos {
     pub why: u32,
     pub bit: usize,
@@ -16,7 +16,7 @@ pub struct Pos {
 
 // The same inside a node: the nodes used before it, its choices so far and how many bits they have, its first child; its next form, and how many times
 // that form's first step is done.
-#[derive(Drop)]
+#[derive(Clone, Copy)]
 pub struct Fill {
     pub at: Pos,
     pub base: usize,

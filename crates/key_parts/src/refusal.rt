@@ -1,5 +1,5 @@
 // The refusals that taking back meets, by document 01's numbers.
-#[derive(Drop)]
+#[derive(Clone, Copy)]
 pub struct Refusal {}
 
 impl Refusal {

@@ -110,7 +110,7 @@ fn high(x: u64) -> usize
 }
 
 // What a walk of a node starts from: its own choices and its first child.
-#[derive(Drop)]
+#[derive(Clone, Copy)]
 pub struct Node {
     pub word: u64,
     pub child: usize,
@@ -179,7 +179,7 @@ pub fn retag(nodes: &mut [u64], at: usize, tag: usize)
 }
 
 // Where a node stands in the text: its first and its end byte.
-#[derive(Drop)]
+#[derive(Clone, Copy)]
 pub struct Place {
     pub first: usize,
     pub end: usize,
@@ -205,7 +205,7 @@ pub fn next_of(nodes: &[u64], at: usize) -> usize
 }
 
 // Where a spelling stands in the text.
-#[derive(Drop)]
+#[derive(Clone, Copy)]
 pub struct Name {
     pub start: usize,
     pub size: usize,

@@ -17,7 +17,7 @@ pub fn visit_room() -> [u64; 4096]
 }
 
 // How much a record lends, and its key's length: each no more than there is room for; and whether it asks for no more.
-#[derive(Drop)]
+#[derive(Clone, Copy)]
 pub struct Rooms {
     pub nodes: usize,
     pub names: usize,

@@ -12,7 +12,7 @@ use keys::store::{append_node, link_node};
 use words::limits::{List, Tree};
 
 // Holds nothing: the tags of the node table are its constants.
-#[derive(Drop)]
+#[derive(Clone, Copy)]
 pub struct Tag {}
 
 impl Tag {
@@ -70,7 +70,7 @@ impl Tag {
 }
 
 // How many numbers the count of a list can be.
-#[derive(Drop)]
+#[derive(Clone, Copy)]
 pub struct Count {}
 
 impl Count {

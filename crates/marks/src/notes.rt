@@ -12,7 +12,7 @@ use keys::store::{Place, clear_words};
 use words::limits::Notes;
 
 // Holds nothing: the numbers are its constants.
-#[derive(Drop)]
+#[derive(Clone, Copy)]
 pub struct Note {}
 
 impl Note {
@@ -44,7 +44,7 @@ impl Note {
 }
 
 // How diagnostics stand in the words of a reading: first some for tallies, then a record each.
-#[derive(Drop)]
+#[derive(Clone, Copy)]
 pub struct Noting {}
 
 impl Noting {

@@ -1,7 +1,7 @@
 // The numbers of refusals, under their names in document 01.
 
 // Holds nothing: the numbers are its constants.
-#[derive(Drop)]
+#[derive(Clone, Copy)]
 pub struct Refusal {}
 
 impl Refusal {

@@ -9,7 +9,7 @@ use words::token;
 
 // What every rule is given beside tokens and slices: room for nodes, records for diagnostics, preserve_parens, and how many
 // type rules may still open below.
-#[derive(Drop)]
+#[derive(Clone, Copy)]
 pub struct Given {
     pub room: usize,
     pub records: usize,
@@ -18,7 +18,7 @@ pub struct Given {
 }
 
 // Where a reading stands: the cursor, and how much of each slice is used. All this a trial puts back.
-#[derive(Drop)]
+#[derive(Clone, Copy)]
 pub struct Mark {
     pub at: usize,
     pub half: usize,
@@ -28,7 +28,7 @@ pub struct Mark {
 }
 
 // Where a node begins: its first byte, and the number of its first name.
-#[derive(Drop)]
+#[derive(Clone, Copy)]
 pub struct Begin {
     pub first: usize,
     pub name: usize,
@@ -49,7 +49,7 @@ impl Begin {
 
 // What a rule answers. Read, where `why` is 0: the height of the tree, whose root is the last node used, and where
 // reading stands then. Else refused: the refusal's number, and where reading stood.
-#[derive(Drop)]
+#[derive(Clone, Copy)]
 pub struct Answer {
     pub why: usize,
     pub high: usize,
@@ -72,7 +72,7 @@ impl Answer {
 }
 
 // The children of a node so far: the first one's number, how many, the greatest height among them.
-#[derive(Drop)]
+#[derive(Clone, Copy)]
 pub struct Kids {
     pub first: usize,
     pub count: usize,
@@ -104,7 +104,7 @@ impl Kids {
 }
 
 // What a list comes to: whether it was there, and its entries; or a refusal, as in an answer.
-#[derive(Drop)]
+#[derive(Clone, Copy)]
 pub struct Listed {
     pub why: usize,
     pub there: bool,
@@ -137,7 +137,7 @@ impl Listed {
 }
 
 // What a node's rule finds before its first type: choices of the node, and where that type begins; or a refusal.
-#[derive(Drop)]
+#[derive(Clone, Copy)]
 pub struct Head {
     pub why: usize,
     pub choices: usize,

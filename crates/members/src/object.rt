@@ -27,7 +27,7 @@ use words::cursor::Cursor;
 use words::kind::{Class, Kind};
 
 // Holds nothing: the sorts of members in the node table are its constants.
-#[derive(Drop)]
+#[derive(Clone, Copy)]
 pub struct Sort {}
 
 impl Sort {
@@ -47,7 +47,7 @@ impl Sort {
 // ---- Heads
 
 // A member up to its first type: its sort, its choices so far, and where reading stands then; or a refusal.
-#[derive(Drop)]
+#[derive(Clone, Copy)]
 pub struct MemberHead {
     pub why: usize,
     pub sort: usize,
@@ -365,7 +365,7 @@ pub fn signature_node(
 // ---- Index signatures
 
 // Parameters of an index signature so far: how many, 2 for several; of the first its type, a child, and its end byte.
-#[derive(Drop)]
+#[derive(Clone, Copy)]
 pub struct IndexParams {
     pub count: usize,
     pub kids: Kids,

@@ -41,7 +41,7 @@ pub fn words() -> [u16; TABLE]
 }
 
 // One form of the table.
-#[derive(Drop)]
+#[derive(Clone, Copy)]
 pub struct Row {
     pub op: usize,
     pub w: usize,
@@ -116,7 +116,7 @@ pub fn class_at(forms: &[u16], class: usize) -> Row
 }
 
 // The form that a choice leads to, and how many times its first step is done.
-#[derive(Drop)]
+#[derive(Clone, Copy)]
 pub struct Jump {
     pub form: usize,
     pub n: usize,

@@ -7,14 +7,14 @@ use crate::forms;
 use crate::forms::Row;
 
 // Where a walk is: the next place in its output and the next name.
-#[derive(Drop)]
+#[derive(Clone, Copy)]
 pub struct Mark {
     pub to: usize,
     pub name: usize,
 }
 
 // The same inside a node: its choices still to come, its next child, its form, how often the form's first step is done, and the steps left.
-#[derive(Drop)]
+#[derive(Clone, Copy)]
 pub struct Walk {
     pub to: usize,
     pub name: usize,
@@ -26,7 +26,7 @@ pub struct Walk {
 }
 
 // The first of a node's own choices: its number, and the choices after it.
-#[derive(Drop)]
+#[derive(Clone, Copy)]
 pub struct Chosen {
     pub number: usize,
     pub word: u64,

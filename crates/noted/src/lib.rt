@@ -6,7 +6,7 @@ use words::cursor::word_at;
 use words::limits::Notes;
 
 // A diagnostic: its number, its first byte and its end byte, and those of a second place; an end of 0 where there is none.
-#[derive(Drop)]
+#[derive(Clone, Copy)]
 pub struct Note {
     pub number: usize,
     pub first: usize,
@@ -16,7 +16,7 @@ pub struct Note {
 }
 
 // How many words a diagnostic has.
-#[derive(Drop)]
+#[derive(Clone, Copy)]
 struct Record {}
 
 impl Record {

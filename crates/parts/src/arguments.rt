@@ -54,7 +54,7 @@ pub fn opened(words: &[u64], m: Mark) -> Mark
 }
 
 // A reference, typeof or import up to its arguments: its first choices, and how many names stand in its list.
-#[derive(Drop)]
+#[derive(Clone, Copy)]
 pub struct Named {
     pub why: usize,
     pub choices: usize,

@@ -27,7 +27,7 @@ use words::ahead::mapped_start;
 use words::kind::{Class, Kind, in_class};
 
 // What a primary type begins as.
-#[derive(Drop)]
+#[derive(Clone, Copy)]
 pub enum Start {
     // a keyword, `this` alone
     Keyword,
@@ -302,7 +302,7 @@ pub fn literal(words: &[u64], nodes: &mut [u64], names: &mut [u64], given: Given
 }
 
 // The choices of literals: the tag, and which of seven.
-#[derive(Drop)]
+#[derive(Clone, Copy)]
 pub struct LiteralChoices {}
 
 impl LiteralChoices {

@@ -12,7 +12,7 @@ use speech::put::{byte_at, least, more, pick};
 use visits::visits::{CHOICE, NAME, NODE, Visit, visit_at};
 
 // The place in the buffer, whether a blank is due before the next word, and the depth of the last node.
-#[derive(Drop)]
+#[derive(Clone, Copy)]
 struct Shown {
     at: usize,
     due: bool,

@@ -55,7 +55,7 @@ fn side_json(
 }
 
 // The bits of a pair.
-#[derive(Drop)]
+#[derive(Clone, Copy)]
 struct Bits {
     left: usize,
     right: usize,
@@ -181,7 +181,7 @@ fn pair(
 }
 
 // The place in the buffer, the next pair, and the bit of the next visit.
-#[derive(Drop)]
+#[derive(Clone, Copy)]
 struct Reached {
     at: usize,
     next: usize,

@@ -5,7 +5,7 @@ use lines::line::{byte, bytes};
 use speech::put::{Shape, byte_at, copy, count, goes_on, least, more, numbered, since, until};
 
 // A line and a column, both from 1 on; columns count characters.
-#[derive(Drop)]
+#[derive(Clone, Copy)]
 pub struct Place {
     pub line: usize,
     pub column: usize,
@@ -94,7 +94,7 @@ fn cut_mark(out: &mut [u8; 65536], at: usize, is_cut: bool, mark: &[u8]) -> usiz
 }
 
 // The part of a source line that is shown, and the line itself: the first byte and the end of each.
-#[derive(Drop)]
+#[derive(Clone, Copy)]
 struct Part {
     first: usize,
     end: usize,

@@ -15,7 +15,7 @@ use words::token;
 
 // How much a reading used of what it was lent; its end: a token and how many bytes of that one are used; and how many type rules
 // it entered.
-#[derive(Drop)]
+#[derive(Clone, Copy)]
 pub struct Extent {
     pub nodes: usize,
     pub names: usize,
@@ -27,7 +27,7 @@ pub struct Extent {
 }
 
 // A refusal: its number, and the token, the half and the byte that it is at.
-#[derive(Drop)]
+#[derive(Clone, Copy)]
 pub struct Stop {
     pub number: usize,
     pub token: usize,

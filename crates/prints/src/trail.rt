@@ -89,7 +89,7 @@ fn eight(n: usize) -> usize {
 
 // ---- Steps: a number of a list, and which of several, 0 where there is one; above them a name's number and one, once it is known
 
-#[derive(Drop)]
+#[derive(Clone, Copy)]
 struct Step {
     role: usize,
     which: usize,

@@ -9,7 +9,7 @@ use visits::visits::{CHOICE, NODE, Visit, visit_at};
 use words::cursor::word_at;
 
 // The tag of an object, and of the rows of the table that have none: the five sorts of members from the property on.
-#[derive(Drop)]
+#[derive(Clone, Copy)]
 pub struct Tag {}
 
 impl Tag {
@@ -28,7 +28,7 @@ impl Tag {
 
 // What is known of an open node: its tag, how far its choices are, whether it has a child yet, its children and its names
 // since the last choice.
-#[derive(Drop)]
+#[derive(Clone, Copy)]
 pub struct Known {
     pub tag: usize,
     pub phase: usize,
@@ -38,7 +38,7 @@ pub struct Known {
 }
 
 // The place in the buffer, and whose line is being written: the depth of its names, 0 if nobody's.
-#[derive(Drop)]
+#[derive(Clone, Copy)]
 struct Line {
     at: usize,
     of: usize,

@@ -20,7 +20,7 @@ use typekey::reading::read;
 use typekey::taking::take_back;
 
 // What stands after a record: the place in the buffer of lines, 1 if the answer was another, and whether there may be more.
-#[derive(Drop)]
+#[derive(Clone, Copy)]
 struct After {
     at: usize,
     different: usize,
@@ -28,7 +28,7 @@ struct After {
 }
 
 // What stands after all records: the place in the buffer of lines, how many there were, and how many differ.
-#[derive(Drop)]
+#[derive(Clone, Copy)]
 struct Total {
     at: usize,
     run: usize,

@@ -11,7 +11,7 @@ pub fn note_room() -> [u64; 212]
 }
 
 // What a record asks for: its call and options, the start, and the lengths of all that is lent.
-#[derive(Drop)]
+#[derive(Clone, Copy)]
 pub struct Asked {
     pub op: u8,
     pub start: usize,

@@ -16,14 +16,14 @@ use node_table::forms::Row;
 use words::limits::{Key, Tree};
 
 // Where a check is: why it stopped (0: it did not), and the bit.
-#[derive(Drop)]
+#[derive(Clone, Copy)]
 pub struct Check {
     pub why: u32,
     pub bit: usize,
 }
 
 // The same inside a node: its next form, and how many times that form's first step is done.
-#[derive(Drop)]
+#[derive(Clone, Copy)]
 pub struct Spot {
     pub why: u32,
     pub bit: usize,

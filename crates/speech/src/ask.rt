@@ -5,7 +5,7 @@ use crate::put::{byte_at, entry_of, numbered, pick};
 use lines::line::{bytes, put_out};
 
 // What is printed.
-#[derive(Drop)]
+#[derive(Clone, Copy)]
 pub struct Form {}
 
 impl Form {
@@ -19,7 +19,7 @@ impl Form {
 }
 
 // What is read.
-#[derive(Drop)]
+#[derive(Clone, Copy)]
 pub struct From {}
 
 impl From {
@@ -45,7 +45,7 @@ impl From {
 }
 
 // The numbers of the options that take a value, in the list of options.
-#[derive(Drop)]
+#[derive(Clone, Copy)]
 struct Valued {}
 
 impl Valued {
@@ -65,7 +65,7 @@ impl Valued {
 }
 
 // What was wrong, as numbers of a list.
-#[derive(Drop)]
+#[derive(Clone, Copy)]
 struct Wrong {}
 
 impl Wrong {
@@ -84,7 +84,7 @@ impl Wrong {
 
 // All that was asked: what to print and to read, the argument that names it, and the first where two are compared; brackets, nodes
 // and bytes to lend; the option that waits for its value; whether only texts follow; what was wrong, and in which argument.
-#[derive(Drop)]
+#[derive(Clone, Copy)]
 pub struct Asked {
     pub form: usize,
     pub from: usize,
@@ -369,7 +369,7 @@ pub fn complain(out: &mut [u8; 65536], a: Asked, buffer: &mut [u8]) {
 
 // How a type is read and printed: the form, brackets, the most nodes and bytes of key to lend, the number of the text's first line;
 // the side, 1 or 2, where two are compared.
-#[derive(Drop)]
+#[derive(Clone, Copy)]
 pub struct Job {
     pub form: usize,
     pub parens: bool,

@@ -18,7 +18,7 @@ fn digit(b: u8) -> u8
 }
 
 // How far the digits are taken: bytes made, the first digit of a byte or 16, and whether all was hex.
-#[derive(Drop)]
+#[derive(Clone, Copy)]
 pub struct Taken {
     pub made: usize,
     pub first: u8,

@@ -5,7 +5,7 @@ ghost use Rattle.io.specs.Counts.{IsPrefixLen};
 use lines::line::{byte, bytes};
 
 // The shapes of a byte.
-#[derive(Drop)]
+#[derive(Clone, Copy)]
 pub struct Shape {}
 
 impl Shape {

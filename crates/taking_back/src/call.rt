@@ -4,14 +4,14 @@ ghost use Rattle.taking_back.specs.Call.{TakesBack};
 use key_in::back::Answer;
 
 // What the call answers.
-#[derive(Drop)]
+#[derive(Clone, Copy)]
 pub enum Taking {
     Taken(Used),
     Refused(NotTaken),
 }
 
 // How much was used of each slice, where the last node is the root; letters are bytes of text.
-#[derive(Drop)]
+#[derive(Clone, Copy)]
 pub struct Used {
     pub nodes: usize,
     pub names: usize,
@@ -19,7 +19,7 @@ pub struct Used {
 }
 
 // A refusal's number and bit.
-#[derive(Drop)]
+#[derive(Clone, Copy)]
 pub struct NotTaken {
     pub number: usize,
     pub bit: usize,

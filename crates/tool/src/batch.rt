@@ -48,7 +48,7 @@ fn typed(
 }
 
 // What stands after a line: the place in the buffer, the next byte of the input at hand and its end, whether there may be more.
-#[derive(Drop)]
+#[derive(Clone, Copy)]
 struct After {
     at: usize,
     next: usize,

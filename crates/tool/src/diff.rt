@@ -20,7 +20,7 @@ use words::limits::Tree;
 // ---- The two keys
 
 // The place in the buffer, the length of a key, and whether there is one.
-#[derive(Drop)]
+#[derive(Clone, Copy)]
 struct Made {
     at: usize,
     size: usize,

@@ -18,7 +18,7 @@ use words::kind::{Class, Kind, in_class};
 
 // An element up to its type: where it begins, its dots, its label with the label's first byte and `?`, and where its type
 // begins, whose own dots are passed.
-#[derive(Drop)]
+#[derive(Clone, Copy)]
 pub struct Label {
     pub b: Begin,
     pub rest: bool,
@@ -234,7 +234,7 @@ fn rest_of(
 // ---- Diagnostic 4
 
 // The latest optional element of a tuple, if there is one, by its place.
-#[derive(Drop)]
+#[derive(Clone, Copy)]
 pub struct Latest {
     pub there: bool,
     pub place: Place,
@@ -253,7 +253,7 @@ impl Latest {
 }
 
 // What a tuple knows of its elements: the latest optional one, and where reading stands; or a refusal.
-#[derive(Drop)]
+#[derive(Clone, Copy)]
 pub struct Seen {
     pub why: usize,
     pub latest: Latest,

@@ -263,7 +263,7 @@ pub fn walk(nodes: &[u64], names: &[u64], root: usize, tall: usize, visits: &mut
 }
 
 // A visit as a printer meets it; all 0 past the last.
-#[derive(Drop)]
+#[derive(Clone, Copy)]
 pub struct Visit {
     pub kind: u64,
     pub number: usize,

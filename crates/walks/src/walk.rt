@@ -16,7 +16,7 @@ use sound_keys::sound;
 use sound_keys::sound::Spot;
 
 // Where a walk is: the bits in both keys, and how many pairs were found.
-#[derive(Drop)]
+#[derive(Clone, Copy)]
 pub struct Both {
     pub left: usize,
     pub right: usize,

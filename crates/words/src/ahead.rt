@@ -40,7 +40,7 @@ fn lone_starter(classes: &[u16; 256], kind: usize, next: usize) -> bool
 }
 
 // How a function type can begin, and that none does. The last two name the token that the parameter start ends with.
-#[derive(Drop)]
+#[derive(Clone, Copy)]
 pub enum FunctionStart {
     // `<`
     TypeParameters,

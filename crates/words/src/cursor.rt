@@ -5,7 +5,7 @@ ghost use Rattle.words.specs.Cursor as cursor;
 use crate::kind::Kind;
 use crate::token;
 
-#[derive(Drop)]
+#[derive(Clone, Copy)]
 pub struct Cursor {
     pub at: usize,
     pub half: usize,

@@ -5,7 +5,7 @@ ghost use Rattle.words.specs.Class.{class_words, in_class};
 use crate::tables::CLASSES;
 
 // Holds nothing: the kinds are its constants.
-#[derive(Drop)]
+#[derive(Clone, Copy)]
 pub struct Kind {}
 
 impl Kind {
@@ -146,7 +146,7 @@ impl Kind {
 }
 
 // The classes of kinds: a class is a bit of a class word.
-#[derive(Drop)]
+#[derive(Clone, Copy)]
 pub struct Class {}
 
 impl Class {

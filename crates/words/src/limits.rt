@@ -2,14 +2,14 @@
 ghost use Rattle.std.specs.Prelude.{◌≡◌};
 ghost use Rattle.words.specs.Limits.{most_text, most_tokens, most_open, tallest, longest, most_notes, most_key, most_trials, most_entered};
 
-#[derive(Drop)]
+#[derive(Clone, Copy)]
 pub struct Text {}
 
 impl Text {
     pub const MOST: usize = 65535;
 }
 
-#[derive(Drop)]
+#[derive(Clone, Copy)]
 pub struct Tokens {}
 
 impl Tokens {
@@ -17,21 +17,21 @@ impl Tokens {
 }
 
 // Type rules that are open at once.
-#[derive(Drop)]
+#[derive(Clone, Copy)]
 pub struct OpenRules {}
 
 impl OpenRules {
     pub const MOST: usize = 64;
 }
 
-#[derive(Drop)]
+#[derive(Clone, Copy)]
 pub struct Tree {}
 
 impl Tree {
     pub const TALLEST: usize = 256;
 }
 
-#[derive(Drop)]
+#[derive(Clone, Copy)]
 pub struct List {}
 
 impl List {
@@ -39,14 +39,14 @@ impl List {
 }
 
 // Diagnostics of one reading.
-#[derive(Drop)]
+#[derive(Clone, Copy)]
 pub struct Notes {}
 
 impl Notes {
     pub const MOST: usize = 32;
 }
 
-#[derive(Drop)]
+#[derive(Clone, Copy)]
 pub struct Key {}
 
 impl Key {
@@ -54,7 +54,7 @@ impl Key {
 }
 
 // Constraints of infer that are tried at once.
-#[derive(Drop)]
+#[derive(Clone, Copy)]
 pub struct Trials {}
 
 impl Trials {
@@ -62,7 +62,7 @@ impl Trials {
 }
 
 // How far the type rules that were entered are counted.
-#[derive(Drop)]
+#[derive(Clone, Copy)]
 pub struct Entered {}
 
 impl Entered {
@@ -70,7 +70,7 @@ impl Entered {
 }
 
 // All of them: what the code has is what the definitions have.
-#[derive(Drop)]
+#[derive(Clone, Copy)]
 pub struct Limits {
     pub text: usize,
     pub tokens: usize,

@@ -10,7 +10,7 @@ use lines::{line, record, room};
 use words::kind::class_words;
 
 // The text's length and the number of words, each no more than there is room for; and whether a record has no more.
-#[derive(Drop)]
+#[derive(Clone, Copy)]
 struct Sizes {
     text: usize,
     words: usize,
