@@ -1,6 +1,8 @@
 // Runs the crate `differs` on each record of the file that the first argument names, and prints a line for each.
 // A record: op (1 byte), the words lent for the list, the lengths of the left and of the right key (4 bytes each, lowest first),
 // the left key, the right key. A record that the file cuts short, or that is too large, prints `cut`.
+#![tactic(auto)]
+
 mod answer;
 mod record;
 

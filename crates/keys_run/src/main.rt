@@ -2,6 +2,8 @@
 // A record: op (1 byte), the words lent for nodes and for names, the bytes lent for text and for the key written again,
 // the key's length (4 bytes each, lowest first), the key. A record that the file cuts short, or that is too large,
 // prints `cut`.
+#![tactic(auto)]
+
 mod answer;
 mod record;
 mod sum;

@@ -1,4 +1,6 @@
 // Diagnostics as structs: each stored at the next place of a slice that the caller lends.
+#![tactic(auto)]
+
 ghost use Rattle.std.specs.Prelude.{◌≡◌, length};
 ghost use Rattle.noted.specs.Structs.{no_struct, struct_at, structs_of, store_at, place_after, store_from};
 

@@ -1,5 +1,7 @@
 // What the tool prints of a tree, of a reading, of a key that was taken back and of two trees that differ: lines, or JSON;
 // places of a text, and refusals in words.
+#![tactic(auto)]
+
 pub mod brief;
 pub mod differing;
 pub mod json;

@@ -7,6 +7,8 @@
 // or the key. A length for which there is no room counts as the room there is. The key of a granted reading is taken back
 // too, into what the record lends, and written again from there: it must be the same. All that is lent is dirty before
 // each call. A record that the file cuts short prints `cut` and ends the run.
+#![tactic(auto)]
+
 mod answer;
 mod back;
 mod record;

@@ -1,1 +1,2 @@
 // Document 01's reading rules.
+#![tactic(auto)]

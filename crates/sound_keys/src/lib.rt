@@ -1,2 +1,4 @@
 // Whether a byte string is a key, with nothing taken from it.
+#![tactic(auto)]
+
 pub mod sound;

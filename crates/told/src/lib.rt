@@ -1,3 +1,5 @@
 // How an answer is told in eight words, and what the word of options says.
+#![tactic(auto)]
+
 pub mod answer;
 pub mod options;

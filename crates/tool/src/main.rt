@@ -1,4 +1,6 @@
 // typekey: reads a TypeScript type and prints its tree, its diagnostics and its key, takes a key back, or says where two differ.
+#![tactic(auto)]
+
 mod back;
 mod batch;
 mod diff;

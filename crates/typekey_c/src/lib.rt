@@ -1,4 +1,6 @@
 // The open calls as C, Rust, Python and JavaScript see them: pointers, lengths and 64-bit numbers only, each answer as eight words.
+#![tactic(auto)]
+
 ghost use Rattle.typekey_c.specs.Words.{Tells, TellsBack, TellsDifference};
 
 use told::answer::{tell_difference, tell_reading, tell_taking};

@@ -1,2 +1,4 @@
 // Two keys walked side by side.
+#![tactic(auto)]
+
 pub mod walk;

@@ -1,6 +1,8 @@
 // Runs the crates `words` and `checks` on each record of the file that the first argument names, and prints a line for each.
 // A record: op (1 byte), a, b, the text's length, the number of words (4 bytes each, lowest first), the text, the
 // words (8 bytes each, lowest first). A record that the file cuts short, or that is too large, prints `cut`.
+#![tactic(auto)]
+
 mod answer;
 
 ghost use Rattle.std.specs.Prelude.{◌≡◌, ◌<◌, ◌≤◌, length};

@@ -1,0 +1,283 @@
+#!/usr/bin/env python3
+"""port_proofs.py NAMES CRATE..: turns each Proof.antt over generated needs into Invariants.antt and Answers.antt.
+
+NAMES is a folder with NAMES/CRATE/names.json, as `rattle check --generated NAMES/CRATE --old-names` writes it. An answer keeps its term: the
+way to each fact (`c.before.before.kind-at`) becomes the fact's name of today (`c.kind_at`), a tuple for several clauses a record by their
+names. Answers that are a bare search are left out, since the check tries that itself. What has no counterpart is printed.
+"""
+import json
+import os
+import re
+import sys
+
+NAME = r'[^\s(){}.;,@"«»\[\]|]+'
+USE = re.compile(r"^use ", re.M)
+plain = lambda s: s.replace("_", "-")
+ENTRY = {"args": "args", "requires": "requires", "pre": "requires", "ranges": "ranges", "fits": "ranges", "type-inv": "type_inv", "good": "type_inv", "told": "told"}
+
+
+def blocks(text):
+    """The declarations: header lines, then each block of lines that begins at the left edge after an empty line or a signature."""
+    lines, out, now = text.split("\n"), [], []
+    for l in lines:
+        starts = l and not l[0].isspace()
+        if starts and now and not now[-1].strip():
+            out.append(now)
+            now = []
+        now.append(l)
+    if now:
+        out.append(now)
+    return ["\n".join(b).rstrip() for b in out if "\n".join(b).strip()]
+
+
+def parts_of(term):
+    """The parts of a tuple term, or None where the term is no tuple."""
+    t = term.strip()
+    if not (t.startswith("(") and t.endswith(")")):
+        return None
+    depth, parts, at = 0, [], 1
+    for i, ch in enumerate(t):
+        if ch in "([{":
+            depth += 1
+        elif ch in ")]}":
+            depth -= 1
+            if depth == 0 and i < len(t) - 1:
+                return None
+        elif ch == "," and depth == 1:
+            parts.append(t[at:i].strip())
+            at = i + 1
+    last = t[at:-1].strip()
+    if last:
+        parts.append(last)
+    return parts if len(parts) > 1 else None
+
+
+def lets_off(body):
+    """The lets in front of a term, and the term."""
+    lets, rest = [], body
+    while True:
+        m = re.match(rf"\s*let ({NAME})(?: : [^=]+?)? = ", rest)
+        if not m:
+            return lets, rest
+        depth, i = 0, m.end()
+        nested = 0
+        while i < len(rest):
+            if rest[i] in "([{":
+                depth += 1
+            elif rest[i] in ")]}":
+                depth -= 1
+            w = re.match(r"(?<![\w'-])(let|in)(?![\w'-])", rest[i:]) if (i == 0 or rest[i - 1].isspace() or rest[i - 1] in "(") else None
+            if w and depth == 0:
+                if w[1] == "let":
+                    nested += 1
+                elif nested:
+                    nested -= 1
+                else:
+                    break
+            i += 1
+        if i >= len(rest):
+            return lets, rest
+        lets.append(rest[: i + 2].strip())
+        rest = rest[i + 2 :]
+
+
+class Function:
+    def __init__(self, info, said, where, multi):
+        self.info, self.said, self.where, self.multi = info, said, where, multi
+        self.needs = {}
+        for old, new in info["needs"]:
+            for o in {old, re.sub(r"^(overflow|nonzero)_", "", new) if False else old}:
+                self.needs[plain(o)] = new
+        self.steps, self.fields, self.clauses = {}, {}, {}
+        for i, (place, parent, (old, new), fn, fields) in enumerate(info["places"]):
+            self.steps.setdefault(plain(old), [])
+            if new not in self.steps[plain(old)]:
+                self.steps[plain(old)].append(new)
+            if fields:
+                self.fields.setdefault((plain(old), place.split("-")[0][:4]), {}).update(dict(fields))
+                self.fields.setdefault(new, {}).update({})
+            cl = info["clauses"][i] if i < len(info["clauses"]) else None
+            if cl and cl.get("fields"):
+                self.clauses[plain(old)] = cl["fields"]
+        self.raw = {}
+        for place, parent, (old, new), fn, fields in info["places"]:
+            for a, b in fields or []:
+                self.raw.setdefault(plain(old), {})[a] = b
+
+    def need(self, name):
+        n = plain(name)
+        for cut in ("", "overflow-", "nonzero-"):
+            if n.startswith(cut) and n[len(cut) :] in self.needs:
+                return self.needs[n[len(cut) :]]
+        m = re.match(r"(?:overflow|nonzero|slice|offset)?-?(.*)", n)
+        return self.needs.get(m[1])
+
+    def step(self, old):
+        p = plain(old)
+        if p in ENTRY:
+            return ENTRY[p]
+        new = self.steps.get(p)
+        if not new:
+            self.said.append(f"{self.where}: no step {old}")
+            return old
+        if len(new) > 1:
+            self.said.append(f"{self.where}: step {old} is one of {new}")
+        return new[0]
+
+    def path(self, text):
+        """Turns each path from c, and the fields right behind its step."""
+
+        def turn(m):
+            old = m[1]
+            new = self.step(old)
+            rest = m[2] or ""
+            raw = self.raw.get(plain(old))
+            first = re.match(rf"\.({NAME})", rest)
+            if raw and first and first[1] in raw:
+                rest = "." + raw[first[1]] + rest[first.end() :]
+            cl = self.clauses.get(plain(old))
+            if cl and len(cl) > 1:
+                rest = re.sub(r"^\.ensures\.(\d+)", lambda k: ".ensures." + cl[int(k[1])] if int(k[1]) < len(cl) else k[0], rest)
+            if plain(old) in ("requires", "pre") and self.info.get("pre") and self.info["pre"].get("fields"):
+                fs = self.info["pre"]["fields"]
+                rest = re.sub(r"^\.(\d+)", lambda k: "." + fs[int(k[1])], rest)
+            rest = re.sub(r"^\.(args|new|loop)?\.?", lambda k: k[0], rest)
+            return "c." + new + rest
+
+        return re.sub(rf"(?<![\w'.-])c(?:\.before)*\.({NAME})((?:\.{NAME})*)", turn, text)
+
+    def inline(self, body):
+        """Puts each `let x = c.before.. in` into the term."""
+        m = re.compile(rf"[ \t]*let ({NAME}) = (c(?:\.before)*\.{NAME}(?:\.{NAME})*)\s+in(?=\s)\n?")
+        found = {}
+        while True:
+            k = m.search(body)
+            if not k:
+                break
+            if re.search(rf"λ [^.]*(?<![\w'-]){re.escape(k[1])}(?![\w'-])[^.]*\.", body) or re.search(rf"\blet {re.escape(k[1])}[ ]", body[k.end() :]):
+                body = body[: k.start()] + body[k.start() : k.end()].replace("let ", "let\0 ", 1) + body[k.end() :]
+                continue
+            found[k[1]] = k[2]
+            tail = re.sub(rf"(?<![\w'.-])(?<![\w]\.){re.escape(k[1])}(?![\w'-])", lambda _: k[2], body[k.end() :])
+            body = body[: k.start()].rstrip(" ") + ("" if body[: k.start()].endswith(" ") or not body[: k.start()] else "") + tail
+        return body.replace("let\0", "let")
+
+
+def invariant(block, info, said, where, stem):
+    """An invariant or a measure over positions becomes one over the record l."""
+    m = re.match(rf"abbrev (?:pub )?((?:invariant|decreases)-{NAME}) : .*?\n\1 (.*?) =(.*)$", block, re.S)
+    if not m:
+        said.append(f"{where}: an invariant of another form: {block[:80]}")
+        return None
+    name, args, body = m[1], m[2].split(), m[3]
+    kind, old = name.split("-", 1)
+    for i, ((was, new), names) in enumerate(info["loops"]):
+        if plain(was) == plain(old):
+            changed = info["changed"][i]
+            break
+    else:
+        said.append(f"{where}: no loop {old}")
+        return None
+    values = [("l.initial." if ch else "l.") + n for n, ch in zip(names, changed)] + ["l." + n for n, ch in zip(names, changed) if ch]
+    if len(values) != len(args):
+        said.append(f"{where}: {name} has {len(args)} arguments, {len(values)} are told")
+        return None
+    table = dict(zip(args, values))
+    bound = set(re.findall(rf"(?:λ |let |\()({NAME}) ?[:.=]", body)) & set(args)
+    if bound:
+        said.append(f"{where}: {name} binds {bound} anew: look")
+    body = re.sub(rf"(?<![\w'.₀-])({'|'.join(sorted(map(re.escape, table), key=len, reverse=True))})(?![\w'₀-])", lambda k: table[k[1]], body)
+    full = f"{kind}-{stem}{new}"
+    return f"abbrev pub {full} : goal.{full}\n{full} l ={body}"
+
+
+def turn(path, crate, names, said):
+    where = os.path.relpath(path, os.path.join(crate, "proofs"))
+    folder = os.path.dirname(path)
+    module = os.path.relpath(folder, os.path.join(crate, "proofs")).replace("/", ".")
+    name = os.path.basename(crate)
+    info = names.get(f"Rattle-{name}-proofs.{module}.Lts")
+    with open(path, encoding="utf-8") as f:
+        text = f.read()
+    if "tie.close" not in text and "tie.spec" not in text or not info:
+        said.append(f"{where}: a proof by hand, or with no names")
+        return False
+    head = re.match(r"(?:(?:--[^\n]*|use [^\n]*|pub use [^\n]*|mod [^\n]*|)\n)*", text)[0]
+    uses = [l for l in head.split("\n") if l.startswith(("use ", "pub use "))]
+    comment = [l for l in head.split("\n") if l.startswith("--")]
+    made = re.compile(r"\.(Statement|Tie|Lts|Reads|Code|Met)(\.\{| as |$)|borrow\.Author\.Rules\.\{rules\}$")
+    kept = [l for l in uses if not re.search(rf"proofs\.{re.escape(module)}\.", l)]
+    function = Function(info, said, where, None)
+    given, answers, helpers = [], [], []
+    for b in blocks(text[len(head) :]):
+        if re.match(r"abbrev (?:pub )?(invariant|decreases)-", b):
+            new = invariant(b, info, said, where, info.get("stem") or "")
+            if new:
+                given.append(new)
+            continue
+        m = re.match(rf"((?:--[^\n]*\n)*)(?:pub )?({NAME}) : (?:tie|lts)\.Need-({NAME})[^\n]*\n((?:unfolding [^\n]*\n)?)\2 ([^=]*?) ?=(.*)$", b, re.S)
+        if m:
+            goal = function.need(m[3])
+            if not goal:
+                if m[6].strip() not in ("search rules", "search needs"):
+                    said.append(f"{where}: no goal {m[3]}: {' '.join(m[6].split())[:200]}")
+                continue
+            if goal in info.get("settled", []) or m[6].strip() in ("search rules", "tt"):
+                continue
+            body = function.path(function.inline(m[6]))
+            asked = info.get("asked", {}).get(m[3]) or info.get("asked", {}).get(next((o for o, n in info["needs"] if n == goal), None))
+            if asked and len(asked) > 1:
+                lets, term = lets_off(body)
+                parts = parts_of(term)
+                if parts and len(parts) == len(asked):
+                    body = "".join(f"\n    {x}" for x in lets) + "\n    record { " + "; ".join(f"{a} = {p}" for a, p in zip(asked, parts)) + " }"
+                else:
+                    said.append(f"{where}: {goal} wants {asked}")
+            answers.append(f"{m[1]}pub {goal} : goal.{goal}\n{m[4]}{goal} c ={body}")
+            continue
+        if "tie.close" in b or "tie.spec" in b:
+            continue
+        helpers.append(b)
+    def used(l, body):
+        g = re.search(r"\{(.*)\}", l)
+        if not g:
+            alias = re.search(r" as (\S+)$", l)
+            alias = alias[1] if alias else l.split(".")[-1].strip()
+            return l if re.search(rf"(?<![\w'-]){re.escape(alias)}(?![\w'-])", body) else None
+        return l
+    shared = [h for h in helpers if any(re.search(rf"(?<![\w'.-]){re.escape(n)}(?![\w'-])", g) for g in given for n in re.findall(rf"(?m)^(?:abbrev |unfoldable |pub |record |data )*({NAME})(?: [({{][^\n]*)? :", h))]
+    rest = [h for h in helpers if h not in shared]
+    lib = f"Rattle.{name}.proofs.{module}"
+    if given:
+        body = "\n\n".join([*shared, *given])
+        body = body if not shared else re.sub(r"(?m)^(abbrev |unfoldable )?(?!pub )", lambda m: m[0], body)
+        us = [l for l in (used(l, body) for l in kept) if l]
+        with open(os.path.join(folder, "Invariants.antt"), "w", encoding="utf-8") as f:
+            f.write("\n".join([*comment, *us, f"use {lib}.Given as goal", "", body, ""]))
+    if answers or rest:
+        body = "\n\n".join([*rest, *answers])
+        us = [l for l in (used(l, body) for l in kept) if l]
+        if shared:
+            ns = [n for h in shared for n in re.findall(rf"(?m)^(?:abbrev |unfoldable |pub |record |data )*({NAME})(?: [({{][^\n]*)? :", h)]
+            us.append(f"use {lib}.Invariants.{{{', '.join(ns)}}}")
+        with open(os.path.join(folder, "Answers.antt"), "w", encoding="utf-8") as f:
+            f.write("\n".join([*([] if given else comment), *us, f"use {lib}.Goals as goal", "", body, ""]))
+    os.remove(path)
+    return True
+
+
+def main(names, crates):
+    for crate in crates:
+        with open(os.path.join(names, os.path.basename(crate), "names.json"), encoding="utf-8") as f:
+            info = json.load(f)
+        said, n = [], 0
+        for at, _, files in sorted(os.walk(os.path.join(crate, "proofs"))):
+            if "Proof.antt" in files:
+                n += turn(os.path.join(at, "Proof.antt"), crate, info, said)
+        print(f"{crate}: {n} proofs turned")
+        for s in said:
+            print("  look:", s)
+
+
+if __name__ == "__main__":
+    main(sys.argv[1], [c.rstrip("/") for c in sys.argv[2:]])
