@@ -13,7 +13,7 @@ import sys
 NAME = r'[^\s(){}.;,@"«»\[\]|]+'
 USE = re.compile(r"^use ", re.M)
 plain = lambda s: s.replace("_", "-")
-ENTRY = {"args": "args", "requires": "requires", "pre": "requires", "ranges": "ranges", "fits": "ranges", "type-inv": "type_inv", "good": "type_inv", "told": "told"}
+ENTRY = {"args": "args", "requires": "requires", "pre": "requires", "ranges": "ranges", "fits": "ranges", "type-inv": "type_inv", "good": "well_formed", "well-formed": "well_formed", "told": "told"}
 
 
 def blocks(text):
@@ -99,6 +99,15 @@ class Function:
             cl = info["clauses"][i] if i < len(info["clauses"]) else None
             if cl and cl.get("fields"):
                 self.clauses[plain(old)] = cl["fields"]
+        # For each goal the places on its way, the nearest first.
+        self.ways, by_place = {}, {p[0]: (i, p) for i, p in enumerate(info["places"])}
+        for (old, new), (at, _) in zip(info["needs"], info["asked_at"]):
+            way = []
+            while at in by_place:
+                way.append(by_place[at])
+                at = by_place[at][1][1]
+            self.ways[new] = way
+        self.way, self.used = [], set()
         self.raw = {}
         for place, parent, (old, new), fn, fields in info["places"]:
             for a, b in fields or []:
@@ -121,8 +130,23 @@ class Function:
             self.said.append(f"{self.where}: no step {old}")
             return old
         if len(new) > 1:
+            for _, place in self.way:
+                if plain(place[2][0]) == p:
+                    return place[2][1]
             self.said.append(f"{self.where}: step {old} is one of {new}")
         return new[0]
+
+    def arm(self, old, rest):
+        """A fact of an arm: where it stands now, or None."""
+        for i, place in self.way:
+            arm = self.info["arms"][i]
+            if plain(place[2][0]) != plain(old) or not arm:
+                continue
+            for now, was, fields in arm[2]:
+                front = "".join("." + f for f in fields)
+                if plain(was) == plain(old) and (rest + ".").startswith(front + "."):
+                    return f"c.{arm[0]}.{now}{rest[len(front):]}"
+        return None
 
     def path(self, text):
         """Turns each path from c, and the fields right behind its step."""
@@ -131,6 +155,9 @@ class Function:
             old = m[1]
             new = self.step(old)
             rest = m[2] or ""
+            arm = self.arm(old, rest)
+            if arm:
+                return arm
             raw = self.raw.get(plain(old))
             first = re.match(rf"\.({NAME})", rest)
             if raw and first and first[1] in raw:
@@ -158,7 +185,9 @@ class Function:
                 body = body[: k.start()] + body[k.start() : k.end()].replace("let ", "let\0 ", 1) + body[k.end() :]
                 continue
             found[k[1]] = k[2]
-            tail = re.sub(rf"(?<![\w'.-])(?<![\w]\.){re.escape(k[1])}(?![\w'-])", lambda _: k[2], body[k.end() :])
+            # A name that the file imports means the step only where a field follows.
+            ends = r"(?=\.)" if k[1] in self.imported else r"(?![\w'-])"
+            tail = re.sub(rf"(?<![\w'.-])(?<![\w]\.){re.escape(k[1])}{ends}", lambda _: k[2], body[k.end() :])
             body = body[: k.start()].rstrip(" ") + ("" if body[: k.start()].endswith(" ") or not body[: k.start()] else "") + tail
         return body.replace("let\0", "let")
 
@@ -208,6 +237,7 @@ def turn(path, crate, names, said):
     made = re.compile(r"\.(Statement|Tie|Lts|Reads|Code|Met)(\.\{| as |$)|borrow\.Author\.Rules\.\{rules\}$")
     kept = [l for l in uses if not re.search(rf"proofs\.{re.escape(module)}\.", l)]
     function = Function(info, said, where, None)
+    function.imported = {n.split(" as ")[-1].strip() for l in uses for n in (re.findall(r"\{(.*)\}", l) or [""])[0].split(",")}
     given, answers, helpers = [], [], []
     for b in blocks(text[len(head) :]):
         if re.match(r"abbrev (?:pub )?(invariant|decreases)-", b):
@@ -224,6 +254,7 @@ def turn(path, crate, names, said):
                 continue
             if goal in info.get("settled", []) or m[6].strip() in ("search rules", "tt"):
                 continue
+            function.way = function.ways.get(goal, [])
             body = function.path(function.inline(m[6]))
             asked = info.get("asked", {}).get(m[3]) or info.get("asked", {}).get(next((o for o, n in info["needs"] if n == goal), None))
             if asked and len(asked) > 1:

@@ -1,0 +1,25 @@
+-- All bytes are lent for the key, or as many as a key may have and zeros behind them.
+use mathlib.Core.Path.{sym}
+use native.Mathlib.Omega.{arith}
+use lib.ListN.{take}
+use lib.Seq.{length-take-le}
+use Rattle.keys.proofs.StoreLaws.{zeros}
+use Rattle.answers.proofs.Fronts.{wrote_all, wrote_front, short_front}
+use borrow.Author.Rules.{rules}
+use Rattle.answers.proofs.reading.put.Goals as goal
+
+pub returns-then-key-le-MOST : goal.returns-then-key-le-MOST
+returns-then-key-le-MOST c =
+    wrote_all c.put_key.ensures
+
+pub slice_bounds-put_key-end-2 : goal.slice_bounds-put_key-end-2
+slice_bounds-put_key-end-2 c =
+    sym (length-take-le 262144 c.clear_bytes.new.0 (omega (arith, c.if-key-le-MOST.false, c.clear_bytes.auto)))
+
+pub put_key-requires-2 : goal.put_key-requires-2
+put_key-requires-2 c =
+    (short_front (take 262144 c.clear_bytes.new.0) (length-take-le 262144 c.clear_bytes.new.0 (omega (arith, c.if-key-le-MOST.false, c.clear_bytes.auto))), c.requires)
+
+pub returns : goal.returns
+returns c =
+    wrote_front (length-take-le 262144 c.clear_bytes.new.0 (omega (arith, c.if-key-le-MOST.false, c.clear_bytes.auto))) (omega (arith, c.if-key-le-MOST.false)) (zeros c.clear_bytes.new.0 c.args.key.now c.clear_bytes.ensures) c.put_key-2.ensures

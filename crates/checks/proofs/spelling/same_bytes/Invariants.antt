@@ -1,0 +1,16 @@
+-- The invariant: what is left of the two parts is the same where the whole parts are. Assumes nothing.
+use mathlib.Core.Path.{◌≡◌, ap₂, sym, ◌∙◌}
+use Prim.Native.Nat.{◌≤◌, ◌-◌}
+use lib.ListN.{length}
+use Rattle.words.specs.Test.{same}
+use Rattle.words.specs.Check.{part}
+use Rattle.words.proofs.Bytes.{rest, rest_all, same_later, same_not, same_ends}
+use borrow.Author.Rules.{rules}
+use native.Mathlib.Omega.{arith}
+use Rattle.checks.proofs.spelling.same_bytes.Given as goal
+
+abbrev pub invariant-loop-i : goal.invariant-loop-i
+invariant-loop-i l = (l.i ≤ l.n) × (same (part l.letters l.from l.n) (part l.text l.at l.n) ≡ same (rest l.letters l.from l.n l.i) (rest l.text l.at l.n l.i))
+
+abbrev pub decreases-loop-i : goal.decreases-loop-i
+decreases-loop-i l = l.n - l.i

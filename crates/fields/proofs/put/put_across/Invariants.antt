@@ -1,0 +1,16 @@
+use native.Mathlib.Omega.{arith}
+use mathlib.Core.Path.{sym, ap, subst, ◌∙◌}
+use Prim.Native.Nat.{ℕ, ◌-◌, ◌/◌, ◌^◌, ◌≤◌, ◌<◌}
+use native.Mathlib.Nat.{mod-lt}
+use lib.Pow.{pow_pos, shr_le}
+use Rattle.fields.proofs.Windows.{Across, across_none, across_more, across_all}
+use borrow.Author.Rules.{rules}
+use Rattle.fields.proofs.put.put_across.Given as goal
+
+abbrev pub invariant-loop-i : goal.invariant-loop-i
+invariant-loop-i l =
+    (l.i ≤ l.count) × Across l.text l.from l.at l.skip l.initial.key l.i l.last l.key
+
+abbrev pub decreases-loop-i : goal.decreases-loop-i
+decreases-loop-i l =
+    l.count - l.i

@@ -1,0 +1,16 @@
+use native.Mathlib.Omega.{arith}
+use borrow.Author.Rules.{rules}
+use native.Mathlib.Nat.{mod-lt}
+use mathlib.Core.Path.{◌≡◌, sym, subst, refl, ◌∙◌}
+use Prim.Native.Nat.{ℕ, ◌^◌, ◌<◌}
+use lib.Pow.{pow_pos}
+use lib.ListN.{length}
+use Rattle.keys.specs.Bits.{bits_of_bytes}
+use Rattle.fields.proofs.PutLaws.{Putting, putting_none, putting_more, putting_all}
+use Rattle.fields.proofs.put.put_parts.Given as goal
+
+abbrev pub invariant-loop-left : goal.invariant-loop-left
+invariant-loop-left l = (length l.key ≡ length l.initial.key) × Putting (bits_of_bytes l.initial.key) l.bit l.width l.number l.at l.left l.key
+
+abbrev pub decreases-loop-left : goal.decreases-loop-left
+decreases-loop-left l = l.left

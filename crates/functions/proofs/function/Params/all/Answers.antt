@@ -1,0 +1,7 @@
+-- Past the closing bracket.
+use borrow.Author.Rules.{rules}
+use Rattle.functions.proofs.function.Params.all.Goals as goal
+
+pub returns : goal.returns
+returns c =
+    rw c.next.ensures

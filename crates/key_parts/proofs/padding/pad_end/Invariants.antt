@@ -1,0 +1,15 @@
+-- The bits after a tree, to the byte.
+use native.Mathlib.Omega.{arith}
+use Prim.Native.Nat.{◌-◌, ◌*◌}
+use lib.ListN.{length}
+use Rattle.keys.specs.Bits.{bits_of_bytes}
+use Rattle.keys.proofs.BitsLaws.{length_bytes}
+use Rattle.fields.proofs.Chunks.{number_told}
+use Rattle.key_parts.proofs.PaddingLaws.{Pads, pads_none, pads_inside, pads_more, ends_set, ends_whole}
+use Rattle.key_parts.proofs.padding.pad_end.Given as goal
+
+abbrev pub invariant-loop-at : goal.invariant-loop-at
+invariant-loop-at l = Pads (bits_of_bytes l.key) l.bit l.at
+
+abbrev pub decreases-loop-at : goal.decreases-loop-at
+decreases-loop-at l = length (bits_of_bytes l.key) - l.at

@@ -1,0 +1,14 @@
+-- n spellings, one after the other.
+use native.Mathlib.Omega.{arith}
+use mathlib.Core.Path.{sym, ap, ◌∙◌}
+use Prim.Native.Nat.{◌-◌}
+use lib.ListN.{length}
+use Rattle.keys.specs.Bits.{bits_of_bytes}
+use Rattle.key_parts.proofs.Steps.{Spelling, spelling_none, spelling_more, spelling_stop, spelling_all, inside_as}
+use Rattle.key_parts.proofs.spelling.take_spellings.Given as goal
+
+abbrev pub invariant-loop-i : goal.invariant-loop-i
+invariant-loop-i l = Spelling (bits_of_bytes l.key) (length l.initial.names) (length l.initial.text) l.w l.n l.initial.q l.initial.names l.initial.text l.i l.q l.names l.text
+
+abbrev pub decreases-loop-i : goal.decreases-loop-i
+decreases-loop-i l = l.n - l.i

@@ -1,0 +1,14 @@
+-- A name behind those before it, where there is room.
+use native.Mathlib.Omega.{arith}
+use mathlib.Core.Path.{ap, ◌∙◌}
+use Rattle.keys.proofs.Cells.{name_stored, name_dropped, name_word}
+use borrow.Author.Rules.{rules}
+use Rattle.keys.proofs.store.append_name.Goals as goal
+
+pub returns-then-at-names : goal.returns-then-at-names
+returns-then-at-names c =
+    name_word c.args.names.now _ c.args.at c.args.start c.args.count c.halves-word.ensures (name_stored c.args.names.now c.args.at _ c.if-at-names.true)
+
+pub returns : goal.returns
+returns c =
+    name_dropped c.args.names.now c.args.at _ (omega arith)

@@ -1,0 +1,12 @@
+-- Zeros from a byte on. The loop's invariant: what was passed is zeros.
+use Prim.Native.Nat.{◌+◌, ◌-◌, ◌≤◌}
+use native.Mathlib.Omega.{arith}
+use lib.ListN.{length, length-set}
+use Rattle.keys.proofs.Cells.{Clearing, clearing_none, clearing_more, clearing_all}
+use Rattle.keys.proofs.store.clear_bytes.Given as goal
+
+abbrev pub invariant-loop-i : goal.invariant-loop-i
+invariant-loop-i l = (l.from ≤ l.i) × (l.i ≤ length l.initial.bytes + (l.from - length l.initial.bytes)) × Clearing l.initial.bytes l.from l.i l.bytes
+
+abbrev pub decreases-loop-i : goal.decreases-loop-i
+decreases-loop-i l = length l.bytes - l.i

@@ -1,0 +1,12 @@
+-- Zeros from a word on. The loop's invariant: what was passed is zeros.
+use Prim.Native.Nat.{◌+◌, ◌-◌, ◌≤◌}
+use native.Mathlib.Omega.{arith}
+use lib.ListN.{length, length-set}
+use Rattle.keys.proofs.Cells.{Clearing, clearing_none, clearing_more, clearing_all}
+use Rattle.keys.proofs.store.clear_words.Given as goal
+
+abbrev pub invariant-loop-i : goal.invariant-loop-i
+invariant-loop-i l = (l.from ≤ l.i) × (l.i ≤ length l.initial.words + (l.from - length l.initial.words)) × Clearing l.initial.words l.from l.i l.words
+
+abbrev pub decreases-loop-i : goal.decreases-loop-i
+decreases-loop-i l = length l.words - l.i

@@ -1,0 +1,25 @@
+-- Each turn reads a dot and a name; as many turns are left as tokens.
+use mathlib.Core.Path.{◌≡◌, refl, sym, ap, ◌∙◌, subst}
+use mathlib.Core.List.{List}
+use Prim.Native.Nat.{ℕ, ◌-◌, ◌≤◌, ◌<◌}
+use native.Mathlib.Omega.{arith}
+use lib.ListN.{length}
+use Rattle.rules.specs.Names as rule
+use Rattle.rules.specs.State.{turns}
+use Rattle.keys.specs.Placed.{Spelling}
+use Rattle.marks.specs.State.{AnyGiven, view, given_of, Spelt, Inside, Along, next_mark}
+use Rattle.marks.proofs.MarkLaws.{is_here, is_not_here, moved_next, along_same, along_moved, along_then, inside_along, inside_next}
+use Rattle.marks.proofs.NameLaws.{Dotting, dotting_none, dotting_step, dotting_stop, dotting_taken}
+use Rattle.marks.specs.declared.state.Mark.{Mark}
+use Rattle.marks.specs.declared.state.Answer.{Answer}
+use borrow.Author.Rules.{rules}
+use Rattle.marks.proofs.names.dots.Given as goal
+
+abbrev pub invariant-loop-names : goal.invariant-loop-names
+invariant-loop-names l =
+    (length l.names ≡ length l.initial.names) × Along (length l.words) l.initial.p l.p
+    × ((text O : List ℕ) (given : AnyGiven) (l : List Spelling) → Spelt text l.words
+    → Dotting (given_of text l.words given) l (rule.dots_from (given_of text l.words given) (turns (given_of text l.words given)) l (view l.initial.p O)) l.initial.p l.p l.initial.names l.names O)
+
+abbrev pub decreases-loop-names : goal.decreases-loop-names
+decreases-loop-names l = length l.words - l.p.at

@@ -1,0 +1,16 @@
+-- The token's word behind the names.
+use mathlib.Core.Path.{refl, ap, ◌∙◌}
+use native.Mathlib.Omega.{arith}
+use Rattle.words.specs.Word as five
+use Rattle.marks.proofs.MarkLaws.{start_small}
+use Rattle.marks.proofs.NameLaws.{speaks_word}
+use borrow.Author.Rules.{rules}
+use Rattle.marks.proofs.names.spell.Goals as goal
+
+pub append_name-requires : goal.append_name-requires
+append_name-requires c =
+    (omega (arith, c.start.ensures, ap five.start c.word_at-word.ensures, start_small c.requires.0 c.args.m.at), omega (arith, c.length.ensures))
+
+pub returns : goal.returns
+returns c =
+    (refl, speaks_word c.append_name.auto.0 (c.start.ensures ∙ ap five.start c.word_at-word.ensures) (c.length.ensures ∙ ap five.size c.word_at-word.ensures) c.append_name.ensures)

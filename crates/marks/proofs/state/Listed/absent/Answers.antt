@@ -1,0 +1,7 @@
+-- No list was there.
+use borrow.Author.Rules.{rules}
+use Rattle.marks.proofs.state.Listed.absent.Goals as goal
+
+pub returns : goal.returns
+returns c =
+    rw c.none.ensures

@@ -1,0 +1,7 @@
+-- A list was refused.
+use borrow.Author.Rules.{rules}
+use Rattle.marks.proofs.state.Listed.refused.Goals as goal
+
+pub returns : goal.returns
+returns c =
+    rw c.none.ensures

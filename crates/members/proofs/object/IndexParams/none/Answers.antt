@@ -1,0 +1,7 @@
+-- None.
+use borrow.Author.Rules.{rules}
+use Rattle.members.proofs.object.IndexParams.none.Goals as goal
+
+pub returns : goal.returns
+returns c =
+    rw c.none.ensures

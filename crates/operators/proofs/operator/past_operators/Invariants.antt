@@ -1,0 +1,29 @@
+-- The prefixes that were passed stand about what is still to be read.
+use mathlib.Core.Path.{◌≡◌, sym, ap, ◌∙◌}
+use mathlib.Core.Bool.{Bool, true}
+use mathlib.Core.List.{List}
+use Prim.Native.Nat.{ℕ, suc, ◌-◌, ◌<◌}
+use native.Mathlib.Omega.{arith}
+use lib.ListN.{length}
+use Rattle.words.specs.Test.{among}
+use Rattle.words.specs.Cursor.{kind_at}
+use Rattle.rules.specs.State.{Reader}
+use Rattle.rules.specs.Operator as rule
+use Rattle.marks.specs.State.{AnyGiven, view, given_of, Moved}
+use Rattle.operators.specs.Operator.{operators_about}
+use Rattle.marks.proofs.MarkLaws.{moved_same}
+use Rattle.marks.proofs.StepLaws.{moved_taken, moved_then, inside_moved}
+use Rattle.operators.proofs.OperatorLaws.{operator_some, operators_begin, operators_past, operator_end}
+use Rattle.marks.specs.declared.state.Mark.{Mark}
+use borrow.Author.Rules.{rules}
+use Rattle.operators.proofs.operator.past_operators.Given as goal
+
+abbrev pub invariant-loop-s : goal.invariant-loop-s
+invariant-loop-s l =
+    Moved (length l.words) l.initial.p l.p
+    × ((text O : List ℕ) (given : AnyGiven) (T : Reader) (on : Bool)
+    → rule.operator (given_of text l.words given) T on (view l.initial.p O)
+    ≡ operators_about (given_of text l.words given) l.initial.p.at (l.p.at - l.initial.p.at) (rule.operator_from (given_of text l.words given) T on (suc (length l.words - (l.p.at - l.initial.p.at))) (view l.p O)))
+
+abbrev pub decreases-loop-s : goal.decreases-loop-s
+decreases-loop-s l = length l.words - l.p.at

@@ -1,0 +1,26 @@
+-- The prefixes that are still to be put stand about the tree that stands.
+use mathlib.Core.Path.{◌≡◌, refl, ap, ◌∙◌}
+use mathlib.Core.List.{List}
+use Prim.Native.Nat.{ℕ, ◌+◌, ◌-◌, ◌*◌, ◌≤◌}
+use native.Mathlib.Omega.{arith}
+use lib.ListN.{length}
+use Rattle.words.specs.Limits.{tallest}
+use Rattle.keys.specs.Placed.{Placed}
+use Rattle.rules.specs.State.{read}
+use Rattle.rules.specs.List.{position}
+use Rattle.rules.specs.Operator.{operators}
+use Rattle.marks.specs.State.{view, given_of}
+use Rattle.marks.specs.Laid.{Was, Stands}
+use Rattle.operators.proofs.OperatorLaws.{operator_made, start_low, Left, left_none, left_refused, left_put}
+use borrow.Author.Rules.{rules}
+use Rattle.operators.proofs.operator.put_operators.Given as goal
+
+abbrev pub invariant-loop-i : goal.invariant-loop-i
+invariant-loop-i l =
+    (length l.nodes ≡ length l.initial.nodes) × (l.from ≤ l.i) × (l.i ≤ l.to) × (l.p.at ≡ l.initial.p.at) × (l.p.half ≡ l.initial.p.half) × (l.p.named ≡ l.initial.p.named) × (l.p.noted ≡ l.initial.p.noted)
+    × (l.initial.p.used ≤ l.p.used) × (l.p.used ≤ l.given.room) × (l.high ≤ tallest)
+    × ((text : List ℕ) (B : Was) (t : Placed) (M O : List ℕ) → Stands 0 B t l.initial.high l.initial.p l.initial.nodes M O → l.name ≡ B.named
+    → Left (given_of text l.words l.given) l.from (l.to - l.from) (l.i - l.from) (read t (view l.initial.p O)) B l.high l.p l.nodes M O)
+
+abbrev pub decreases-loop-i : goal.decreases-loop-i
+decreases-loop-i l = l.i

@@ -1,0 +1,42 @@
+-- With asserts before it or without.
+use mathlib.Core.Path.{◌≡◌, refl, ap, ◌∙◌, subst}
+use Prim.Native.Nat.{◌+◌, ◌*◌}
+use native.Mathlib.Omega.{arith}
+use Rattle.marks.specs.State.{given_of, view}
+use Rattle.marks.specs.Laid.{Spoken}
+use Rattle.marks.specs.Says.{opt_names}
+use Rattle.marks.proofs.BuiltLaws.{spoken_from}
+use Rattle.keys.specs.Bits.{unit}
+use Rattle.rules.specs.Function.{subject}
+use Rattle.marks.specs.List.{here}
+use Rattle.marks.specs.declared.state.Mark.{Mark}
+use borrow.Author.Rules.{rules}
+use Rattle.primaries.proofs.primary.subject.Goals as goal
+
+pub subject_at-requires : goal.subject_at-requires
+subject_at-requires c =
+    (c.requires.0, rw c.next.ensures (rw c.if-asserts.true at c.requires.1), rw c.next.ensures (omega (arith, c.requires.2)), omega arith)
+
+pub returns-then-asserts : goal.returns-then-asserts
+returns-then-asserts c =
+ (
+      λ text O given t.
+          rw c.if-asserts.true
+          (spoken_from c.args.m refl refl refl
+          (subst (λ (x : Mark). Spoken (opt_names (subject (given_of text c.args.words.now given) (view x O))) x c.subject_at.result.m c.args.names.now c.subject_at.new.1.0) c.next.ensures (c.subject_at.ensures.speaks_subject text O given t))),
+      (
+        rw c.if-asserts.true
+            (omega (arith, subst (λ (x : Mark). c.subject_at.result.choices ≡ 80 + 128 * unit (here c.args.words.now 102 x)) c.next.ensures c.subject_at.ensures.choices_value.0)),
+        (rw c.if-asserts.true (omega (arith, c.subject_at.ensures.choices_value.1.0, ap (λ (x : Mark). x.at) c.next.ensures)), c.subject_at.ensures.choices_value.1.1, c.subject_at.ensures.choices_value.1.2 ∙ ap (λ (x : Mark). x.used) c.next.ensures, c.subject_at.ensures.choices_value.1.3 ∙ ap (λ (x : Mark). x.noted) c.next.ensures, omega (arith, c.subject_at.ensures.choices_value.1.4, ap (λ (x : Mark). x.named) c.next.ensures), omega (arith, c.subject_at.ensures.choices_value.1.5, ap (λ (x : Mark). x.named) c.next.ensures)),
+      ),
+    )
+
+pub returns : goal.returns
+returns c =
+ (
+      λ text O given t. rw c.if-asserts.false (c.subject_at-2.ensures.speaks_subject text O given t),
+      (
+        rw c.if-asserts.false (omega (arith, c.subject_at-2.ensures.choices_value.0)),
+        (rw c.if-asserts.false (omega (arith, c.subject_at-2.ensures.choices_value.1.0)), c.subject_at-2.ensures.choices_value.1.1, c.subject_at-2.ensures.choices_value.1.2, c.subject_at-2.ensures.choices_value.1.3, omega (arith, c.subject_at-2.ensures.choices_value.1.4), omega (arith, c.subject_at-2.ensures.choices_value.1.5)),
+      ),
+    )

@@ -1,0 +1,25 @@
+-- A choice: its number, whether it leads anywhere, and where.
+use native.Mathlib.Omega.{arith}
+use mathlib.Core.Path.{sym, ap, ◌∙◌}
+use Rattle.keys.specs.Bits.{bits_of_bytes}
+use Rattle.keys.proofs.BitsLaws.{length_bytes}
+use Rattle.fields.specs.declared.take.TakenField.TheVariants.{Number}
+use Prim.Native.Nat.{ℕ}
+use Rattle.keys.specs.Form.{is_never}
+use Rattle.fields.proofs.Chunks.{number_told}
+use Rattle.node_table.specs.Forms.{leads, form_of, entry_of}
+use Rattle.sound_keys.proofs.Checking.{chosen_short, chosen_never, chosen_to}
+use borrow.Author.Rules.{rules}
+use Rattle.sound_keys.proofs.sound.check_tag.Goals as goal
+
+pub returns-in_default : goal.returns-in_default
+returns-in_default c =
+    chosen_short (bits_of_bytes c.args.key.now) c.args.forms.now c.args.steps c.args.tags.w (leads c.args.forms.now (form_of c.args.forms.now c.args.steps) (entry_of c.args.tags) 0) c.args.bit (omega (arith, length_bytes c.args.key.now, c.requires.1)) _ c.no_form.ensures (sym c.in_default.is ∙ c.take_field-taken.ensures)
+
+pub returns-then-is_none : goal.returns-then-is_none
+returns-then-is_none c =
+    chosen_never (bits_of_bytes c.args.key.now) c.args.forms.now c.args.steps c.args.tags.w (leads c.args.forms.now (form_of c.args.forms.now c.args.steps) (entry_of c.args.tags) 0) c.args.bit (omega (arith, length_bytes c.args.key.now, c.requires.1)) c.slim-t.result (number_told (bits_of_bytes c.args.key.now) c.args.bit c.args.tags.w c.slim-t.result (ap Number c.slim-t.ensures.0 ∙ sym c.in-Number.is ∙ c.take_field-taken.ensures)) _ c.no_form-then-is_none.ensures (ap is_never (c.listed_at-j.ensures.is c.args.steps ∙ ap (λ (x : ℕ). form_of c.args.forms.now c.args.steps x c.listed_at-j.result.form) c.listed_at-j.ensures.once) ∙ sym (c.is_none.ensures 1 (omega arith)) ∙ c.if-is_none.true)
+
+pub returns : goal.returns
+returns c =
+    chosen_to (bits_of_bytes c.args.key.now) c.args.forms.now c.args.steps c.args.tags.w (leads c.args.forms.now (form_of c.args.forms.now c.args.steps) (entry_of c.args.tags) 0) c.args.bit (omega (arith, length_bytes c.args.key.now, c.requires.1)) c.slim-t.result (number_told (bits_of_bytes c.args.key.now) c.args.bit c.args.tags.w c.slim-t.result (ap Number c.slim-t.ensures.0 ∙ sym c.in-Number.is ∙ c.take_field-taken.ensures)) _ _ (ap is_never (c.listed_at-j.ensures.is c.args.steps ∙ ap (λ (x : ℕ). form_of c.args.forms.now c.args.steps x c.listed_at-j.result.form) c.listed_at-j.ensures.once) ∙ sym (c.is_none.ensures 1 (omega arith)) ∙ c.if-is_none.false) (c.listed_at-j.ensures.is c.args.steps ∙ ap (λ (x : ℕ). form_of c.args.forms.now c.args.steps x c.listed_at-j.result.form) c.listed_at-j.ensures.once) c.listed_at-j.ensures.form (omega arith)

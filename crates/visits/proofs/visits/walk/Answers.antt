@@ -1,0 +1,20 @@
+use mathlib.Core.Path.{sym, subst}
+use mathlib.Core.List.{List}
+use Prim.Native.Nat.{ℕ}
+use lib.ListN.{length}
+use Rattle.keys.proofs.StoreLaws.{zeros}
+use Rattle.node_table.specs.Forms.{grammar_of, Narrow}
+use Rattle.node_table.proofs.FormsLaws.{words_narrow}
+use Rattle.node_table.specs.Moves.{Noded}
+use Rattle.visits.specs.Visits.{visit_words, Named}
+use Rattle.visits.proofs.VisitsLaws.{visited}
+use borrow.Author.Rules.{rules}
+use Rattle.visits.proofs.visits.walk.Goals as goal
+
+pub visit_node-o-requires : goal.visit_node-o-requires
+visit_node-o-requires c =
+    (search rules, search rules, search rules, search rules, search rules, search rules, subst Narrow (sym c.words-forms.ensures) words_narrow)
+
+pub returns : goal.returns
+returns c =
+    visited c.args.nodes.now c.args.names.now c.args.root c.args.tall (length c.args.visits.now) c.visit_node-o.result.name c.visit_node-o.result.to c.clear_words.new.0 c.visit_node-o.new.1.1.1.0 (zeros c.clear_words.new.0 c.args.visits.now c.clear_words.ensures) (subst (λ (T : List ℕ). Noded visit_words (grammar_of T) c.args.nodes.now (Named c.args.names.now) c.args.tall 0 (length c.args.names.now) 0 c.args.root 0 0 c.clear_words.new.0 c.visit_node-o.result.name c.visit_node-o.result.to c.visit_node-o.new.1.1.1.0) c.words-forms.ensures c.visit_node-o.ensures)
