@@ -1482,7 +1482,7 @@ params-shape_of-names-then-h-eq0 t c =
 pub params-returns-then-h-eq0 : goal.params-returns-then-h-eq0
 params-returns-then-h-eq0 t c =
     record {
-      reads_params = λ B r b. params_plain c.args.is-new (opens_plain _ _ _ _ _ c.params_head-h.ensures.opens c.if-h-ne0.false c.if-h-eq0.true) (c.plist.ensures.reads_others B r absent (built_moved c.params_head-h.ensures.moved.0 b) (this_none c.none-none.ensures));
+      reads_params = λ B r b. params_plain c.args.is_new (opens_plain _ _ _ _ _ c.params_head-h.ensures.opens c.if-h-ne0.false c.if-h-eq0.true) (c.plist.ensures.reads_others B r absent (built_moved c.params_head-h.ensures.moved.0 b) (this_none c.none-none.ensures));
       within_params = omega (arith, c.plist.ensures.within_params);
       past = λ z. omega (arith, opens_past c.params_head-h.ensures.opens c.if-h-ne0.false, c.params_head-h.ensures.moved, c.plist.ensures.past z);
     }
@@ -1506,7 +1506,7 @@ params-shape_of-names-then-a-ne0 t c =
 pub params-returns-then-a-ne0 : goal.params-returns-then-a-ne0
 params-returns-then-a-ne0 t c =
     record {
-      reads_params = λ B r b. params_refused c.refused-then-a-ne0.ensures c.if-a-ne0.true (params_this_refused (given_of c.args.text.now c.args.words.now c.args.given) (below c.args.given (given_of c.args.text.now c.args.words.now c.args.given)) c.args.is-new c.args.nodes.now c.args.names.now c.args.notes.now c.params_head-h.ensures.opens c.if-h-ne0.false c.if-h-eq0.false b c.before_this.ensures.value (λ C r d. c.opt-a.ensures.option C r d) c.if-a-ne0.true);
+      reads_params = λ B r b. params_refused c.refused-then-a-ne0.ensures c.if-a-ne0.true (params_this_refused (given_of c.args.text.now c.args.words.now c.args.given) (below c.args.given (given_of c.args.text.now c.args.words.now c.args.given)) c.args.is_new c.args.nodes.now c.args.names.now c.args.notes.now c.params_head-h.ensures.opens c.if-h-ne0.false c.if-h-eq0.false b c.before_this.ensures.value (λ C r d. c.opt-a.ensures.option C r d) c.if-a-ne0.true);
       within_params = omega (arith, same_params c.refused-then-a-ne0.ensures, c.requires, c.params_head-h.ensures.moved, c.before_this.ensures.first_le_first, c.opt-a.ensures.within_list);
       past = λ z. omega (arith, same_params c.refused-then-a-ne0.ensures, c.requires, c.params_head-h.ensures.moved, c.before_this.ensures.first_le_first, c.opt-a.ensures.within_list, z);
     }
@@ -1529,10 +1529,10 @@ params-shape_of-names-then-c-ne0 t c =
 
 pub params-returns-then-c-ne0 : goal.params-returns-then-c-ne0
 params-returns-then-c-ne0 t c =
-    let low = freed_low c.args.is-new c.args.m.used c.opt-a.result.m.used c.args.given.room (omega (arith, c.requires)) (omega (arith, c.opt-a.ensures.within_list)) in
-    let few = freed_low c.args.is-new c.args.m.named c.opt-a.result.m.named c.opt-a.result.m.at (omega (arith, c.params_head-h.ensures.moved, c.opt-a.ensures.within_list, c.opt-a.ensures.past c.if-a-ne0.false, c.requires)) (omega (arith, c.opt-a.ensures.within_list)) in
+    let low = freed_low c.args.is_new c.args.m.used c.opt-a.result.m.used c.args.given.room (omega (arith, c.requires)) (omega (arith, c.opt-a.ensures.within_list)) in
+    let few = freed_low c.args.is_new c.args.m.named c.opt-a.result.m.named c.opt-a.result.m.at (omega (arith, c.params_head-h.ensures.moved, c.opt-a.ensures.within_list, c.opt-a.ensures.past c.if-a-ne0.false, c.requires)) (omega (arith, c.opt-a.ensures.within_list)) in
     record {
-      reads_params = λ B r b. params_refused c.refused-then-c-ne0.ensures c.if-c-ne0.true (params_this_stops (given_of c.args.text.now c.args.words.now c.args.given) (below c.args.given (given_of c.args.text.now c.args.words.now c.args.given)) c.args.is-new c.args.nodes.now c.args.names.now c.args.notes.now c.params_head-h.ensures.opens c.if-h-ne0.false c.if-h-eq0.false b c.before_this.ensures.value (λ C r d. c.opt-a.ensures.option C r d) c.if-a-ne0.false c.freed.ensures.value c.separated-c.ensures.separates c.if-c-ne0.true);
+      reads_params = λ B r b. params_refused c.refused-then-c-ne0.ensures c.if-c-ne0.true (params_this_stops (given_of c.args.text.now c.args.words.now c.args.given) (below c.args.given (given_of c.args.text.now c.args.words.now c.args.given)) c.args.is_new c.args.nodes.now c.args.names.now c.args.notes.now c.params_head-h.ensures.opens c.if-h-ne0.false c.if-h-eq0.false b c.before_this.ensures.value (λ C r d. c.opt-a.ensures.option C r d) c.if-a-ne0.false c.freed.ensures.value c.separated-c.ensures.separates c.if-c-ne0.true);
       within_params = omega (arith, low, few, same_params c.refused-then-c-ne0.ensures, c.requires, c.params_head-h.ensures.moved, c.before_this.ensures.first_le_first, c.opt-a.ensures.within_list, c.opt-a.ensures.past c.if-a-ne0.false, c.freed.ensures.at_value, c.separated-c.ensures.moved);
       past = λ z. omega (arith, same_params c.refused-then-c-ne0.ensures, c.requires, c.params_head-h.ensures.moved, c.before_this.ensures.first_le_first, c.opt-a.ensures.within_list, c.opt-a.ensures.past c.if-a-ne0.false, c.freed.ensures.at_value, c.separated-c.ensures.moved, z);
     }
@@ -1543,7 +1543,7 @@ params-this_of-t-requires t c =
 
 pub params-plist-requires-2 : goal.params-plist-requires-2
 params-plist-requires-2 t c =
-    let low = freed_low c.args.is-new c.args.m.used c.opt-a.result.m.used c.args.given.room (omega (arith, c.requires)) (omega (arith, c.opt-a.ensures.within_list)) in let few = freed_low c.args.is-new c.args.m.named c.opt-a.result.m.named c.opt-a.result.m.at (omega (arith, c.params_head-h.ensures.moved, c.opt-a.ensures.within_list, c.opt-a.ensures.past c.if-a-ne0.false, c.requires)) (omega (arith, c.opt-a.ensures.within_list)) in let high = freed_high c.args.is-new c.args.m.used c.opt-a.result.m.used c.args.m.used (omega arith) (omega (arith, c.opt-a.ensures.past c.if-a-ne0.false, c.params_head-h.ensures.moved)) in let bit = bit_low c.opt-a.result.there in let under = under_this c.args.is-new c.args.m.used c.opt-a.result.m.used c.args.kids c.opt-a.result.kids (omega (arith, c.requires)) (omega (arith, c.opt-a.ensures.within_list)) in (omega (arith, low, few, high, bit, c.requires, c.params_head-h.ensures.moved, c.before_this.ensures.first_le_first, c.opt-a.ensures.within_list, c.opt-a.ensures.past c.if-a-ne0.false, c.freed.ensures.at_value, c.separated-c.ensures.moved, c.this_of-t.ensures.0), (ready c.requires.0 (omega (arith, c.requires, c.params_head-h.ensures.moved, c.before_this.ensures.first_le_first, c.opt-a.ensures.within_list, c.opt-a.ensures.past c.if-a-ne0.false, c.opt-a.auto, c.freed.ensures.at_value, c.separated-c.ensures.moved, c.this_of-t.ensures.0)) (omega (arith, low, few, high, bit, c.requires, c.params_head-h.ensures.moved, c.before_this.ensures.first_le_first, c.opt-a.ensures.within_list, c.opt-a.ensures.past c.if-a-ne0.false, c.freed.ensures.at_value, c.separated-c.ensures.moved, c.this_of-t.ensures.0)), subst (λ (k : Kids). Under c.separated-c.result.m.used k) (sym c.this_kids-k.ensures) (omega (arith, under, c.requires, c.params_head-h.ensures.moved, c.before_this.ensures.first_le_first, c.opt-a.ensures.within_list, c.opt-a.ensures.past c.if-a-ne0.false, c.freed.ensures.at_value, c.separated-c.ensures.moved, c.this_of-t.ensures.0)), omega (arith, bit, c.requires, c.params_head-h.ensures.moved, c.before_this.ensures.first_le_first, c.opt-a.ensures.within_list, c.opt-a.ensures.past c.if-a-ne0.false, c.freed.ensures.at_value, c.separated-c.ensures.moved, c.this_of-t.ensures.0)))
+    let low = freed_low c.args.is_new c.args.m.used c.opt-a.result.m.used c.args.given.room (omega (arith, c.requires)) (omega (arith, c.opt-a.ensures.within_list)) in let few = freed_low c.args.is_new c.args.m.named c.opt-a.result.m.named c.opt-a.result.m.at (omega (arith, c.params_head-h.ensures.moved, c.opt-a.ensures.within_list, c.opt-a.ensures.past c.if-a-ne0.false, c.requires)) (omega (arith, c.opt-a.ensures.within_list)) in let high = freed_high c.args.is_new c.args.m.used c.opt-a.result.m.used c.args.m.used (omega arith) (omega (arith, c.opt-a.ensures.past c.if-a-ne0.false, c.params_head-h.ensures.moved)) in let bit = bit_low c.opt-a.result.there in let under = under_this c.args.is_new c.args.m.used c.opt-a.result.m.used c.args.kids c.opt-a.result.kids (omega (arith, c.requires)) (omega (arith, c.opt-a.ensures.within_list)) in (omega (arith, low, few, high, bit, c.requires, c.params_head-h.ensures.moved, c.before_this.ensures.first_le_first, c.opt-a.ensures.within_list, c.opt-a.ensures.past c.if-a-ne0.false, c.freed.ensures.at_value, c.separated-c.ensures.moved, c.this_of-t.ensures.0), (ready c.requires.0 (omega (arith, c.requires, c.params_head-h.ensures.moved, c.before_this.ensures.first_le_first, c.opt-a.ensures.within_list, c.opt-a.ensures.past c.if-a-ne0.false, c.opt-a.auto, c.freed.ensures.at_value, c.separated-c.ensures.moved, c.this_of-t.ensures.0)) (omega (arith, low, few, high, bit, c.requires, c.params_head-h.ensures.moved, c.before_this.ensures.first_le_first, c.opt-a.ensures.within_list, c.opt-a.ensures.past c.if-a-ne0.false, c.freed.ensures.at_value, c.separated-c.ensures.moved, c.this_of-t.ensures.0)), subst (λ (k : Kids). Under c.separated-c.result.m.used k) (sym c.this_kids-k.ensures) (omega (arith, under, c.requires, c.params_head-h.ensures.moved, c.before_this.ensures.first_le_first, c.opt-a.ensures.within_list, c.opt-a.ensures.past c.if-a-ne0.false, c.freed.ensures.at_value, c.separated-c.ensures.moved, c.this_of-t.ensures.0)), omega (arith, bit, c.requires, c.params_head-h.ensures.moved, c.before_this.ensures.first_le_first, c.opt-a.ensures.within_list, c.opt-a.ensures.past c.if-a-ne0.false, c.freed.ensures.at_value, c.separated-c.ensures.moved, c.this_of-t.ensures.0)))
 
 pub params-shape_of-nodes : goal.params-shape_of-nodes
 params-shape_of-nodes t c =
@@ -1555,12 +1555,12 @@ params-shape_of-names t c =
 
 pub params-returns : goal.params-returns
 params-returns t c =
-    let low = freed_low c.args.is-new c.args.m.used c.opt-a.result.m.used c.args.given.room (omega (arith, c.requires)) (omega (arith, c.opt-a.ensures.within_list)) in
-    let few = freed_low c.args.is-new c.args.m.named c.opt-a.result.m.named c.opt-a.result.m.at (omega (arith, c.params_head-h.ensures.moved, c.opt-a.ensures.within_list, c.opt-a.ensures.past c.if-a-ne0.false, c.requires)) (omega (arith, c.opt-a.ensures.within_list)) in
-    let high = freed_high c.args.is-new c.args.m.used c.opt-a.result.m.used c.args.m.used (omega arith) (omega (arith, c.opt-a.ensures.past c.if-a-ne0.false, c.params_head-h.ensures.moved)) in
+    let low = freed_low c.args.is_new c.args.m.used c.opt-a.result.m.used c.args.given.room (omega (arith, c.requires)) (omega (arith, c.opt-a.ensures.within_list)) in
+    let few = freed_low c.args.is_new c.args.m.named c.opt-a.result.m.named c.opt-a.result.m.at (omega (arith, c.params_head-h.ensures.moved, c.opt-a.ensures.within_list, c.opt-a.ensures.past c.if-a-ne0.false, c.requires)) (omega (arith, c.opt-a.ensures.within_list)) in
+    let high = freed_high c.args.is_new c.args.m.used c.opt-a.result.m.used c.args.m.used (omega arith) (omega (arith, c.opt-a.ensures.past c.if-a-ne0.false, c.params_head-h.ensures.moved)) in
     let bit = bit_low c.opt-a.result.there in
     record {
-      reads_params = λ B r b. params_this (given_of c.args.text.now c.args.words.now c.args.given) (below c.args.given (given_of c.args.text.now c.args.words.now c.args.given)) c.args.is-new c.args.nodes.now c.args.names.now c.args.notes.now c.params_head-h.ensures.opens c.if-h-ne0.false c.if-h-eq0.false b c.before_this.ensures.value (λ C r d. c.opt-a.ensures.option C r d) c.if-a-ne0.false c.freed.ensures.value c.separated-c.ensures.separates c.if-c-ne0.false c.separated-c.ensures.moved c.this_kids-k.ensures (omega (arith, c.requires)) c.this_of-t.ensures (λ run th built i. c.plist-2.ensures.reads_others B run th built i);
+      reads_params = λ B r b. params_this (given_of c.args.text.now c.args.words.now c.args.given) (below c.args.given (given_of c.args.text.now c.args.words.now c.args.given)) c.args.is_new c.args.nodes.now c.args.names.now c.args.notes.now c.params_head-h.ensures.opens c.if-h-ne0.false c.if-h-eq0.false b c.before_this.ensures.value (λ C r d. c.opt-a.ensures.option C r d) c.if-a-ne0.false c.freed.ensures.value c.separated-c.ensures.separates c.if-c-ne0.false c.separated-c.ensures.moved c.this_kids-k.ensures (omega (arith, c.requires)) c.this_of-t.ensures (λ run th built i. c.plist-2.ensures.reads_others B run th built i);
       within_params = omega (arith, low, few, high, bit, c.requires, c.params_head-h.ensures.moved, c.before_this.ensures.first_le_first, c.opt-a.ensures.within_list, c.opt-a.ensures.past c.if-a-ne0.false, c.freed.ensures.at_value, c.separated-c.ensures.moved, c.plist-2.ensures.within_params, c.this_of-t.ensures.0);
       past = λ z. omega (arith, opens_past c.params_head-h.ensures.opens c.if-h-ne0.false, low, few, high, bit, c.requires, c.params_head-h.ensures.moved, c.before_this.ensures.first_le_first, c.opt-a.ensures.within_list, c.opt-a.ensures.past c.if-a-ne0.false, c.freed.ensures.at_value, c.separated-c.ensures.moved, c.plist-2.ensures.within_params, c.this_of-t.ensures.0, z, c.plist-2.ensures.past z);
     }
