@@ -9,7 +9,7 @@ use Rattle.node_table.specs.Forms.{Entry, class_at, IsRow, Lists, grammar_of, en
 use Rattle.node_table.specs.declared.forms.Row.{Row}
 use Rattle.walks.proofs.Rests.{some_bit, row_one, some_height, tag_within, tag_small, node_whole, node_rest, tags_same, tags_apart, behind_tags, lists_as, coming_none, rest_never, rest_end, nodes_left_lem, nodes_right, nodes_on, words_left, words_right, words_on, word_left, word_right, word_on, choice_left, choice_right, choice_on, rest_left, rest_right, some_found, rest_apart, jumps_as}
 use Rattle.keys.specs.Form.{one}
-use Rattle.walks.proofs.Walking.{inside_bits, inside_bytes, turn_none, node_left, node_right, word_left, word_right, turn_more, turn_all}
+use Rattle.walks.proofs.Walking.{inside_bits, inside_bytes, turn_none, node_left, node_right, word_left as next_left, word_right as next_right, turn_more, turn_all}
 use Rattle.walks.proofs.walk.+walk.Goals as goal
 
 pub walk_node-class_at-tags-requires : goal.walk_node-class_at-tags-requires
@@ -86,7 +86,7 @@ walk_nodes-walk_node-o-requires t c =
 
 pub walk_nodes-walk_after-o-requires : goal.walk_nodes-walk_after-o-requires
 walk_nodes-walk_after-o-requires t c =
-    (c.requires.0, c.requires.1, c.requires.5, c.requires.6, inside_bytes c.args.left.now c.args.right.now c.walk_node-o.ensures.inside, word_left c.loop-i.invariant c.loop-i-test.true c.walk_node-o.ensures c.requires.8, word_right c.loop-i.invariant c.loop-i-test.true c.walk_node-o.ensures c.requires.9)
+    (c.requires.0, c.requires.1, c.requires.5, c.requires.6, inside_bytes c.args.left.now c.args.right.now c.walk_node-o.ensures.inside, next_left c.loop-i.invariant c.loop-i-test.true c.walk_node-o.ensures c.requires.8, next_right c.loop-i.invariant c.loop-i-test.true c.walk_node-o.ensures c.requires.9)
 
 pub walk_nodes-overflow_add-i : goal.walk_nodes-overflow_add-i
 walk_nodes-overflow_add-i t c =
