@@ -1,6 +1,7 @@
 // The records of a file: their bytes, numbers of four and eight bytes, lowest first, and how a run ends.
-ghost use Rattle.std.specs.Prelude.{◌≡◌, ◌+◌, ◌*◌, ◌^◌, ◌<◌, ◌≤◌, length};
+ghost use Rattle.std.specs.Prelude.{◌≡◌, ◌+◌, ◌*◌, ◌^◌, ◌<◌, ◌≤◌, length, take, IsTrue};
 ghost use Rattle.io.specs.Counts.{IsPrefixLen};
+ghost use Rattle.std.specs.Io.KnownBytes.{Consumes};
 
 use crate::given::{complain, file};
 use crate::line::{cut, flush};
@@ -46,15 +47,16 @@ pub fn fill(bytes: &[u8], words: &mut [u64], n: usize)
 
 // Fills a buffer from a reader, and gives back how many bytes it put there: fewer where the reader ends or fails.
 pub fn filled<R: Read>(from: &mut R, bytes: &mut [u8]) -> usize
-    ensures { IsPrefixLen result bytes.new }
+    ensures in_bounds { IsPrefixLen result bytes.new }
+    ensures read { Consumes (R.remaining from.old) (R.remaining from.new) (take result bytes.new) }
 {
     let mut done = 0;
     while done < bytes.len() {
-        let n = from.read(&mut bytes[done..]).unwrap_or(0);
-        if n == 0 {
-            return done;
+        match from.read(&mut bytes[done..]) {
+            Ok(0) => return done,
+            Ok(n) => done += n,
+            Err(_) => return done,
         }
-        done += n;
     }
     done
 }
@@ -62,7 +64,8 @@ pub fn filled<R: Read>(from: &mut R, bytes: &mut [u8]) -> usize
 // Whether the next n bytes of a reader are there: they then begin the buffer.
 pub fn load<R: Read>(from: &mut R, bytes: &mut [u8], n: usize) -> bool
     requires { n ≤ length bytes.old }
-    ensures { IsPrefixLen n bytes.new }
+    ensures in_bounds { IsPrefixLen n bytes.new }
+    ensures read { IsTrue result → Consumes (R.remaining from.old) (R.remaining from.new) (take n bytes.new) }
 {
     filled(from, &mut bytes[..n]) == n
 }
