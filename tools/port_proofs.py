@@ -108,6 +108,11 @@ class Function:
                 at = by_place[at][1][1]
             self.ways[new] = way
         self.way, self.used = [], set()
+        # The parameters of the function that each step calls.
+        self.params = {}
+        for place, parent, (old, new), fn, fields in info["places"]:
+            if fn and fn in info["params"]:
+                self.params[new] = info["params"][fn]
         self.raw = {}
         for place, parent, (old, new), fn, fields in info["places"]:
             for a, b in fields or []:
@@ -168,7 +173,10 @@ class Function:
             if plain(old) in ("requires", "pre") and self.info.get("pre") and self.info["pre"].get("fields"):
                 fs = self.info["pre"]["fields"]
                 rest = re.sub(r"^\.(\d+)", lambda k: "." + fs[int(k[1])], rest)
-            rest = re.sub(r"^\.(args|new|loop)?\.?", lambda k: k[0], rest)
+            # What a parameter points to at the call's end, which went by its place, goes by its name.
+            at = re.match(r"^\.(new|kept|auto)((?:\.1)*)\.0(?![\w])", rest)
+            if at and new in self.params and len(at[2]) // 2 < len(self.params[new]):
+                rest = f".{at[1]}." + self.params[new][len(at[2]) // 2] + rest[at.end() :]
             return "c." + new + rest
 
         return re.sub(rf"(?<![\w'.-])c(?:\.before)*\.({NAME})((?:\.{NAME})*)", turn, text)
@@ -187,7 +195,7 @@ class Function:
             found[k[1]] = k[2]
             # A name that the file imports means the step only where a field follows.
             ends = r"(?=\.)" if k[1] in self.imported else r"(?![\w'-])"
-            tail = re.sub(rf"(?<![\w'.-])(?<![\w]\.){re.escape(k[1])}{ends}", lambda _: k[2], body[k.end() :])
+            tail = re.sub(rf"(?<![\w'.-])(?<![\w]\.){re.escape(k[1])}{ends}(?! = )", lambda _: k[2], body[k.end() :])
             body = body[: k.start()].rstrip(" ") + ("" if body[: k.start()].endswith(" ") or not body[: k.start()] else "") + tail
         return body.replace("let\0", "let")
 

@@ -20,4 +20,4 @@ put-requires c =
 
 pub returns : goal.returns
 returns c =
-    record { makes_about = subst (λ (k : Kids). Makes c.args.words.now c.args.given c.args.b c.args.choices k c.args.m c.args.nodes.now c.put.result c.put.new.1.0) c.one.ensures c.put.ensures.makes; put = c.put.ensures.put }
+    record { makes_about = subst (λ (k : Kids). Makes c.args.words.now c.args.given c.args.b c.args.choices k c.args.m c.args.nodes.now c.put.result c.put.new.nodes) c.one.ensures c.put.ensures.makes; put = c.put.ensures.put }

@@ -33,7 +33,7 @@ past-q-requires c =
 
 pub shape_of-names-then-kind_at-ne-COLON : goal.shape_of-names-then-kind_at-ne-COLON
 shape_of-names-then-kind_at-ne-COLON c =
-    c.name-n.auto.1.1.0
+    c.name-n.auto.names
 
 pub returns-then-kind_at-ne-COLON : goal.returns-then-kind_at-ne-COLON
 returns-then-kind_at-ne-COLON c =
@@ -47,7 +47,7 @@ next-requires-2 c =
 
 pub shape_of-names : goal.shape_of-names
 shape_of-names c =
-    c.name-n.auto.1.1.0
+    c.name-n.auto.names
 
 pub returns : goal.returns
 returns c =

@@ -48,7 +48,7 @@ returns-then-signs c =
           (got_method text c.args.words.now given b c.args.readonly c.args.m c.spell-p.result c.past-q.result c.args.names.now _ O c.kind_at-kind.ensures.value is_key c.spell-p.ensures.0 c.past-q.ensures.value c.past-q.ensures.moved c.spell-p.ensures.1 w
           (ap (λ (n : ℕ). eqb n Question) c.kind_at.ensures.value) c.key_choices-key.ensures.0 begins); along = (
         along_key c.requires.2 inside c.spell-p.ensures.0 c.past-q.ensures.moved,
-        record { some = omega (arith, kind_inside object.signs c.args.words.now c.past-q.result.at c.past-q.result.half refl begins); c.past-q = omega (arith, c.past-q.ensures.moved.ahead, ap (λ (x : Mark). x.at) c.spell-p.ensures.0); few = omega (arith, c.key_choices-key.ensures.1) },
+        record { some = omega (arith, kind_inside object.signs c.args.words.now c.past-q.result.at c.past-q.result.half refl begins); past = omega (arith, c.past-q.ensures.moved.ahead, ap (λ (x : Mark). x.at) c.spell-p.ensures.0); few = omega (arith, c.key_choices-key.ensures.1) },
       ) }
 
 pub returns : goal.returns
@@ -61,5 +61,5 @@ returns c =
           (got_property text c.args.words.now given b c.args.readonly c.args.m c.spell-p.result c.past-q.result c.args.names.now _ O c.kind_at-kind.ensures.value is_key c.spell-p.ensures.0 c.past-q.ensures.value c.past-q.ensures.moved c.spell-p.ensures.1 w
           (ap (λ (n : ℕ). eqb n Question) c.kind_at.ensures.value) c.key_choices-key.ensures.0 c.opt_bit.ensures.value begins); along = (
         along_key c.requires.2 inside c.spell-p.ensures.0 c.past-q.ensures.moved,
-        record { some = omega arith; c.past-q = omega (arith, c.past-q.ensures.moved.ahead, ap (λ (x : Mark). x.at) c.spell-p.ensures.0); few = omega (arith, c.key_choices-key.ensures.1, c.opt_bit.ensures.upper_bound) },
+        record { some = omega arith; past = omega (arith, c.past-q.ensures.moved.ahead, ap (λ (x : Mark). x.at) c.spell-p.ensures.0); few = omega (arith, c.key_choices-key.ensures.1, c.opt_bit.ensures.upper_bound) },
       ) }

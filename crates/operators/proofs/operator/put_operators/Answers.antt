@@ -54,7 +54,7 @@ returns-then-c-ne0 c =
 pub loop-i-preserved : goal.loop-i-preserved
 loop-i-preserved c =
  (
-      c.put_about-c.auto.1.0 ∙ c.loop-i.invariant.0,
+      c.put_about-c.auto.nodes ∙ c.loop-i.invariant.0,
       omega arith,
       omega arith,
       c.put_about-c.ensures.put.at_is ∙ c.loop-i.invariant.3,

@@ -32,7 +32,7 @@ returns c =
           let g = given_of text c.args.words.now c.args.given in
           let s = view c.args.m O in
           says_same (keyword_is g s)
-          (plain_says c.args.words.now c.args.given c.at.result (2 + 64 * c.keyword_number.result) c.args.m c.args.nodes.now c.put.result c.put.new.1.0 c.at.ensures.first_value.0 c.at.ensures.first_value.1 c.none.ensures c.next.ensures
+          (plain_says c.args.words.now c.args.given c.at.result (2 + 64 * c.keyword_number.result) c.args.m c.args.nodes.now c.put.result c.put.new.nodes c.at.ensures.first_value.0 c.at.ensures.first_value.1 c.none.ensures c.next.ensures
           (subst (λ (x : ℕ). Shape 0 2 (number x) done (2 + 64 * c.keyword_number.result)) (c.keyword_number.ensures.value ∙ ap (λ (k : ℕ). position k rule.keywords) c.kind_at.ensures.value) (shape_keyword c.keyword_number.result))
           c.put.ensures.makes
           text M O); reached = reached_put (next_mark c.args.m) c.next.ensures (fine_next c.requires.2 c.requires.3) (omega arith) (omega arith) c.put.ensures.put }

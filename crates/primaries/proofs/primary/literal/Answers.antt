@@ -35,7 +35,7 @@ returns-then-kind-eq-TRUE c =
           let g = given_of text c.args.words.now c.args.given in
           let s = view c.args.m O in
           says_same (literal_true g s (sym c.kind_at-kind.ensures.value ∙ c.if-kind-eq-TRUE.true))
-          (plain_says c.args.words.now c.args.given c.at-b.result 195 c.args.m c.args.nodes.now c.put.result c.put.new.1.0 c.at-b.ensures.first_value.0 c.at-b.ensures.first_value.1 c.none.ensures c.next.ensures
+          (plain_says c.args.words.now c.args.given c.at-b.result 195 c.args.m c.args.nodes.now c.put.result c.put.new.nodes c.at-b.ensures.first_value.0 c.at-b.ensures.first_value.1 c.none.ensures c.next.ensures
           (shape_truth 3)
           c.put.ensures.makes
           text c.args.names.now O); reached = reached_put (next_mark c.args.m) c.next.ensures (fine_next c.requires.2 c.requires.3) (omega arith) (omega arith) c.put.ensures.put }
@@ -57,7 +57,7 @@ returns-then-kind-eq-FALSE c =
           let g = given_of text c.args.words.now c.args.given in
           let s = view c.args.m O in
           says_same (literal_false g s (sym c.kind_at-kind.ensures.value ∙ c.if-kind-eq-FALSE.true))
-          (plain_says c.args.words.now c.args.given c.at-b.result 259 c.args.m c.args.nodes.now c.put-then-kind-eq-FALSE.result c.put-then-kind-eq-FALSE.new.1.0 c.at-b.ensures.first_value.0 c.at-b.ensures.first_value.1 c.none-then-kind-eq-FALSE.ensures c.next-then-kind-eq-FALSE.ensures
+          (plain_says c.args.words.now c.args.given c.at-b.result 259 c.args.m c.args.nodes.now c.put-then-kind-eq-FALSE.result c.put-then-kind-eq-FALSE.new.nodes c.at-b.ensures.first_value.0 c.at-b.ensures.first_value.1 c.none-then-kind-eq-FALSE.ensures c.next-then-kind-eq-FALSE.ensures
           (shape_truth 4)
           c.put-then-kind-eq-FALSE.ensures.makes
           text c.args.names.now O); reached = reached_put (next_mark c.args.m) c.next-then-kind-eq-FALSE.ensures (fine_next c.requires.2 c.requires.3) (omega arith) (omega arith) c.put-then-kind-eq-FALSE.ensures.put }
@@ -81,7 +81,7 @@ returns-then-kind-eq-MINUS c =
           says_same
           (literal_minus g s (sym c.kind_at-kind.ensures.value ∙ c.if-kind-eq-MINUS.true) ∙ negative_is g s
           ∙ ap (λ (x : ℕ). make g [] (tree 3 x (end g (next (next s))) (pick (rule.negated (state.kind g (next s))) (literal_spelling (present (spelling g (next s)))))) (next (next s))) (sym c.at-b.ensures.first_value.0))
-          (subst (λ (x : Mark). SaysNegative c.args.words.now c.args.given c.at-b.result x c.args.nodes.now c.args.names.now c.literal_negative.result c.literal_negative.new.1.0 c.literal_negative.new.1.1.0) c.next-then-kind-eq-MINUS.ensures c.literal_negative.ensures.says_negative
+          (subst (λ (x : Mark). SaysNegative c.args.words.now c.args.given c.at-b.result x c.args.nodes.now c.args.names.now c.literal_negative.result c.literal_negative.new.nodes c.literal_negative.new.names) c.next-then-kind-eq-MINUS.ensures c.literal_negative.ensures.says_negative
           text O t c.at-b.ensures.first_value.1 (minus_next g s (sym c.kind_at-kind.ensures.value ∙ c.if-kind-eq-MINUS.true) l)); reached = reached_less (omega (arith, ap (λ (x : Mark). x.at) c.next-then-kind-eq-MINUS.ensures)) (omega (arith, ap (λ (x : Mark). x.used) c.next-then-kind-eq-MINUS.ensures)) c.literal_negative.ensures.reached }
 
 pub returns : goal.returns

@@ -23,7 +23,7 @@ returns-then-asserts c =
       λ text O given t.
           rw c.if-asserts.true
           (spoken_from c.args.m refl refl refl
-          (subst (λ (x : Mark). Spoken (opt_names (subject (given_of text c.args.words.now given) (view x O))) x c.subject_at.result.m c.args.names.now c.subject_at.new.1.0) c.next.ensures (c.subject_at.ensures.speaks_subject text O given t))),
+          (subst (λ (x : Mark). Spoken (opt_names (subject (given_of text c.args.words.now given) (view x O))) x c.subject_at.result.m c.args.names.now c.subject_at.new.names) c.next.ensures (c.subject_at.ensures.speaks_subject text O given t))),
       (
         rw c.if-asserts.true
             (omega (arith, subst (λ (x : Mark). c.subject_at.result.choices ≡ 80 + 128 * unit (here c.args.words.now 102 x)) c.next.ensures c.subject_at.ensures.choices_value.0)),

@@ -24,7 +24,7 @@ report_if-e-requires c =
 
 pub shape_of-nodes-then-e-ne0 : goal.shape_of-nodes-then-e-ne0
 shape_of-nodes-then-e-ne0 c =
-    c.member_node-c.auto.1.0 ∙ c.convert_type_to_tuple_element-converted.auto.0
+    c.member_node-c.auto.nodes ∙ c.convert_type_to_tuple_element-converted.auto.nodes
 
 pub returns-then-e-ne0 : goal.returns-then-e-ne0
 returns-then-e-ne0 c =
@@ -38,7 +38,7 @@ pub rest_of-requires : goal.rest_of-requires
 rest_of-requires c =
  (
       c.requires.0,
-      omega (arith, c.member_node-c.auto.1.0, c.convert_type_to_tuple_element-converted.auto.0, c.requires.1),
+      omega (arith, c.member_node-c.auto.nodes, c.convert_type_to_tuple_element-converted.auto.nodes, c.requires.1),
       fine_noted (fine_noted (fine_put c.requires.2 c.member_node-c.ensures.put) c.report_if-d.ensures.noted) c.report_if-e.ensures.noted,
       omega (arith, c.member_node-c.ensures.put.more, c.if-c-ne0.false, c.report_if-d.ensures.noted.used_is, c.report_if-e.ensures.noted.used_is),
       c.member_node-c.ensures.put.low,
@@ -48,7 +48,7 @@ rest_of-requires c =
 
 pub shape_of-nodes : goal.shape_of-nodes
 shape_of-nodes c =
-    c.rest_of.auto.1.0 ∙ c.member_node-c.auto.1.0 ∙ c.convert_type_to_tuple_element-converted.auto.0
+    c.rest_of.auto.nodes ∙ c.member_node-c.auto.nodes ∙ c.convert_type_to_tuple_element-converted.auto.nodes
 
 pub returns : goal.returns
 returns c =

@@ -23,4 +23,4 @@ put_list-requires c =
 
 pub returns : goal.returns
 returns c =
-    subst (λ (x : Mark). MakesList c.args.words.now c.args.given c.args.b 19 c.args.k x c.args.nodes.now c.put_list.result c.put_list.new.1.0 × Put c.args.given x c.put_list.result) c.next.ensures c.put_list.ensures
+    subst (λ (x : Mark). MakesList c.args.words.now c.args.given c.args.b 19 c.args.k x c.args.nodes.now c.put_list.result c.put_list.new.nodes × Put c.args.given x c.put_list.result) c.next.ensures c.put_list.ensures
