@@ -23,4 +23,7 @@ put_list-requires c =
 
 pub returns : goal.returns
 returns c =
-    subst (λ (x : Mark). MakesList c.args.words.now c.args.given c.args.b 19 c.args.k x c.args.nodes.now c.put_list.result c.put_list.new.nodes × Put c.args.given x c.put_list.result) c.next.ensures c.put_list.ensures
+    record {
+      makes_list = subst (λ (x : Mark). MakesList c.args.words.now c.args.given c.args.b 19 c.args.k x c.args.nodes.now c.put_list.result c.put_list.new.nodes) c.next.ensures c.put_list.ensures.makes_list;
+      put = subst (λ (x : Mark). Put c.args.given x c.put_list.result) c.next.ensures c.put_list.ensures.put;
+    }
