@@ -149,19 +149,18 @@ take_nodes-loop-i-init t c =
     kids_none (bits_of_bytes c.args.key.now) (length c.args.names.now) (length c.args.text.now) (grammar_of c.args.forms.now) c.args.left c.args.r c.args.s c.args.nodes.now c.args.names.now c.args.text.now c.requires.1
 
 pub take_nodes-take_node-at-requires : goal.take_nodes-take_node-at-requires
-take_nodes-take_node-at-requires t c =
- (
-      omega (arith, c.requires.0),
-      (
-        c.requires.0,
-        record {
-          inside = inside_as (kids_steady (bits_of_bytes c.args.key.now) (length c.args.names.now) (length c.args.text.now) (grammar_of c.args.forms.now) c.args.left c.args.r c.args.s c.args.nodes.now c.args.names.now c.args.text.now c.loop-i.invariant).inside (kids_names (bits_of_bytes c.args.key.now) (length c.args.names.now) (length c.args.text.now) (grammar_of c.args.forms.now) c.args.left c.args.r c.args.s c.args.nodes.now c.args.names.now c.args.text.now c.loop-i.invariant) (kids_text (bits_of_bytes c.args.key.now) (length c.args.names.now) (length c.args.text.now) (grammar_of c.args.forms.now) c.args.left c.args.r c.args.s c.args.nodes.now c.args.names.now c.args.text.now c.loop-i.invariant);
-          nodes_fit = omega (arith, (kids_housed (bits_of_bytes c.args.key.now) (length c.args.names.now) (length c.args.text.now) (grammar_of c.args.forms.now) c.args.left c.args.r c.args.s c.args.nodes.now c.args.names.now c.args.text.now c.loop-i.invariant c.requires.2).nodes_fit);
-          in_table = c.requires.3.a;
-          slim = c.requires.4;
-        },
-      ),
-    )
+take_nodes-take_node-at-requires t c = (
+  omega (arith, c.requires.0),
+  (
+    c.requires.0,
+    record {
+      inside = inside_as (kids_steady (bits_of_bytes c.args.key.now) (length c.args.names.now) (length c.args.text.now) (grammar_of c.args.forms.now) c.args.left c.args.r c.args.s c.args.nodes.now c.args.names.now c.args.text.now c.loop-i.invariant).inside (kids_names (bits_of_bytes c.args.key.now) (length c.args.names.now) (length c.args.text.now) (grammar_of c.args.forms.now) c.args.left c.args.r c.args.s c.args.nodes.now c.args.names.now c.args.text.now c.loop-i.invariant) (kids_text (bits_of_bytes c.args.key.now) (length c.args.names.now) (length c.args.text.now) (grammar_of c.args.forms.now) c.args.left c.args.r c.args.s c.args.nodes.now c.args.names.now c.args.text.now c.loop-i.invariant);
+      nodes_fit = omega (arith, (kids_housed (bits_of_bytes c.args.key.now) (length c.args.names.now) (length c.args.text.now) (grammar_of c.args.forms.now) c.args.left c.args.r c.args.s c.args.nodes.now c.args.names.now c.args.text.now c.loop-i.invariant c.requires.2).nodes_fit);
+      in_table = c.requires.3.a;
+      slim = c.requires.4;
+    },
+  ),
+)
 
 pub take_nodes-shape_of-nodes-then-at-ne0 : goal.take_nodes-shape_of-nodes-then-at-ne0
 take_nodes-shape_of-nodes-then-at-ne0 t c =
