@@ -83,7 +83,7 @@ def lets_off(body):
 
 class Function:
     def __init__(self, info, said, where, multi):
-        self.info, self.said, self.where, self.multi = info, said, where, multi
+        self.info, self.said, self.where, self.cycle = info, said, where, multi
         self.needs = {}
         for old, new in info["needs"]:
             for o in {old, re.sub(r"^(overflow|nonzero)_", "", new) if False else old}:
@@ -108,6 +108,11 @@ class Function:
                 at = by_place[at][1][1]
             self.ways[new] = way
         self.way, self.used = [], set()
+        # The parameters of the function that each step calls.
+        self.params = {}
+        for place, parent, (old, new), fn, fields in info["places"]:
+            if fn and fn in info["params"]:
+                self.params[new] = info["params"][fn]
         self.raw = {}
         for place, parent, (old, new), fn, fields in info["places"]:
             for a, b in fields or []:
@@ -163,12 +168,26 @@ class Function:
             if raw and first and first[1] in raw:
                 rest = "." + raw[first[1]] + rest[first.end() :]
             cl = self.clauses.get(plain(old))
-            if cl and len(cl) > 1:
+            if cl and len(cl) > 2:
+                # Three clauses and more were pairs in pairs.
+                k = re.match(r"^\.ensures((?:\.1){0,%d})(\.0)?(?=\.|$)" % (len(cl) - 1), rest)
+                if k and (k[2] and len(k[1]) // 2 < len(cl) - 1 or len(k[1]) // 2 == len(cl) - 1):
+                    at = len(k[1]) // 2
+                    end = k.end() if at < len(cl) - 1 else k.end(1)
+                    rest = ".ensures." + cl[at] + rest[end:]
+            elif cl and len(cl) > 1:
                 rest = re.sub(r"^\.ensures\.(\d+)", lambda k: ".ensures." + cl[int(k[1])] if int(k[1]) < len(cl) else k[0], rest)
+            if self.cycle and plain(old) in ("requires", "pre"):
+                if rest.startswith(".0"):
+                    self.said.append(f"{self.where}: the measure's own fact: {old}{rest}")
+                rest = re.sub(r"^\.1(?=\.|$)", "", rest)
             if plain(old) in ("requires", "pre") and self.info.get("pre") and self.info["pre"].get("fields"):
                 fs = self.info["pre"]["fields"]
                 rest = re.sub(r"^\.(\d+)", lambda k: "." + fs[int(k[1])], rest)
-            rest = re.sub(r"^\.(args|new|loop)?\.?", lambda k: k[0], rest)
+            # What a parameter points to at the call's end, which went by its place, goes by its name.
+            at = re.match(r"^\.(new|kept|auto)((?:\.1)*)\.0(?![\w])", rest)
+            if at and new in self.params and len(at[2]) // 2 < len(self.params[new]):
+                rest = f".{at[1]}." + self.params[new][len(at[2]) // 2] + rest[at.end() :]
             return "c." + new + rest
 
         return re.sub(rf"(?<![\w'.-])c(?:\.before)*\.({NAME})((?:\.{NAME})*)", turn, text)
@@ -187,7 +206,7 @@ class Function:
             found[k[1]] = k[2]
             # A name that the file imports means the step only where a field follows.
             ends = r"(?=\.)" if k[1] in self.imported else r"(?![\w'-])"
-            tail = re.sub(rf"(?<![\w'.-])(?<![\w]\.){re.escape(k[1])}{ends}", lambda _: k[2], body[k.end() :])
+            tail = re.sub(rf"(?<![\w'.-])(?<![\w]\.){re.escape(k[1])}{ends}(?! = )", lambda _: k[2], body[k.end() :])
             body = body[: k.start()].rstrip(" ") + ("" if body[: k.start()].endswith(" ") or not body[: k.start()] else "") + tail
         return body.replace("let\0", "let")
 
@@ -297,13 +316,146 @@ def turn(path, crate, names, said):
     return True
 
 
+def parameters(crate):
+    """The parameters of each function in the order of its source, by its name."""
+    found = {}
+    for at, _, files in os.walk(os.path.join(crate, "src")):
+        for f in files:
+            with open(os.path.join(at, f), encoding="utf-8") as it:
+                for m in re.finditer(r"\bfn (\w+)(?:<[^>]*>)?\(([^{]*?)\)(?: ->|\n|\s*\{)", it.read()):
+                    found[m[1]] = re.findall(r"(?:^|[,(\s])(?:mut )?(\w+)\s*:(?!:)", m[2])
+    return found
+
+
+def turn_cycle(folder, crate, names, said):
+    """A cycle: its one proof, and the module of each member, become one file of invariants and one of answers."""
+    where = os.path.relpath(folder, os.path.join(crate, "proofs"))
+    short = os.path.basename(folder)
+    module = where.replace("/", ".")
+    name, lib = os.path.basename(crate), f"Rattle.{os.path.basename(crate)}.proofs.{module}"
+    params = parameters(crate)
+    paths = [os.path.join(folder, "Proof.antt")]
+    inner = os.path.join(folder, "Proof")
+    if os.path.isdir(inner):
+        paths += [os.path.join(inner, f) for f in sorted(os.listdir(inner))]
+    uses, given, answers, helpers = [], [], [], []
+    for path in paths:
+        with open(path, encoding="utf-8") as f:
+            text = f.read()
+        head = re.match(r"(?:(?:--[^\n]*|use [^\n]*|pub use [^\n]*|mod [^\n]*|)\n)*", text)[0]
+        own = [l for l in head.split("\n") if l.startswith("use ")]
+        aliases = {m[2]: m[1] for l in own for m in [re.search(r"\.Lts-(\S+) as (\S+)$", l)] if m}
+        imported = {n.split(" as ")[-1].strip() for l in own for n in (re.findall(r"\{(.*)\}", l) or [""])[0].split(",")}
+        uses += [l for l in own if not re.search(r"(?:\.(?:Reads|Kinds|Symbol|Met|Code|Statement|Tie)(?:\.\{[^}]*\})?(?: as \S+)?|\.Lts\S*(?: as \S+)?|Proof\.Base\.\{[^}]*\}|PlainCycle\.\{[^}]*\}|Fn\.Kinds\.\{[^}]*\})$", l)]
+        body = text[len(head) :]
+        body = re.sub(r"(?ms)^module _ \(t : ℕ\) where\n((?:(?:  [^\n]*)?\n)*(?:  [^\n]*)?)", lambda m: re.sub(r"(?m)^  ", "", m[1]), body)
+        made = {}
+        for b in blocks(body):
+            m = re.match(rf"((?:--[^\n]*\n)*)(?:abbrev )?(?:pub )?({NAME}) :\s+({NAME})\.({NAME})", b)
+            kind = re.match(rf"(?:--[^\n]*\n)*(?:abbrev )?(?:pub )?({NAME}) : (Measures|ℕ → In|ℕ → ({NAME})\.Claims)", b)
+            if kind and kind[2] == "Measures":
+                f = re.sub(r"^μ[-_]", "", kind[1]).replace("-", "_")
+                e = re.search(rf"(?m)^{re.escape(kind[1])} κs a =\s*(.*)$", b, re.S)[1]
+                e = re.sub(r"(?<![\w.])a((?:\.1)*)\.0(?![\w])", lambda k: "l." + params[f][len(k[1]) // 2], e)
+                given.append(f"abbrev pub decreases-{f} : goal.decreases-{f}\ndecreases-{f} l = {e.strip()}")
+                continue
+            if kind or "-spec :" in b.split("\n")[0] or "_spec :" in b.split("\n")[0]:
+                continue
+            if m and m[3] in aliases:
+                f = aliases[m[3]]
+                info = names.get(f"Rattle-{name}-proofs.{module}.Lts-{f}")
+                if not info:
+                    said.append(f"{where}: nothing is told of {f}")
+                    continue
+                stem = info.get("stem") or ""
+                if m[4].startswith(("invariant", "decreases", "InvT", "MeasureT")):
+                    kind = "decreases" if m[4].startswith(("decreases", "MeasureT")) else "invariant"
+                    loop = m[4].split("-", 1)[1]
+                    told = f"{kind}-{loop}"
+                    again = re.sub(rf"(?m)^(?:abbrev )?(?:pub )?{re.escape(m[2])} : [^\n]*\n{re.escape(m[2])} ", f"abbrev pub {told} : goal.x\n{told} ", b)
+                    new = invariant(again[again.index("abbrev") :], info, said, f"{where}/{f}", stem)
+                    if new:
+                        given.append(new)
+                    continue
+                g = re.match(rf"((?:--[^\n]*\n)*)(?:pub )?({NAME}) :\s+{NAME}\.Need-({NAME})[^\n]*\n((?:unfolding [^\n]*\n)?)\2 ([^=]*?) ?=(.*)$", b, re.S)
+                if g:
+                    function = made.setdefault(f, Function(info, said, f"{where}/{f}", True))
+                    function.imported = imported
+                    goal = function.need(g[3])
+                    if not goal:
+                        if g[6].strip() != "search rules":
+                            said.append(f"{where}/{f}: no goal {g[3]}: {' '.join(g[6].split())[:200]}")
+                        continue
+                    if goal in info.get("settled", []) or g[6].strip() in ("search rules", "tt"):
+                        continue
+                    function.way = function.ways.get(goal, [])
+                    term = function.path(function.inline(g[6]))
+                    asked = info.get("asked", {}).get(next((o for o, n in info["needs"] if n == goal), None))
+                    if asked and len(asked) > 1:
+                        lets, rest = lets_off(term)
+                        parts = parts_of(rest)
+                        while parts and len(parts) < len(asked) and parts_of(parts[-1]):
+                            parts = parts[:-1] + parts_of(parts[-1])
+                        if parts and len(parts) == len(asked):
+                            term = "".join(f"\n    {x}" for x in lets) + "\n    record {\n" + "".join(f"      {a} = {p};\n" for a, p in zip(asked, parts)) + "    }"
+                        else:
+                            said.append(f"{where}/{f}: {goal} wants {asked}")
+                    answers.append(f"{g[1]}pub {stem}{goal} : goal.{stem}{goal}\n{g[4]}{stem}{goal} t c ={term}")
+                    continue
+            helpers.append(b)
+    tree = {}
+    plainly = []
+    for l in dict.fromkeys(uses):
+        m = re.match(r"use (\S+)\.\{(.*)\}$", l)
+        if m:
+            tree.setdefault(m[1], {}).update({n.strip(): 0 for n in m[2].split(",")})
+        else:
+            plainly.append(l)
+
+    def heads(body):
+        out = []
+        for l in plainly:
+            alias = re.search(r" as (\S+)$", l)
+            alias = alias[1] if alias else l.split(".")[-1]
+            if re.search(rf"(?<![\w'-]){re.escape(alias)}(?![\w'-])", body):
+                out.append(l)
+        taken = {}
+        for where_, ns in tree.items():
+            keep = []
+            for n in ns:
+                local = n.split(" as ")[-1]
+                core = [x for x in local.split("◌") if x]
+                if all(re.search(re.escape(x) if "◌" in local else rf"(?<![\w'-]){re.escape(x)}(?![\w'-])", body) for x in core):
+                    if local in taken and taken[local] != where_:
+                        said.append(f"{where}: {local} comes from {taken[local]} and {where_}")
+                    taken[local] = where_
+                    keep.append(n)
+            if keep:
+                out.append(f"use {where_}.{{{', '.join(keep)}}}")
+        return out
+
+    body = "\n\n".join(given)
+    with open(os.path.join(folder, "Invariants.antt"), "w", encoding="utf-8") as f:
+        f.write("\n".join([*heads(body), f"use {lib}.Given as goal", "", body, ""]))
+    body = "\n\n".join([*helpers, *answers])
+    with open(os.path.join(folder, "Answers.antt"), "w", encoding="utf-8") as f:
+        f.write("\n".join([*heads(body), f"use {lib}.Goals as goal", "", body, ""]))
+    for p in paths:
+        os.remove(p)
+    if os.path.isdir(inner):
+        os.rmdir(inner)
+
+
 def main(names, crates):
     for crate in crates:
         with open(os.path.join(names, os.path.basename(crate), "names.json"), encoding="utf-8") as f:
             info = json.load(f)
         said, n = [], 0
         for at, _, files in sorted(os.walk(os.path.join(crate, "proofs"))):
-            if "Proof.antt" in files:
+            if "Proof.antt" in files and os.path.basename(at).startswith("+"):
+                turn_cycle(at, crate, info, said)
+                n += 1
+            elif "Proof.antt" in files:
                 n += turn(os.path.join(at, "Proof.antt"), crate, info, said)
         print(f"{crate}: {n} proofs turned")
         for s in said:

@@ -10,6 +10,7 @@ ghost use Rattle.std.specs.Prelude.{◌≡◌, ◌<◌, ◌≤◌, length};
 
 use crate::record::Rooms;
 use lines::line;
+use std::fs::File;
 
 // A record's line, by the buffers that it lends.
 fn lent(
@@ -36,7 +37,7 @@ fn lent(
 
 // A record after its head: its keys are read, and its line goes to the buffer.
 fn shown(
-    fd: i32,
+    file: &mut File,
     head: &[u8; 13],
     out: &mut [u8; 65536],
     at: usize,
@@ -57,10 +58,10 @@ fn shown(
     if right.len() < rooms.right {
         return line::cut(out, at);
     }
-    if !lines::record::load(fd, left, rooms.left) {
+    if !lines::record::load(file, left, rooms.left) {
         return line::cut(out, at);
     }
-    if !lines::record::load(fd, right, rooms.right) {
+    if !lines::record::load(file, right, rooms.right) {
         return line::cut(out, at);
     }
     let end = lent(out, at, head[0], rooms, left, right, list);
@@ -69,7 +70,7 @@ fn shown(
 
 // The next record. After the last, and after one that is cut, the place given back is the buffer's length.
 fn turn(
-    fd: i32,
+    file: &mut File,
     out: &mut [u8; 65536],
     at: usize,
     left: &mut [u8],
@@ -80,22 +81,28 @@ fn turn(
     ensures { result ≤ 65536 }
 {
     let mut head = [0u8; 13];
-    let got = io::read_full(fd, &mut head);
+    let got = lines::record::filled(file, &mut head);
     if got == 0 {
         return line::flush(out, at);
     }
     if got < 13 {
         return line::cut(out, at);
     }
-    shown(fd, &head, out, at, left, right, list)
+    shown(file, &head, out, at, left, right, list)
 }
 
 // The records of a file, at most a thousand million.
-fn records(fd: i32, out: &mut [u8; 65536], left: &mut [u8], right: &mut [u8], list: &mut [u64]) {
+fn records(
+    file: &mut File,
+    out: &mut [u8; 65536],
+    left: &mut [u8],
+    right: &mut [u8],
+    list: &mut [u64],
+) {
     let mut at: usize = 0;
     let mut more: usize = 1_000_000_000;
     while 0 < more {
-        at = turn(fd, out, at, left, right, list);
+        at = turn(file, out, at, left, right, list);
         if 65536 <= at {
             return;
         }
@@ -104,26 +111,16 @@ fn records(fd: i32, out: &mut [u8; 65536], left: &mut [u8], right: &mut [u8], li
     line::flush(out, at);
 }
 
-fn run(fd: i32) {
+fn run(file: &mut File) {
     let mut out = io::large_buffer();
     let mut left = record::key_room();
     let mut right = record::key_room();
     let mut list = record::list_room();
-    records(fd, &mut out, &mut left, &mut right, &mut list);
+    records(file, &mut out, &mut left, &mut right, &mut list);
 }
 
-fn main() {
-    let mut path = io::buffer();
-    let k = os::arg(1, &mut path);
-    if os::errno() != 0 {
-        os::fail(b"path");
-        return;
+fn main(rt: HostRuntime) {
+    if let Some(mut file) = lines::record::opened(&rt) {
+        run(&mut file);
     }
-    let fd = os::open_read(&path[..k]);
-    if fd < 0 {
-        os::fail(&path[..k]);
-        return;
-    }
-    run(fd);
-    libc::close(fd);
 }

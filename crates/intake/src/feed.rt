@@ -1,9 +1,10 @@
-// Lines of standard input, and what is said around each.
+// Lines of a reader, and what is said around each.
 ghost use Rattle.std.specs.Prelude.{◌≡◌, ◌<◌};
 
 use lines::line::{byte, bytes, flush};
 use speech::ask::{Form, Job};
 use speech::put::{Shape, byte_at, copy, least, numbered};
+use std::io::Read;
 
 // The input that is at hand: the next byte and the end of it.
 #[derive(Clone, Copy)]
@@ -22,14 +23,18 @@ pub struct Got {
 }
 
 // More input, once what was printed is out; none left if at = end.
-fn refilled(out: &mut [u8; 65536], at: usize, input: &mut [u8; 65536]) -> Feed
+fn refilled<R: Read>(
+    from: &mut R,
+    out: &mut [u8; 65536],
+    at: usize,
+    input: &mut [u8; 65536],
+) -> Feed
     requires { at < 65536 }
 {
     flush(out, at);
-    let n = libc::read(0, input);
     Feed {
         at: 0,
-        end: io::count(n, input),
+        end: from.read(input).unwrap_or(0),
     }
 }
 
@@ -70,7 +75,8 @@ fn taken(text: &mut [u8; 131072], size: usize, input: &[u8], f: Feed, at: usize)
 }
 
 // The next line, which the end of the input ends too.
-pub fn line(
+pub fn line<R: Read>(
+    from: &mut R,
     out: &mut [u8; 65536],
     at: usize,
     input: &mut [u8; 65536],
@@ -90,7 +96,7 @@ pub fn line(
             return g;
         }
         size = g.size;
-        f = refilled(out, p, input);
+        f = refilled(from, out, p, input);
         p = 0;
         if f.end == 0 {
             return Got {

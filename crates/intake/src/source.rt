@@ -1,6 +1,10 @@
 // The text or the key that an argument names.
+use lines::given::{argument, file};
+use lines::record::filled;
 use speech::ask::{Asked, From};
 use speech::put::byte_at;
+use std::io::{Input, Read};
+use std::rt::{Env, Files};
 
 // A text's length without the line break that ends it.
 fn trimmed(text: &[u8], size: usize) -> usize {
@@ -26,35 +30,37 @@ pub struct Found {
     pub is: bool,
 }
 
-// What an open file holds, as far as there is room.
-fn read_all(fd: i32, text: &mut [u8]) -> Found {
-    let n = io::read_full(fd, text);
+// What a reader has left, as far as there is room.
+fn read_all<R: Read>(from: &mut R, text: &mut [u8]) -> Found {
+    let n = filled(from, text);
     Found {
         size: trimmed(text, n),
         is: true,
     }
 }
 
+// What standard input has left, as far as there is room.
+fn read_input<R: Input>(rt: &R, text: &mut [u8]) -> Found {
+    let mut input = rt.reader();
+    read_all(&mut input, text)
+}
+
 // The file that an argument names.
-fn read_file(argument: usize, text: &mut [u8]) -> Found {
-    let n = os::arg(argument, text);
-    let fd = os::open_read(&text[..n]);
-    if fd < 0 {
-        os::fail(&text[..n]);
-        return Found { size: 0, is: false };
+fn read_file<R: Env + Files>(rt: &R, i: usize, text: &mut [u8]) -> Found {
+    let n = argument(rt, i, text);
+    match file(rt, &text[..n]) {
+        Some(mut file) => read_all(&mut file, text),
+        None => Found { size: 0, is: false },
     }
-    let f = read_all(fd, text);
-    libc::close(fd);
-    f
 }
 
 // An argument itself, or standard input where it is a single `-`.
-fn read_argument(argument: usize, text: &mut [u8], dash: bool) -> Found {
-    let n = os::arg(argument, text);
+fn read_argument<R: Env + Input>(rt: &R, i: usize, text: &mut [u8], dash: bool) -> Found {
+    let n = argument(rt, i, text);
     if dash {
         if n == 1 {
             if byte_at(text, 0) == b'-' {
-                return read_all(0, text);
+                return read_input(rt, text);
             }
         }
     }
@@ -62,12 +68,12 @@ fn read_argument(argument: usize, text: &mut [u8], dash: bool) -> Found {
 }
 
 // The text or key that is to be read.
-pub fn sought(a: Asked, text: &mut [u8]) -> Found {
+pub fn sought<R: Env + Files + Input>(rt: &R, a: Asked, text: &mut [u8]) -> Found {
     if a.from == From::FILE {
-        return read_file(a.argument, text);
+        return read_file(rt, a.argument, text);
     }
     if a.from == From::INPUT {
-        return read_all(0, text);
+        return read_input(rt, text);
     }
-    read_argument(a.argument, text, a.from == From::KEY)
+    read_argument(rt, a.argument, text, a.from == From::KEY)
 }

@@ -64,7 +64,7 @@ module _ (G : Grammar) where
   form_taken (fits_child a b) zero t n k m r = absurd (not-suc-le-zero t)
   form_taken (fits_child {c = c} {t = j} {v = v} a b) (suc h) t n k m r =
       choice_taken (G.tag_width c) (G.row c) (suc (nodes v) + n) (length (names v) + k) (letters v + m) j (write G (G.row c j) v) r _ a b
-      ∙ ap (take_room _ j _) (suc-add (nodes v) n) ∙ ap (into (node j)) (form_taken b h (le_of_suc-le-suc t) n k m r)
+      ∙ ap (take_room (state (nodes (node j v) + n) (length (names (node j v)) + k) (letters (node j v) + m) (write G (child c) (node j v) ++ r)) j _) (suc-add (nodes v) n) ∙ ap (into (node j)) (form_taken b h (le_of_suc-le-suc t) n k m r)
 
 -- ---- What is taken was written
 

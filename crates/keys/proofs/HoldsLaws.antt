@@ -47,18 +47,18 @@ module _ (G : Grammar) where
   neat_plant : {f : Form} (p : Placed) → Fits G f (bare p) → (r : Run) → Neat r → Neat (plant G f p r)
   neat_plant void fits_one r h = h
   neat_plant (said x s) (fits_word a b c) r h = (a, h)
-  neat_plant (pick k p) (fits_choose {w = w} {x = x} a b) r h = (wider_fits w x k a, neat_plant p b r h)
-  neat_plant (join p q) (fits_both {g = g} a b) r h = neat_plant p a (plant G g q r) (neat_plant q b r h)
-  neat_plant (tree t first end p) (fits_child a b) r h = ((a, neat_plant p b done tt), h)
+  neat_plant (pick k p) (fits_choose {w = w} {x = x} {fs = fs} a b) r h = (wider_fits w x k a, neat_plant {f = fs k} p b r h)
+  neat_plant (join p q) (fits_both {f = f} {g = g} a b) r h = neat_plant {f = f} p a (plant G g q r) (neat_plant {f = g} q b r h)
+  neat_plant (tree t first end p) (fits_child {c = c} a b) r h = ((a, neat_plant {f = G.row c t} p b done tt), h)
 
   spellings_plant : (f : Form) (p : Placed) (r : Run) → spellings (plant G f p r) ≡ names (bare p) ++ spellings r
   spellings_plant f void r = refl
   spellings_plant f (said x s) r = refl
-  spellings_plant f (pick k p) r = spellings_plant _ p r
+  spellings_plant f (pick k p) r = spellings_plant (branch f k) p r
   spellings_plant f (join p q) r =
-      spellings_plant _ p (plant G _ q r) ∙ ap (λ (x : List (List ℕ)). names (bare p) ++ x) (spellings_plant _ q r)
+      spellings_plant (left f) p (plant G (right f) q r) ∙ ap (λ (x : List (List ℕ)). names (bare p) ++ x) (spellings_plant (right f) q r)
       ∙ sym (append_assoc (names (bare p)) (names (bare q)) (spellings r))
-  spellings_plant f (tree t first end p) r = ap (λ (x : List (List ℕ)). x ++ spellings r) (spellings_plant _ p done ∙ append-nil (names (bare p)))
+  spellings_plant f (tree t first end p) r = ap (λ (x : List (List ℕ)). x ++ spellings r) (spellings_plant (G.row (class f) t) p done ∙ append-nil (names (bare p)))
 
   levels_plant : (f : Form) (p : Placed) (r : Run) → levels (plant G f p r) ≡ max (height (bare p)) (levels r)
   levels_plant f void r = omega arith
@@ -71,22 +71,22 @@ module _ (G : Grammar) where
   of_plant : {f g : Form} (p : Placed) → Fits G f (bare p) → (r : Run) → Of (lined G) g r → Of (lined G) (in_line f g) (plant G f p r)
   of_plant void fits_one r o = o
   of_plant (said x s) (fits_word a b c) r o = of_word o
-  of_plant (pick k p) (fits_choose a b) r o = of_choose (of_plant p b r o)
-  of_plant (join p q) (fits_both {g = h} a b) r o = of_plant p a (plant G h q r) (of_plant q b r o)
-  of_plant (tree t first end p) (fits_child a b) r o = of_child (of_choose (of_plant p b done of_one)) o
+  of_plant {g = g} (pick k p) (fits_choose {w = w} {x = x} {fs = fs} a b) r o = of_choose (of_plant {f = fs k} {g = g} p b r o)
+  of_plant {g = g} (join p q) (fits_both {f = f} {g = h} a b) r o = of_plant {f = f} {g = in_line h g} p a (plant G h q r) (of_plant {f = h} {g = g} q b r o)
+  of_plant (tree t first end p) (fits_child {c = c} a b) r o = of_child (of_choose (of_plant {f = G.row c t} {g = one} p b done of_one)) o
 
   -- And it is written as the value is, and then as the other.
   written_plant : {f : Form} (g : Form) (p : Placed) → Fits G f (bare p) → (r : Run)
       → written (lined G) (in_line f g) (plant G f p r) ≡ write G f (bare p) ++ written (lined G) g r
   written_plant g void fits_one r = refl
   written_plant g (said x s) (fits_word a b c) r = refl
-  written_plant g (pick k p) (fits_choose {w = w} {fs = fs} a b) r =
-      ap (λ (x : Bits). bits_of w k ++ x) (written_plant g p b r) ∙ sym (append_assoc (bits_of w k) (write G (fs k) (bare p)) (written (lined G) g r))
+  written_plant g (pick k p) (fits_choose {w = w} {x = x} {fs = fs} a b) r =
+      ap (λ (x : Bits). bits_of w k ++ x) (written_plant {f = fs k} g p b r) ∙ sym (append_assoc (bits_of w k) (write G (fs k) (bare p)) (written (lined G) g r))
   written_plant g (join p q) (fits_both {f = f} {g = h} a b) r =
-      written_plant (in_line h g) p a (plant G h q r) ∙ ap (λ (x : Bits). write G f (bare p) ++ x) (written_plant g q b r)
+      written_plant {f = f} (in_line h g) p a (plant G h q r) ∙ ap (λ (x : Bits). write G f (bare p) ++ x) (written_plant {f = h} g q b r)
       ∙ sym (append_assoc (write G f (bare p)) (write G h (bare q)) (written (lined G) g r))
   written_plant g (tree t first end p) (fits_child {c = c} a b) r =
-      ap (λ (x : Bits). (bits_of (G.tag_width c) t ++ x) ++ written (lined G) g r) (written_plant one p b done ∙ append-nil (write G (G.row c t) (bare p)))
+      ap (λ (x : Bits). (bits_of (G.tag_width c) t ++ x) ++ written (lined G) g r) (written_plant {f = G.row c t} one p b done ∙ append-nil (write G (G.row c t) (bare p)))
 
 -- ---- The run of a type
 

@@ -12,6 +12,7 @@ ghost use Rattle.std.specs.Prelude.{◌<◌, ◌≤◌, length};
 
 use crate::record::Rooms;
 use lines::{line, room};
+use std::fs::File;
 
 // A record's line, by the first part of each buffer.
 fn lent(
@@ -42,18 +43,18 @@ fn lent(
 }
 
 // Whether there is room for a record and its key is there: it then begins its buffer.
-fn loaded(fd: i32, rooms: Rooms, key: &mut [u8; 262146]) -> bool
+fn loaded(file: &mut File, rooms: Rooms, key: &mut [u8; 262146]) -> bool
     requires { rooms.key ≤ 262146 }
 {
     if !rooms.fit {
         return false;
     }
-    lines::record::load(fd, key, rooms.key)
+    lines::record::load(file, key, rooms.key)
 }
 
 // A record after its head: its key is read, and its line goes to the buffer.
 fn shown(
-    fd: i32,
+    file: &mut File,
     head: &[u8; 21],
     out: &mut [u8; 65536],
     at: usize,
@@ -67,7 +68,7 @@ fn shown(
     ensures { result ≤ 65536 }
 {
     let rooms = record::lent_by(head);
-    if !loaded(fd, rooms, key) {
+    if !loaded(file, rooms, key) {
         return line::cut(out, at);
     }
     let end = lent(out, at, head[0], rooms, key, nodes, names, text, again);
@@ -76,7 +77,7 @@ fn shown(
 
 // The next record. After the last, and after one that is cut, the place given back is the buffer's length.
 fn turn(
-    fd: i32,
+    file: &mut File,
     out: &mut [u8; 65536],
     at: usize,
     key: &mut [u8; 262146],
@@ -89,16 +90,16 @@ fn turn(
     ensures { result ≤ 65536 }
 {
     let mut head = [0u8; 21];
-    let got = io::read_full(fd, &mut head);
+    let got = lines::record::filled(file, &mut head);
     if got < 21 {
         return lines::record::stopped(out, at, got);
     }
-    shown(fd, &head, out, at, key, nodes, names, text, again)
+    shown(file, &head, out, at, key, nodes, names, text, again)
 }
 
 // The records of a file, at most a thousand million.
 fn records(
-    fd: i32,
+    file: &mut File,
     out: &mut [u8; 65536],
     key: &mut [u8; 262146],
     nodes: &mut [u64; 838860],
@@ -109,7 +110,7 @@ fn records(
     let mut at: usize = 0;
     let mut left: usize = 1_000_000_000;
     while 0 < left {
-        at = turn(fd, out, at, key, nodes, names, text, again);
+        at = turn(file, out, at, key, nodes, names, text, again);
         if 65536 <= at {
             return;
         }
@@ -118,7 +119,7 @@ fn records(
     line::flush(out, at);
 }
 
-fn run(fd: i32) {
+fn run(file: &mut File) {
     let mut out = io::large_buffer();
     let mut key = room::key_room();
     let mut nodes = room::node_room();
@@ -126,15 +127,12 @@ fn run(fd: i32) {
     let mut text = room::letter_room();
     let mut again = room::key_room();
     records(
-        fd, &mut out, &mut key, &mut nodes, &mut names, &mut text, &mut again,
+        file, &mut out, &mut key, &mut nodes, &mut names, &mut text, &mut again,
     );
 }
 
-fn main() {
-    let fd = lines::record::opened();
-    if fd < 0 {
-        return;
+fn main(rt: HostRuntime) {
+    if let Some(mut file) = lines::record::opened(&rt) {
+        run(&mut file);
     }
-    run(fd);
-    libc::close(fd);
 }

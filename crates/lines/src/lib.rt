@@ -1,6 +1,8 @@
-// What the programs share: lines gathered in a buffer, the records of a file, room for the largest, whole buffers summed up.
+// What the programs share: what they are given, lines gathered in a buffer, the records of a file, room for the largest, whole
+// buffers summed up.
 #![tactic(auto)]
 
+pub mod given;
 pub mod line;
 pub mod record;
 pub mod room;

@@ -1,8 +1,13 @@
-// The records of a file: the file itself, numbers of four and eight bytes, lowest first, and how a run ends.
-ghost use Rattle.std.specs.Prelude.{◌≡◌, ◌+◌, ◌*◌, ◌^◌, ◌<◌, ◌≤◌, length};
+// The records of a file: their bytes, numbers of four and eight bytes, lowest first, and how a run ends.
+ghost use Rattle.std.specs.Prelude.{◌≡◌, ◌+◌, ◌*◌, ◌^◌, ◌<◌, ◌≤◌, length, take, IsTrue};
 ghost use Rattle.io.specs.Counts.{IsPrefixLen};
+ghost use Rattle.std.specs.Io.KnownBytes.{Consumes};
 
+use crate::given::{complain, file};
 use crate::line::{cut, flush};
+use std::env::FillError;
+use std::io::Read;
+use std::rt::{Env, Files};
 
 // A byte as a number.
 fn wide(b: u8) -> usize
@@ -40,27 +45,45 @@ pub fn fill(bytes: &[u8], words: &mut [u64], n: usize)
     }
 }
 
-// Whether the next n bytes of a file are there: they then begin the buffer.
-pub fn load(fd: i32, bytes: &mut [u8], n: usize) -> bool
-    requires { n ≤ length bytes.old }
-    ensures { IsPrefixLen n bytes.new }
+// Fills a buffer from a reader, and gives back how many bytes it put there: fewer where the reader ends or fails.
+pub fn filled<R: Read>(from: &mut R, bytes: &mut [u8]) -> usize
+    ensures in_bounds { IsPrefixLen result bytes.new }
+    ensures read { Consumes (R.remaining from.old) (R.remaining from.new) (take result bytes.new) }
 {
-    io::read_full(fd, &mut bytes[..n]) == n
+    let mut done = 0;
+    while done < bytes.len() {
+        match from.read(&mut bytes[done..]) {
+            Ok(0) => return done,
+            Ok(n) => done += n,
+            Err(_) => return done,
+        }
+    }
+    done
 }
 
-// The file that the first argument names, open to be read; below 0 where there is none, after a line that says so.
-pub fn opened() -> i32 {
+// Whether the next n bytes of a reader are there: they then begin the buffer.
+pub fn load<R: Read>(from: &mut R, bytes: &mut [u8], n: usize) -> bool
+    requires { n ≤ length bytes.old }
+    ensures in_bounds { IsPrefixLen n bytes.new }
+    ensures read { IsTrue result → Consumes (R.remaining from.old) (R.remaining from.new) (take n bytes.new) }
+{
+    filled(from, &mut bytes[..n]) == n
+}
+
+// The file that the first argument names, open to be read; none where it cannot be, after a line that says so.
+pub fn opened<R: Env + Files>(rt: &R) -> Option<R::File> {
     let mut path = io::buffer();
-    let k = os::arg(1, &mut path);
-    if os::errno() != 0 {
-        os::fail(b"path");
-        return -1;
+    match rt.arg(1, &mut path) {
+        Ok(k) => file(rt, &path[..k]),
+        Err(FillError::NotPresent) => {
+            complain(b"path", b"Invalid argument");
+            None
+        }
+        Err(FillError::TooLong) => {
+            complain(b"path", b"File name too long");
+            None
+        }
     }
-    let fd = os::open_read(&path[..k]);
-    if fd < 0 {
-        os::fail(&path[..k]);
-    }
-    fd
 }
 
 // A number, or the most there is room for.

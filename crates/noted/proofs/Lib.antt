@@ -1,3 +1,2 @@
 pub mod StructLaws
-pub mod Again
 pub mod Theorems

@@ -56,7 +56,7 @@ use words::kind::Kind;
 
 // Type: a function type where one starts, else a union, which `extends` on its line makes a conditional where that is allowed;
 // 5 where no rule may open any more.
-#[cycle(child_elem_extends_function_index_infer_inter_mapped_memb_named_object_operator_opt_param_params_parens_plist_postfix_pred_primary_ret_sign_suffix_targs_template_tparam_tparams_tuple_ty_union)]
+#[cycle(ring)]
 pub fn ty(
     text: &[u8],
     words: &[u64],
@@ -107,7 +107,7 @@ pub fn ty(
 }
 
 // Type: at the `extends` of a conditional; what is extended is read with conditionals off, both arms with them on.
-#[cycle(child_elem_extends_function_index_infer_inter_mapped_memb_named_object_operator_opt_param_params_parens_plist_postfix_pred_primary_ret_sign_suffix_targs_template_tparam_tparams_tuple_ty_union)]
+#[cycle(ring)]
 fn extends(
     text: &[u8],
     words: &[u64],
@@ -185,7 +185,7 @@ fn extends(
 }
 
 // A type that is one child more.
-#[cycle(child_elem_extends_function_index_infer_inter_mapped_memb_named_object_operator_opt_param_params_parens_plist_postfix_pred_primary_ret_sign_suffix_targs_template_tparam_tparams_tuple_ty_union)]
+#[cycle(ring)]
 fn child(
     text: &[u8],
     words: &[u64],
@@ -218,7 +218,7 @@ fn child(
 }
 
 // An optional type after a mark, which is one child more where it stands.
-#[cycle(child_elem_extends_function_index_infer_inter_mapped_memb_named_object_operator_opt_param_params_parens_plist_postfix_pred_primary_ret_sign_suffix_targs_template_tparam_tparams_tuple_ty_union)]
+#[cycle(ring)]
 fn opt(
     text: &[u8],
     words: &[u64],
@@ -258,7 +258,7 @@ fn opt(
 }
 
 // Function: type parameters are handed the flag, the others are read with conditionals on.
-#[cycle(child_elem_extends_function_index_infer_inter_mapped_memb_named_object_operator_opt_param_params_parens_plist_postfix_pred_primary_ret_sign_suffix_targs_template_tparam_tparams_tuple_ty_union)]
+#[cycle(ring)]
 fn function(
     text: &[u8],
     words: &[u64],
@@ -307,7 +307,7 @@ fn function(
 }
 
 // Type parameters, or none where no `<` stands; diagnostic 1 if nothing is between.
-#[cycle(child_elem_extends_function_index_infer_inter_mapped_memb_named_object_operator_opt_param_params_parens_plist_postfix_pred_primary_ret_sign_suffix_targs_template_tparam_tparams_tuple_ty_union)]
+#[cycle(ring)]
 fn tparams(
     text: &[u8],
     words: &[u64],
@@ -354,7 +354,7 @@ fn tparams(
 }
 
 // Type parameters: a name, its constraint and its default, if they stand there.
-#[cycle(child_elem_extends_function_index_infer_inter_mapped_memb_named_object_operator_opt_param_params_parens_plist_postfix_pred_primary_ret_sign_suffix_targs_template_tparam_tparams_tuple_ty_union)]
+#[cycle(ring)]
 fn tparam(
     text: &[u8],
     words: &[u64],
@@ -421,7 +421,7 @@ fn tparam(
 }
 
 // Function: the whole list of parameters in its brackets; the nodes and names of a constructor's `this` are given back.
-#[cycle(child_elem_extends_function_index_infer_inter_mapped_memb_named_object_operator_opt_param_params_parens_plist_postfix_pred_primary_ret_sign_suffix_targs_template_tparam_tparams_tuple_ty_union)]
+#[cycle(ring)]
 fn params(
     text: &[u8],
     words: &[u64],
@@ -475,7 +475,7 @@ fn params(
 }
 
 // Function: the parameters from here to the `)`; no modifier words, and no `this` any more.
-#[cycle(child_elem_extends_function_index_infer_inter_mapped_memb_named_object_operator_opt_param_params_parens_plist_postfix_pred_primary_ret_sign_suffix_targs_template_tparam_tparams_tuple_ty_union)]
+#[cycle(ring)]
 fn plist(
     text: &[u8],
     words: &[u64],
@@ -518,7 +518,7 @@ fn plist(
 }
 
 // Function: one parameter, of which only its name must be there.
-#[cycle(child_elem_extends_function_index_infer_inter_mapped_memb_named_object_operator_opt_param_params_parens_plist_postfix_pred_primary_ret_sign_suffix_targs_template_tparam_tparams_tuple_ty_union)]
+#[cycle(ring)]
 fn param(
     text: &[u8],
     words: &[u64],
@@ -568,7 +568,7 @@ fn param(
 }
 
 // Function: the return type, which may be a predicate; conditionals are on.
-#[cycle(child_elem_extends_function_index_infer_inter_mapped_memb_named_object_operator_opt_param_params_parens_plist_postfix_pred_primary_ret_sign_suffix_targs_template_tparam_tparams_tuple_ty_union)]
+#[cycle(ring)]
 fn ret(
     text: &[u8],
     words: &[u64],
@@ -592,7 +592,7 @@ fn ret(
 }
 
 // A predicate about a name or this, with or without asserts before it; its type follows `is`.
-#[cycle(child_elem_extends_function_index_infer_inter_mapped_memb_named_object_operator_opt_param_params_parens_plist_postfix_pred_primary_ret_sign_suffix_targs_template_tparam_tparams_tuple_ty_union)]
+#[cycle(ring)]
 fn pred(
     text: &[u8],
     words: &[u64],
@@ -639,7 +639,7 @@ fn pred(
 }
 
 // Union: intersections with `|` between.
-#[cycle(child_elem_extends_function_index_infer_inter_mapped_memb_named_object_operator_opt_param_params_parens_plist_postfix_pred_primary_ret_sign_suffix_targs_template_tparam_tparams_tuple_ty_union)]
+#[cycle(ring)]
 fn union(
     text: &[u8],
     words: &[u64],
@@ -679,7 +679,7 @@ fn union(
 }
 
 // Intersection: operators with `&` between; a token that is a whole type, at once.
-#[cycle(child_elem_extends_function_index_infer_inter_mapped_memb_named_object_operator_opt_param_params_parens_plist_postfix_pred_primary_ret_sign_suffix_targs_template_tparam_tparams_tuple_ty_union)]
+#[cycle(ring)]
 fn inter(
     text: &[u8],
     words: &[u64],
@@ -732,7 +732,7 @@ fn inter(
 }
 
 // Operator: prefixes, and behind the last an infer or a postfix type, which is read with conditionals on.
-#[cycle(child_elem_extends_function_index_infer_inter_mapped_memb_named_object_operator_opt_param_params_parens_plist_postfix_pred_primary_ret_sign_suffix_targs_template_tparam_tparams_tuple_ty_union)]
+#[cycle(ring)]
 fn operator(
     text: &[u8],
     words: &[u64],
@@ -765,7 +765,7 @@ fn operator(
 }
 
 // Infer: the name that is bound, and its constraint, which is tried with conditionals off.
-#[cycle(child_elem_extends_function_index_infer_inter_mapped_memb_named_object_operator_opt_param_params_parens_plist_postfix_pred_primary_ret_sign_suffix_targs_template_tparam_tparams_tuple_ty_union)]
+#[cycle(ring)]
 fn infer(
     text: &[u8],
     words: &[u64],
@@ -814,7 +814,7 @@ fn infer(
 }
 
 // Postfix: a primary type and as many marks as follow on the line.
-#[cycle(child_elem_extends_function_index_infer_inter_mapped_memb_named_object_operator_opt_param_params_parens_plist_postfix_pred_primary_ret_sign_suffix_targs_template_tparam_tparams_tuple_ty_union)]
+#[cycle(ring)]
 fn postfix(
     text: &[u8],
     words: &[u64],
@@ -849,7 +849,7 @@ fn postfix(
 }
 
 // Postfix: the mark here makes a node of what was read; behind a `[`, an index where a type can start, else an array.
-#[cycle(child_elem_extends_function_index_infer_inter_mapped_memb_named_object_operator_opt_param_params_parens_plist_postfix_pred_primary_ret_sign_suffix_targs_template_tparam_tparams_tuple_ty_union)]
+#[cycle(ring)]
 fn suffix(
     text: &[u8],
     words: &[u64],
@@ -903,7 +903,7 @@ fn suffix(
 }
 
 // Primary: by what begins here.
-#[cycle(child_elem_extends_function_index_infer_inter_mapped_memb_named_object_operator_opt_param_params_parens_plist_postfix_pred_primary_ret_sign_suffix_targs_template_tparam_tparams_tuple_ty_union)]
+#[cycle(ring)]
 fn primary(
     text: &[u8],
     words: &[u64],
@@ -936,7 +936,7 @@ fn primary(
 }
 
 // Primary: a reference, typeof or import, and the arguments of it.
-#[cycle(child_elem_extends_function_index_infer_inter_mapped_memb_named_object_operator_opt_param_params_parens_plist_postfix_pred_primary_ret_sign_suffix_targs_template_tparam_tparams_tuple_ty_union)]
+#[cycle(ring)]
 fn named(
     text: &[u8],
     words: &[u64],
@@ -964,7 +964,7 @@ fn named(
 }
 
 // Arguments, or none where no list opens; diagnostic 2 if nothing is in it.
-#[cycle(child_elem_extends_function_index_infer_inter_mapped_memb_named_object_operator_opt_param_params_parens_plist_postfix_pred_primary_ret_sign_suffix_targs_template_tparam_tparams_tuple_ty_union)]
+#[cycle(ring)]
 fn targs(
     text: &[u8],
     words: &[u64],
@@ -1003,7 +1003,7 @@ fn targs(
 }
 
 // Primary: brackets, which are a node of their own if asked for.
-#[cycle(child_elem_extends_function_index_infer_inter_mapped_memb_named_object_operator_opt_param_params_parens_plist_postfix_pred_primary_ret_sign_suffix_targs_template_tparam_tparams_tuple_ty_union)]
+#[cycle(ring)]
 fn parens(
     text: &[u8],
     words: &[u64],
@@ -1035,7 +1035,7 @@ fn parens(
 }
 
 // Mapped: the name type, the type and the `;` are optional.
-#[cycle(child_elem_extends_function_index_infer_inter_mapped_memb_named_object_operator_opt_param_params_parens_plist_postfix_pred_primary_ret_sign_suffix_targs_template_tparam_tparams_tuple_ty_union)]
+#[cycle(ring)]
 fn mapped(
     text: &[u8],
     words: &[u64],
@@ -1112,7 +1112,7 @@ fn mapped(
 }
 
 // Object: its members in curly brackets.
-#[cycle(child_elem_extends_function_index_infer_inter_mapped_memb_named_object_operator_opt_param_params_parens_plist_postfix_pred_primary_ret_sign_suffix_targs_template_tparam_tparams_tuple_ty_union)]
+#[cycle(ring)]
 fn object(
     text: &[u8],
     words: &[u64],
@@ -1157,7 +1157,7 @@ fn object(
 }
 
 // Member: a signature, an index signature, or a property with its optional type.
-#[cycle(child_elem_extends_function_index_infer_inter_mapped_memb_named_object_operator_opt_param_params_parens_plist_postfix_pred_primary_ret_sign_suffix_targs_template_tparam_tparams_tuple_ty_union)]
+#[cycle(ring)]
 fn memb(
     text: &[u8],
     words: &[u64],
@@ -1207,7 +1207,7 @@ fn memb(
 }
 
 // Signature: type parameters, parameters and the return type of a member that begins at b; diagnostic 3 stands before that.
-#[cycle(child_elem_extends_function_index_infer_inter_mapped_memb_named_object_operator_opt_param_params_parens_plist_postfix_pred_primary_ret_sign_suffix_targs_template_tparam_tparams_tuple_ty_union)]
+#[cycle(ring)]
 fn sign(
     text: &[u8],
     words: &[u64],
@@ -1261,7 +1261,7 @@ fn sign(
 }
 
 // Index signature: its parameters, of which the first is kept and what others took is given back, and its type, in a member that begins at b.
-#[cycle(child_elem_extends_function_index_infer_inter_mapped_memb_named_object_operator_opt_param_params_parens_plist_postfix_pred_primary_ret_sign_suffix_targs_template_tparam_tparams_tuple_ty_union)]
+#[cycle(ring)]
 fn index(
     text: &[u8],
     words: &[u64],
@@ -1320,7 +1320,7 @@ fn index(
 }
 
 // Tuple: its elements in square brackets.
-#[cycle(child_elem_extends_function_index_infer_inter_mapped_memb_named_object_operator_opt_param_params_parens_plist_postfix_pred_primary_ret_sign_suffix_targs_template_tparam_tparams_tuple_ty_union)]
+#[cycle(ring)]
 fn tuple(
     text: &[u8],
     words: &[u64],
@@ -1367,7 +1367,7 @@ fn tuple(
 }
 
 // Tuple element: dots, a label and dots again may stand before its type.
-#[cycle(child_elem_extends_function_index_infer_inter_mapped_memb_named_object_operator_opt_param_params_parens_plist_postfix_pred_primary_ret_sign_suffix_targs_template_tparam_tparams_tuple_ty_union)]
+#[cycle(ring)]
 fn elem(
     text: &[u8],
     words: &[u64],
@@ -1392,7 +1392,7 @@ fn elem(
 }
 
 // Template: one type behind the head and each middle, until a tail follows.
-#[cycle(child_elem_extends_function_index_infer_inter_mapped_memb_named_object_operator_opt_param_params_parens_plist_postfix_pred_primary_ret_sign_suffix_targs_template_tparam_tparams_tuple_ty_union)]
+#[cycle(ring)]
 fn template(
     text: &[u8],
     words: &[u64],

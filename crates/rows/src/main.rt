@@ -18,6 +18,7 @@ ghost use Rattle.std.specs.Prelude.{◌≡◌, ◌*◌, ◌<◌, ◌≤◌, leng
 use crate::record::Asked;
 use lines::sum::{dirty_bytes, dirty_words};
 use lines::{line, room};
+use std::fs::File;
 use typekey::reading::read;
 use typekey::taking::take_back;
 
@@ -326,7 +327,7 @@ fn called(
 
 // Whether a record's text and words are there: they then begin their buffers.
 fn loaded_text(
-    fd: i32,
+    file: &mut File,
     a: Asked,
     text: &mut [u8; 65536],
     bytes: &mut [u8; 262146],
@@ -334,10 +335,10 @@ fn loaded_text(
 ) -> bool
     requires { (a.text ≤ 65536) × (a.words ≤ 16385) }
 {
-    if !lines::record::load(fd, text, a.text) {
+    if !lines::record::load(file, text, a.text) {
         return false;
     }
-    if !lines::record::load(fd, bytes, 8 * a.words) {
+    if !lines::record::load(file, bytes, 8 * a.words) {
         return false;
     }
     lines::record::fill(bytes, words, a.words);
@@ -346,7 +347,7 @@ fn loaded_text(
 
 // Whether what a record holds after its head is there.
 fn loaded(
-    fd: i32,
+    file: &mut File,
     a: Asked,
     text: &mut [u8; 65536],
     bytes: &mut [u8; 262146],
@@ -356,9 +357,9 @@ fn loaded(
     requires { (a.text ≤ 65536) × (a.words ≤ 16385) × (a.key ≤ 262146) }
 {
     if a.op < 4 {
-        return loaded_text(fd, a, text, bytes, words);
+        return loaded_text(file, a, text, bytes, words);
     }
-    lines::record::load(fd, key, a.key)
+    lines::record::load(file, key, a.key)
 }
 
 // The end of a run whose last record is cut.
@@ -391,7 +392,7 @@ fn stopped(out: &mut [u8; 65536], at: usize, got: usize) -> After
 
 // A record after its head. The bytes of its words are read where the key is written again later.
 fn taken(
-    fd: i32,
+    file: &mut File,
     out: &mut [u8; 65536],
     at: usize,
     run: usize,
@@ -409,7 +410,7 @@ fn taken(
     ensures { (result.at < 65536) × (result.different ≤ 1) }
 {
     let a = record::asked_by(head);
-    if !loaded(fd, a, text, again, words, key) {
+    if !loaded(file, a, text, again, words, key) {
         return cut(out, at);
     }
     called(
@@ -419,7 +420,7 @@ fn taken(
 
 // The next record, if there is one.
 fn turn(
-    fd: i32,
+    file: &mut File,
     out: &mut [u8; 65536],
     at: usize,
     run: usize,
@@ -436,12 +437,12 @@ fn turn(
     ensures { (result.at < 65536) × (result.different ≤ 1) }
 {
     let mut head = [0u8; 81];
-    let got = io::read_full(fd, &mut head);
+    let got = lines::record::filled(file, &mut head);
     if got < 81 {
         return stopped(out, at, got);
     }
     taken(
-        fd, out, at, run, &head, text, words, nodes, names, notes, key, letters, again,
+        file, out, at, run, &head, text, words, nodes, names, notes, key, letters, again,
     )
 }
 
@@ -458,7 +459,7 @@ fn ended(out: &mut [u8; 65536], t: Total)
 
 // The records of a file, at most a thousand million.
 fn records(
-    fd: i32,
+    file: &mut File,
     out: &mut [u8; 65536],
     text: &mut [u8; 65536],
     words: &mut [u64; 16385],
@@ -476,7 +477,7 @@ fn records(
     let mut different: usize = 0;
     while run < 1_000_000_000 {
         let t = turn(
-            fd, out, at, run, text, words, nodes, names, notes, key, letters, again,
+            file, out, at, run, text, words, nodes, names, notes, key, letters, again,
         );
         at = t.at;
         if !t.more {
@@ -489,7 +490,7 @@ fn records(
 }
 
 // The records of an open file, with all buffers.
-fn run(fd: i32) {
+fn run(file: &mut File) {
     let mut out = io::large_buffer();
     let mut text = io::large_buffer();
     let mut words = room::word_room();
@@ -500,7 +501,7 @@ fn run(fd: i32) {
     let mut letters = room::letter_room();
     let mut again = room::key_room();
     let t = records(
-        fd,
+        file,
         &mut out,
         &mut text,
         &mut words,
@@ -515,11 +516,8 @@ fn run(fd: i32) {
 }
 
 // The file is the first argument.
-fn main() {
-    let fd = lines::record::opened();
-    if fd < 0 {
-        return;
+fn main(rt: HostRuntime) {
+    if let Some(mut file) = lines::record::opened(&rt) {
+        run(&mut file);
     }
-    run(fd);
-    libc::close(fd);
 }

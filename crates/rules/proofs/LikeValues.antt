@@ -220,7 +220,7 @@ latest_from_lem o p [] (y ∷ m) a e = clash (cc)
 latest_from_lem o p (x ∷ l) [] a e = clash (cc)
 latest_from_lem o p (x ∷ l) (y ∷ m) a e =
     let b : Pair itself = record { one = x; other = y; same = cc } in
-    latest_from_lem _ _ l m (test_like (λ r t. bare (maybe r) ≡ bare (maybe t)) (same_optional b) (λ _. cc b.same) λ _. a) (cc)
+    latest_from_lem (test (is_optional_element x) (λ _. present x) (λ _. o)) (test (is_optional_element y) (λ _. present y) (λ _. p)) l m (test_like (λ r t. bare (maybe r) ≡ bare (maybe t)) (same_optional b) (λ _. cc b.same) λ _. a) (cc)
 
 pub same_latest : (l : Pair listed) → bare (maybe (latest_optional l.one)) ≡ bare (maybe (latest_optional l.other))
 same_latest l =

@@ -90,4 +90,8 @@ pub spans_node : {class lo hi : ℕ} (p : Placed) → Is (child class) p → Spa
 spans_node {class} {lo} {hi} p i x = by p i.fits x
   where
     by : (p : Placed) → Fits node_table (child class) (bare p) → Spans lo hi p → (lo ≤ first_of p) × (first_of p < end_of p) × (end_of p ≤ hi)
+    by void f x = elim f [ ]
+    by (said _ _) f x = elim f [ ]
+    by (pick _ _) f x = elim f [ ]
+    by (join _ _) f x = elim f [ ]
     by (tree t first end p) (fits_child a b) x = (x.in_order.0, x.in_order.1, x.up_to)

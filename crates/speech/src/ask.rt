@@ -2,7 +2,10 @@
 ghost use Rattle.std.specs.Prelude.{◌<◌, ◌≤◌, length};
 
 use crate::put::{byte_at, entry_of, numbered, pick};
+use lines::given::argument;
 use lines::line::{bytes, put_out};
+use std::env::FillError;
+use std::rt::Env;
 
 // What is printed.
 #[derive(Clone, Copy)]
@@ -294,15 +297,14 @@ fn further(a: Asked, i: usize, word: &[u8]) -> Asked {
 }
 
 // One argument further, unless something is wrong already.
-fn step(a: Asked, i: usize, buffer: &mut [u8]) -> Asked {
+fn step<R: Env>(rt: &R, a: Asked, i: usize, buffer: &mut [u8]) -> Asked {
     if a.wrong != 0 {
         return a;
     }
-    let n = os::arg(i, buffer);
-    if os::errno() != 0 {
-        return amiss(a, Wrong::LONG, i);
+    match rt.arg(i, buffer) {
+        Ok(n) => further(a, i, &buffer[..n]),
+        Err(_) => amiss(a, Wrong::LONG, i),
     }
-    further(a, i, &buffer[..n])
 }
 
 // What is still missing when all arguments are there.
@@ -319,27 +321,39 @@ fn missing(a: Asked) -> Asked {
     a
 }
 
+// How many arguments there are, the program's name among them.
+fn argument_count<R: Env>(rt: &R) -> usize {
+    let mut n: usize = 0;
+    while n < usize::MAX {
+        match rt.arg(n, &mut []) {
+            Err(FillError::NotPresent) => return n,
+            _ => n += 1,
+        }
+    }
+    n
+}
+
 // All arguments.
-pub fn all_arguments(buffer: &mut [u8]) -> Asked {
+pub fn all_arguments<R: Env>(rt: &R, buffer: &mut [u8]) -> Asked {
     let mut a = nothing();
     let mut i: usize = 1;
-    let count = os::arg_count();
+    let count = argument_count(rt);
     while i < count {
-        a = step(a, i, buffer);
+        a = step(rt, a, i, buffer);
         i += 1;
     }
     missing(a)
 }
 
 // The argument that is wrong, after a space.
-fn blamed(out: &mut [u8; 65536], at: usize, i: usize, buffer: &mut [u8]) -> usize
+fn blamed<R: Env>(rt: &R, out: &mut [u8; 65536], at: usize, i: usize, buffer: &mut [u8]) -> usize
     requires { at < 65536 }
     ensures { result < 65536 }
 {
     if i == 0 {
         return at;
     }
-    let n = os::arg(i, buffer);
+    let n = argument(rt, i, buffer);
     let p = bytes(out, at, b" ");
     crate::put::copy(
         out,
@@ -352,7 +366,7 @@ fn blamed(out: &mut [u8; 65536], at: usize, i: usize, buffer: &mut [u8]) -> usiz
 }
 
 // One line on what was wrong.
-pub fn complain(out: &mut [u8; 65536], a: Asked, buffer: &mut [u8]) {
+pub fn complain<R: Env>(rt: &R, out: &mut [u8; 65536], a: Asked, buffer: &mut [u8]) {
     let p = bytes(out, 0, b"typekey: ");
     let q = pick(
         out,
@@ -360,7 +374,7 @@ pub fn complain(out: &mut [u8; 65536], a: Asked, buffer: &mut [u8]) {
         b"|there is no option|more than one thing to read; the second is|a value is missing after|not a number of at most nine digits:|no type was given|an argument is too long|",
         a.wrong,
     );
-    let r = blamed(out, q, a.bad, buffer);
+    let r = blamed(rt, out, q, a.bad, buffer);
     let s = bytes(out, r, b"; typekey --help says how it is used\n");
     put_out(2, out, s);
 }

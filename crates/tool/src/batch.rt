@@ -1,10 +1,11 @@
-// A type a line on standard input, each read and printed.
+// A type a line of a reader, each read and printed.
 ghost use Rattle.std.specs.Prelude.{◌<◌};
 
 use crate::show;
 use intake::feed::{Feed, footed, headed, line, progress, trimmed};
 use speech::ask::{Job, for_line};
 use speech::put::part;
+use std::io::Read;
 
 // What a line came to.
 fn answered(
@@ -57,7 +58,8 @@ struct After {
 }
 
 // The next line, of a number, and what it came to, with the input at hand.
-fn turn(
+fn turn<R: Read>(
+    from: &mut R,
     out: &mut [u8; 65536],
     at: usize,
     input: &mut [u8; 65536],
@@ -74,7 +76,7 @@ fn turn(
     requires { at < 65536 }
     ensures { result.at < 65536 }
 {
-    let g = line(out, at, input, text, feed);
+    let g = line(from, out, at, input, text, feed);
     let f = g.feed;
     if !g.is {
         return After {
@@ -105,7 +107,8 @@ fn turn(
 }
 
 // All lines, at most a million million.
-pub fn lines_of(
+pub fn lines_of<R: Read>(
+    from: &mut R,
     out: &mut [u8; 65536],
     input: &mut [u8; 65536],
     text: &mut [u8; 131072],
@@ -125,7 +128,7 @@ pub fn lines_of(
     while line < 1_000_000_000_000 {
         let feed = Feed { at: next, end };
         let t = turn(
-            out, at, input, feed, text, words, nodes, names, visits, key, job, line,
+            from, out, at, input, feed, text, words, nodes, names, visits, key, job, line,
         );
         at = t.at;
         if !t.more {

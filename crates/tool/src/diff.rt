@@ -4,6 +4,7 @@ ghost use Rattle.std.specs.Prelude.{◌<◌, ◌≤◌, length};
 use crate::show::{extent, key_bytes, node_words, stop};
 use intake::cut::cut;
 use intake::room::{key_room, list_room, name_room, note_room};
+use lines::given::argument;
 use lines::room::letter_room;
 use lines::sum::root;
 use prints::differing::HALF;
@@ -12,6 +13,7 @@ use prints::{differing, reading};
 use speech::ask::{Asked, From, Job, on_side};
 use speech::hex;
 use speech::put::{least, part, part_words};
+use std::rt::Env;
 use typekey::differing::{Differing, differ};
 use typekey::reading::{Counts, Reading, read};
 use typekey::taking::{Taking, take_back};
@@ -138,7 +140,8 @@ fn hexed(at: usize, text: &[u8], key: &mut [u8; 262160]) -> Made
 }
 
 // The key that an argument gives.
-fn keyed(
+fn keyed<R: Env>(
+    rt: &R,
     out: &mut [u8; 65536],
     at: usize,
     text: &mut [u8],
@@ -147,13 +150,13 @@ fn keyed(
     names: &mut [u64; 21846],
     key: &mut [u8; 262160],
     job: Job,
-    argument: usize,
+    i: usize,
     is_type: bool,
 ) -> Made
     requires { at < 65536 }
     ensures { result.at < 65536 }
 {
-    let n = os::arg(argument, text);
+    let n = argument(rt, i, text);
     if is_type {
         return typed(out, at, &text[..n], words, nodes, names, key, job);
     }
@@ -357,7 +360,8 @@ fn both(
 }
 
 // Where the two things that are asked for differ.
-pub fn told(
+pub fn told<R: Env>(
+    rt: &R,
     out: &mut [u8; 65536],
     text: &mut [u8; 131072],
     words: &mut [u64; 16385],
@@ -373,6 +377,7 @@ pub fn told(
     let mut right = key_room();
     let is_type = a.from == From::TYPES;
     let l = keyed(
+        rt,
         out,
         0,
         text,
@@ -388,6 +393,7 @@ pub fn told(
         return l.at;
     }
     let r = keyed(
+        rt,
         out,
         l.at,
         text,

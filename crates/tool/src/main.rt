@@ -15,6 +15,7 @@ use speech::ask;
 use speech::ask::{Asked, From, job_of};
 use speech::help::{help, version};
 use speech::put::part;
+use std::io::Input;
 
 // The type that begins a text.
 fn typed(
@@ -66,6 +67,7 @@ fn told(
 
 // One type or key.
 fn one(
+    rt: &HostRuntime,
     out: &mut [u8; 65536],
     text: &mut [u8; 131072],
     words: &mut [u64; 16385],
@@ -77,7 +79,7 @@ fn one(
 ) -> usize
     ensures { result < 65536 }
 {
-    let f = sought(a, text);
+    let f = sought(rt, a, text);
     if !f.is {
         return 0;
     }
@@ -86,6 +88,7 @@ fn one(
 
 // What is asked for, with all buffers lent.
 fn given(
+    rt: &HostRuntime,
     out: &mut [u8; 65536],
     text: &mut [u8; 131072],
     words: &mut [u64; 16385],
@@ -99,7 +102,9 @@ fn given(
 {
     if a.from == From::LINES {
         let mut input = io::large_buffer();
+        let mut from = rt.reader();
         return batch::lines_of(
+            &mut from,
             out,
             &mut input,
             text,
@@ -112,13 +117,24 @@ fn given(
         );
     }
     if From::KEYS <= a.from {
-        return diff::told(out, text, words, nodes, names, visits, key, a, job_of(a));
+        return diff::told(
+            rt,
+            out,
+            text,
+            words,
+            nodes,
+            names,
+            visits,
+            key,
+            a,
+            job_of(a),
+        );
     }
-    one(out, text, words, nodes, names, visits, key, a)
+    one(rt, out, text, words, nodes, names, visits, key, a)
 }
 
 // The same with buffers.
-fn run(out: &mut [u8; 65536], text: &mut [u8; 131072], a: Asked) -> usize
+fn run(rt: &HostRuntime, out: &mut [u8; 65536], text: &mut [u8; 131072], a: Asked) -> usize
     ensures { result < 65536 }
 {
     let mut words = lines::room::word_room();
@@ -127,6 +143,7 @@ fn run(out: &mut [u8; 65536], text: &mut [u8; 131072], a: Asked) -> usize
     let mut visits = room::visit_room();
     let mut key = room::key_room();
     given(
+        rt,
         out,
         text,
         &mut words,
@@ -138,7 +155,7 @@ fn run(out: &mut [u8; 65536], text: &mut [u8; 131072], a: Asked) -> usize
     )
 }
 
-fn answered(out: &mut [u8; 65536], text: &mut [u8; 131072], a: Asked) -> usize
+fn answered(rt: &HostRuntime, out: &mut [u8; 65536], text: &mut [u8; 131072], a: Asked) -> usize
     ensures { result < 65536 }
 {
     if a.from == From::HELP {
@@ -147,17 +164,17 @@ fn answered(out: &mut [u8; 65536], text: &mut [u8; 131072], a: Asked) -> usize
     if a.from == From::VERSION {
         return version(out);
     }
-    run(out, text, a)
+    run(rt, out, text, a)
 }
 
-fn main() {
+fn main(rt: HostRuntime) {
     let mut text = lines::room::letter_room();
     let mut out = io::large_buffer();
-    let a = ask::all_arguments(&mut text);
+    let a = ask::all_arguments(&rt, &mut text);
     if a.wrong != 0 {
-        ask::complain(&mut out, a, &mut text);
+        ask::complain(&rt, &mut out, a, &mut text);
         return;
     }
-    let p = answered(&mut out, &mut text, a);
+    let p = answered(&rt, &mut out, &mut text, a);
     flush(&mut out, p);
 }

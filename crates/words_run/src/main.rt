@@ -9,6 +9,7 @@ ghost use Rattle.std.specs.Prelude.{◌≡◌, ◌<◌, ◌≤◌, length};
 ghost use Rattle.words.specs.Class.{class_words};
 
 use lines::{line, record, room};
+use std::fs::File;
 use words::kind::class_words;
 
 // The text's length and the number of words, each no more than there is room for; and whether a record has no more.
@@ -54,7 +55,7 @@ fn lent(
 
 // Whether there is room for a record's text and words and they are there: they then begin their buffers.
 fn loaded(
-    fd: i32,
+    file: &mut File,
     sizes: Sizes,
     text: &mut [u8; 65536],
     bytes: &mut [u8; 131080],
@@ -65,10 +66,10 @@ fn loaded(
     if !sizes.fit {
         return false;
     }
-    if !record::load(fd, text, sizes.text) {
+    if !record::load(file, text, sizes.text) {
         return false;
     }
-    if !record::load(fd, bytes, 8 * sizes.words) {
+    if !record::load(file, bytes, 8 * sizes.words) {
         return false;
     }
     record::fill(bytes, words, sizes.words);
@@ -77,7 +78,7 @@ fn loaded(
 
 // A record after its head: text and words are read, and its line goes to the buffer.
 fn shown(
-    fd: i32,
+    file: &mut File,
     head: &[u8; 17],
     out: &mut [u8; 65536],
     at: usize,
@@ -90,7 +91,7 @@ fn shown(
     ensures { result ≤ 65536 }
 {
     let sizes = sizes_of(head);
-    if !loaded(fd, sizes, text, bytes, words) {
+    if !loaded(file, sizes, text, bytes, words) {
         return line::cut(out, at);
     }
     let end = lent(out, at, head, text, words, sizes, classes);
@@ -99,7 +100,7 @@ fn shown(
 
 // The next record. After the last, and after one that is cut, the place given back is the buffer's length.
 fn turn(
-    fd: i32,
+    file: &mut File,
     out: &mut [u8; 65536],
     at: usize,
     text: &mut [u8; 65536],
@@ -111,16 +112,16 @@ fn turn(
     ensures { result ≤ 65536 }
 {
     let mut head = [0u8; 17];
-    let got = io::read_full(fd, &mut head);
+    let got = record::filled(file, &mut head);
     if got < 17 {
         return record::stopped(out, at, got);
     }
-    shown(fd, &head, out, at, text, bytes, words, classes)
+    shown(file, &head, out, at, text, bytes, words, classes)
 }
 
 // The records of a file, at most a thousand million.
 fn records(
-    fd: i32,
+    file: &mut File,
     out: &mut [u8; 65536],
     text: &mut [u8; 65536],
     bytes: &mut [u8; 131080],
@@ -130,7 +131,7 @@ fn records(
     let mut at: usize = 0;
     let mut left: usize = 1_000_000_000;
     while 0 < left {
-        at = turn(fd, out, at, text, bytes, words, &classes);
+        at = turn(file, out, at, text, bytes, words, &classes);
         if 65536 <= at {
             return;
         }
@@ -139,19 +140,16 @@ fn records(
     line::flush(out, at);
 }
 
-fn run(fd: i32) {
+fn run(file: &mut File) {
     let mut out = io::large_buffer();
     let mut text = io::large_buffer();
     let mut bytes = room::word_bytes();
     let mut words = room::word_room();
-    records(fd, &mut out, &mut text, &mut bytes, &mut words);
+    records(file, &mut out, &mut text, &mut bytes, &mut words);
 }
 
-fn main() {
-    let fd = record::opened();
-    if fd < 0 {
-        return;
+fn main(rt: HostRuntime) {
+    if let Some(mut file) = record::opened(&rt) {
+        run(&mut file);
     }
-    run(fd);
-    libc::close(fd);
 }

@@ -13,7 +13,7 @@ returns-then-names-q c =
 
 pub returns-then-key-n : goal.returns-then-key-n
 returns-then-key-n c =
-    λ t h. comes_none t (view c.args.q c.args.noting.now) c.no_space-then-key-n.ensures c.refuse-then-key-n.ensures (same_key_lent c.put-n.auto.1.1.1.1.0) (no_bytes h c.put-n.ensures (omega (arith, c.requires)) (omega (arith, c.if-names-q.false)) (length c.args.notes.now) (omega (arith, c.if-key-n.true, c.put-n.auto)))
+    λ t h. comes_none t (view c.args.q c.args.noting.now) c.no_space-then-key-n.ensures c.refuse-then-key-n.ensures (same_key_lent c.put-n.auto.key) (no_bytes h c.put-n.ensures (omega (arith, c.requires)) (omega (arith, c.if-names-q.false)) (length c.args.notes.now) (omega (arith, c.if-key-n.true, c.put-n.auto)))
 
 pub returns : goal.returns
 returns c =

@@ -68,8 +68,8 @@ put_part-requires c =
 
 pub shape_of-key : goal.shape_of-key
 shape_of-key c =
-    c.put_part.auto.0 ∙ c.loop-i.invariant.1.same
+    c.put_part.auto.key ∙ c.loop-i.invariant.1.same
 
 pub returns : goal.returns
 returns c =
-    across_all c.args.text.now c.args.from c.args.at c.args.skip c.args.key.now (omega arith) c.args.count c.lowest.result c.put_part.new.0 c.loop-i.invariant.1 (omega (arith, c.loop-i.invariant.0)) c.lowest.ensures c.put_part.ensures
+    across_all c.args.text.now c.args.from c.args.at c.args.skip c.args.key.now (omega arith) c.args.count c.lowest.result c.put_part.new.key c.loop-i.invariant.1 (omega (arith, c.loop-i.invariant.0)) c.lowest.ensures c.put_part.ensures

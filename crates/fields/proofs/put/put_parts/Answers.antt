@@ -19,7 +19,7 @@ put_part-requires c =
 
 pub loop-left-preserved : goal.loop-left-preserved
 loop-left-preserved c =
-    (c.put_part.auto.0 ∙ c.loop-left.invariant.0, putting_more c.first_of-size.result c.lowest.result c.put_part.new.0 c.loop-left.invariant.1 (search rules) c.lowest.ensures c.put_part.ensures)
+    (c.put_part.auto.key ∙ c.loop-left.invariant.0, putting_more c.first_of-size.result c.lowest.result c.put_part.new.key c.loop-left.invariant.1 (search rules) c.lowest.ensures c.put_part.ensures)
 
 pub returns : goal.returns
 returns c =

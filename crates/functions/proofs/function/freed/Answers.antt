@@ -5,4 +5,4 @@ use Rattle.functions.proofs.function.freed.Goals as goal
 
 pub returns-then-is_new : goal.returns-then-is_new
 returns-then-is_new c =
-    rw c.if-is_new.true (refl, (refl, refl, refl, refl, refl))
+    rw c.if-is_new.true (record { value = refl; at_value = (refl, refl, refl, refl, refl) })

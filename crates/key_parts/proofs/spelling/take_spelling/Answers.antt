@@ -60,4 +60,4 @@ overflow_add-result c =
 pub returns : goal.returns
 returns c =
     spell_done c.args.key.now c.args.w c.args.p c.args.names.now c.args.text.now c.requires.2 c.slim-count.result _ (ap₂ Read c.slim-count.ensures.0 refl ∙ sym c.in-Read.is ∙ c.field_at-taken.ensures) c.if-count-eq0.false (omega (arith, c.if-key-from.false)) (omega (arith, c.if-text-chars.false)) (omega (arith, c.if-names-named.false))
-    _ _ c.copy_bytes.ensures c.append_name.ensures c.append_name.auto.0 c.copy_bytes.auto.1.1.0
+    _ _ c.copy_bytes.ensures c.append_name.ensures c.append_name.auto.names c.copy_bytes.auto.text

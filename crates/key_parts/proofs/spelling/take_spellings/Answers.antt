@@ -16,11 +16,11 @@ take_spelling-q-requires c =
 
 pub shape_of-names-then-q-ne0 : goal.shape_of-names-then-q-ne0
 shape_of-names-then-q-ne0 c =
-    c.take_spelling-q.auto.1.0 ∙ c.loop-i.invariant.names_same
+    c.take_spelling-q.auto.names ∙ c.loop-i.invariant.names_same
 
 pub shape_of-text-then-q-ne0 : goal.shape_of-text-then-q-ne0
 shape_of-text-then-q-ne0 c =
-    c.take_spelling-q.auto.1.1.0 ∙ c.loop-i.invariant.text_same
+    c.take_spelling-q.auto.text ∙ c.loop-i.invariant.text_same
 
 pub returns-then-q-ne0 : goal.returns-then-q-ne0
 returns-then-q-ne0 c =

@@ -8,4 +8,4 @@ use Rattle.keys.proofs.store.retag.Goals as goal
 
 pub returns : goal.returns
 returns c =
-    ap₂ (λ (i v : ℕ). set c.args.nodes.now i v) (omega arith) (ap (λ (x : ℕ). c.args.tag + 64 * x) c.Above-tag.ensures.0)
+    ap₂ (λ (i v : ℕ). set c.args.nodes.now i v) (omega arith) (ap (λ (x : ℕ). c.args.tag + 64 * x) c.above_tag-others.ensures.0)

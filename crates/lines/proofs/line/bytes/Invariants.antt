@@ -1,6 +1,5 @@
 -- `line::bytes` is safe and ends: the place stays within the buffer, and what is left of the text falls. Assumes nothing.
 use Prim.Native.Nat.{◌<◌, ◌≤◌, ◌-◌}
-use native.Mathlib.Omega.{arith}
 use lib.ListN.{length}
 use Rattle.lines.proofs.line.bytes.Given as goal
 

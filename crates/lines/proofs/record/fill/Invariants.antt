@@ -1,8 +1,7 @@
 -- `record::fill` is safe and ends: `i` is at most n, and the words keep their number. Assumes nothing.
 use Prim.Native.Nat.{◌≤◌, ◌-◌}
 use mathlib.Core.Path.{◌≡◌}
-use native.Mathlib.Omega.{arith}
-use lib.ListN.{length, length-set, length-take}
+use lib.ListN.{length}
 use Rattle.lines.proofs.record.fill.Given as goal
 
 abbrev pub invariant-loop-i : goal.invariant-loop-i

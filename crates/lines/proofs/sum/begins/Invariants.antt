@@ -1,6 +1,5 @@
 -- `sum::begins` is safe and ends: what is left of the key falls. Assumes nothing.
 use Prim.Native.Nat.{◌≤◌, ◌-◌}
-use borrow.Author.Rules.{rules}
 use lib.ListN.{length}
 use Rattle.lines.proofs.sum.begins.Given as goal
 

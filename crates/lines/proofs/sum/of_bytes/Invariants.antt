@@ -1,6 +1,5 @@
 -- `sum::of_bytes` is safe and ends: the sum stays below the prime, and the bytes left fall. Assumes nothing.
 use Prim.Native.Nat.{◌<◌, ◌≤◌, ◌-◌}
-use borrow.Author.Rules.{rules}
 use lib.ListN.{length}
 use Rattle.lines.proofs.sum.of_bytes.Given as goal
 

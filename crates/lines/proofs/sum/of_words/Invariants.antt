@@ -1,6 +1,5 @@
 -- `sum::of_words` is safe and ends: the sum stays below the prime, and the words left fall. Assumes nothing.
 use Prim.Native.Nat.{◌<◌, ◌≤◌, ◌-◌}
-use borrow.Author.Rules.{rules}
 use lib.ListN.{length}
 use Rattle.lines.proofs.sum.of_words.Given as goal
 

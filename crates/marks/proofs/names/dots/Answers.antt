@@ -44,7 +44,7 @@ pub loop-names-preserved : goal.loop-names-preserved
 loop-names-preserved c =
     let there : c.loop-names.p.at < length c.args.words.now = omega (arith, c.kind_at.ensures.upper_bound, c.loop-names-test.true) in
     let on : Along (length c.args.words.now) (next_mark c.loop-names.p) c.name-a.result.m = subst (λ (q : Mark). Along (length c.args.words.now) q c.name-a.result.m) c.next.ensures c.name-a.ensures.along.0 in (
-      c.name-a.auto.1.1.0 ∙ c.loop-names.invariant.0,
+      c.name-a.auto.names ∙ c.loop-names.invariant.0,
       along_then c.loop-names.invariant.1 (along_then (along_moved (moved_next (inside_along c.loop-names.invariant.1) there)) on),
       λ text O given l w. dotting_step (c.loop-names.invariant.2 text O given l w) c.next.ensures (is_here c.args.words.now c.loop-names.p c.kind_at.ensures.value c.loop-names-test.true) there (omega (arith, on.ahead)) (c.name-a.ensures.starts_names text O given w) c.if-a-ne0.false,
     )

@@ -18,8 +18,8 @@ use Rattle.marks.proofs.names.dots.Given as goal
 abbrev pub invariant-loop-names : goal.invariant-loop-names
 invariant-loop-names l =
     (length l.names ≡ length l.initial.names) × Along (length l.words) l.initial.p l.p
-    × ((text O : List ℕ) (given : AnyGiven) (l : List Spelling) → Spelt text l.words
-    → Dotting (given_of text l.words given) l (rule.dots_from (given_of text l.words given) (turns (given_of text l.words given)) l (view l.initial.p O)) l.initial.p l.p l.initial.names l.names O)
+    × ((text O : List ℕ) (given : AnyGiven) (read : List Spelling) → Spelt text l.words
+    → Dotting (given_of text l.words given) read (rule.dots_from (given_of text l.words given) (turns (given_of text l.words given)) read (view l.initial.p O)) l.initial.p l.p l.initial.names l.names O)
 
 abbrev pub decreases-loop-names : goal.decreases-loop-names
 decreases-loop-names l = length l.words - l.p.at

@@ -13,4 +13,4 @@ append_name-requires c =
 
 pub returns : goal.returns
 returns c =
-    (refl, speaks_word c.append_name.auto.0 (c.start.ensures ∙ ap five.start c.word_at-word.ensures) (c.length.ensures ∙ ap five.size c.word_at-word.ensures) c.append_name.ensures)
+    (refl, speaks_word c.append_name.auto.names (c.start.ensures ∙ ap five.start c.word_at-word.ensures) (c.length.ensures ∙ ap five.size c.word_at-word.ensures) c.append_name.ensures)

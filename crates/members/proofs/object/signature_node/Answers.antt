@@ -15,10 +15,7 @@ returns-then-e-ne0 c =
 
 pub returns-then-too_long : goal.returns-then-too_long
 returns-then-too_long c =
-    rw c.refused.ensures (
-      signature_long c.args.words.now c.args.given c.args.b c.args.head c.args.there c.args.count c.args.p c.args.typed c.args.m c.args.nodes.now c.member_end-e.result c.member_end-e.ensures.by_index c.if-e-ne0.false (sym c.too_long.ensures ∙ c.if-too_long.true),
-      reached_refused 7 refl (fine_moved c.requires.0.2 c.member_end-e.ensures.moved.0) (omega (arith, c.member_end-e.ensures.moved.0.onward)) (omega (arith, c.member_end-e.ensures.moved.0.used_is)),
-    )
+    rw c.refused.ensures (record { makes_signature = signature_long c.args.words.now c.args.given c.args.b c.args.head c.args.there c.args.count c.args.p c.args.typed c.args.m c.args.nodes.now c.member_end-e.result c.member_end-e.ensures.by_index c.if-e-ne0.false (sym c.too_long.ensures ∙ c.if-too_long.true); reached = reached_refused 7 refl (fine_moved c.requires.0.2 c.member_end-e.ensures.moved.0) (omega (arith, c.member_end-e.ensures.moved.0.onward)) (omega (arith, c.member_end-e.ensures.moved.0.used_is)) })
 
 pub signature_choices-choices-requires : goal.signature_choices-choices-requires
 signature_choices-choices-requires c =

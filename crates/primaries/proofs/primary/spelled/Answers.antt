@@ -12,4 +12,4 @@ put-requires c =
 
 pub returns : goal.returns
 returns c =
-    record { says_spelled = named_says c.args.words.now c.args.given c.args.b c.args.choices c.args.m c.args.nodes.now c.put.result c.put.new.1.0 c.none.ensures c.spell-q.ensures.0 c.spell-q.ensures.1 c.put.ensures.makes; reached = reached_put (named_mark c.args.m) c.spell-q.ensures.0 (fine_named c.requires.2 c.requires.3) (omega arith) (omega arith) c.put.ensures.put }
+    record { says_spelled = named_says c.args.words.now c.args.given c.args.b c.args.choices c.args.m c.args.nodes.now c.put.result c.put.new.nodes c.none.ensures c.spell-q.ensures.0 c.spell-q.ensures.1 c.put.ensures.makes; reached = reached_put (named_mark c.args.m) c.spell-q.ensures.0 (fine_named c.requires.2 c.requires.3) (omega arith) (omega arith) c.put.ensures.put }

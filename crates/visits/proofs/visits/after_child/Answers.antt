@@ -11,4 +11,4 @@ returns-then-w-eq0 c =
 
 pub returns : goal.returns
 returns c =
-    after_as c.beside-2.ensures (after_spelling visit_words visits_sound c.args.nodes.now (Named c.args.names.now) (length c.args.names.now) c.args.w c.args.depth c.args.s c.args.o c.args.visits.now c.requires.4 c.requires.6 c.requires.7 c.next_of-next.result c.next_of-next.ensures.0 c.next_of-next.ensures.1 c.if-w-eq0.false c.visit_name-q.result.name c.visit_name-q.result.to c.visit_name-q.new.1.0 (c.visit_name-q.ensures c.args.w))
+    after_as c.beside-2.ensures (after_spelling visit_words visits_sound c.args.nodes.now (Named c.args.names.now) (length c.args.names.now) c.args.w c.args.depth c.args.s c.args.o c.args.visits.now c.requires.4 c.requires.6 c.requires.7 c.next_of-next.result c.next_of-next.ensures.0 c.next_of-next.ensures.1 c.if-w-eq0.false c.visit_name-q.result.name c.visit_name-q.result.to c.visit_name-q.new.visits (c.visit_name-q.ensures c.args.w))

@@ -9,4 +9,4 @@ returns-then-names-name c =
 
 pub returns : goal.returns
 returns c =
-    λ w. named_put c.args.names.now w c.args.depth c.args.o.name c.args.o.to c.args.visits.now c.requires.0 c.requires.1 c.requires.2 c.put_visit.result c.put_visit.new.0 (omega (arith, c.if-names-name.false)) c.put_visit.ensures
+    λ w. named_put c.args.names.now w c.args.depth c.args.o.name c.args.o.to c.args.visits.now c.requires.0 c.requires.1 c.requires.2 c.put_visit.result c.put_visit.new.visits (omega (arith, c.if-names-name.false)) c.put_visit.ensures

@@ -14,4 +14,4 @@ choice_of-tag-requires c =
 
 pub returns : goal.returns
 returns c =
-    λ M. begun visit_words visits_sound c.args.forms.now c.args.nodes.now (Named M) c.args.depth c.args.class c.args.at c.args.o c.args.visits.now c.node_at-own.result.word c.node_at-own.result.child c.class_at-tags.result c.choice_of-tag.result.number c.choice_of-tag.result.word c.put_visit-inside.result c.put_visit-inside.new.0 c.put_visit-to.result c.put_visit-to.new.0 c.listed_at-row.result c.word_at.result c.node_at-own.ensures.0 c.node_at-own.ensures.1 c.node_at-own.ensures.2 c.class_at-tags.ensures c.choice_of-tag.ensures.0 c.choice_of-tag.ensures.1 c.put_visit-inside.ensures c.put_visit-to.ensures c.listed_at-row.ensures c.word_at.ensures.0 c.word_at.ensures.1
+    λ M. begun visit_words visits_sound c.args.forms.now c.args.nodes.now (Named M) c.args.depth c.args.class c.args.at c.args.o c.args.visits.now c.node_at-own.result.word c.node_at-own.result.child c.class_at-tags.result c.choice_of-tag.result.number c.choice_of-tag.result.word c.put_visit-inside.result c.put_visit-inside.new.visits c.put_visit-to.result c.put_visit-to.new.visits c.listed_at-row.result c.word_at.result c.node_at-own.ensures.0 c.node_at-own.ensures.1 c.node_at-own.ensures.2 c.class_at-tags.ensures c.choice_of-tag.ensures.0 c.choice_of-tag.ensures.1 c.put_visit-inside.ensures c.put_visit-to.ensures c.listed_at-row.ensures c.word_at.ensures.0 c.word_at.ensures.1

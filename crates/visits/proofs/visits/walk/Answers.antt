@@ -17,4 +17,4 @@ visit_node-o-requires c =
 
 pub returns : goal.returns
 returns c =
-    visited c.args.nodes.now c.args.names.now c.args.root c.args.tall (length c.args.visits.now) c.visit_node-o.result.name c.visit_node-o.result.to c.clear_words.new.0 c.visit_node-o.new.1.1.1.0 (zeros c.clear_words.new.0 c.args.visits.now c.clear_words.ensures) (subst (λ (T : List ℕ). Noded visit_words (grammar_of T) c.args.nodes.now (Named c.args.names.now) c.args.tall 0 (length c.args.names.now) 0 c.args.root 0 0 c.clear_words.new.0 c.visit_node-o.result.name c.visit_node-o.result.to c.visit_node-o.new.1.1.1.0) c.words-forms.ensures c.visit_node-o.ensures)
+    visited c.args.nodes.now c.args.names.now c.args.root c.args.tall (length c.args.visits.now) c.visit_node-o.result.name c.visit_node-o.result.to c.clear_words.new.words c.visit_node-o.new.visits (zeros c.clear_words.new.words c.args.visits.now c.clear_words.ensures) (subst (λ (T : List ℕ). Noded visit_words (grammar_of T) c.args.nodes.now (Named c.args.names.now) c.args.tall 0 (length c.args.names.now) 0 c.args.root 0 0 c.clear_words.new.words c.visit_node-o.result.name c.visit_node-o.result.to c.visit_node-o.new.visits) c.words-forms.ensures c.visit_node-o.ensures)

@@ -1,0 +1,64 @@
+// What a program is given: its arguments, and the files that they name. What is not to be had is said on standard error.
+ghost use Rattle.std.specs.Prelude.{◌≡◌, ◌<◌, ◌≤◌, length};
+ghost use Rattle.io.specs.Counts.{IsPrefixLen};
+
+use std::fs;
+use std::io::{Cursor, Error, Write};
+use std::rt::{Env, Files};
+use std::str::from_utf8;
+
+// An argument at the start of a buffer; its length, or 0 where it is missing or longer than the buffer.
+pub fn argument<R: Env>(rt: &R, i: usize, buffer: &mut [u8]) -> usize
+    ensures { IsPrefixLen result buffer.new }
+{
+    rt.arg(i, buffer).unwrap_or(0)
+}
+
+// A line on standard error: what failed, and why.
+pub fn complain(what: &[u8], why: &[u8]) {
+    io::write_all(2, what);
+    io::write_all(2, b": ");
+    io::write_all(2, why);
+    io::write_all(2, b"\n");
+}
+
+// How much of a text comes before the last `(` and the blank there: of an error's text, all but the system's number.
+fn message(text: &[u8]) -> usize
+    ensures { result ≤ length text.now }
+{
+    let mut i = text.len();
+    while 1 < i {
+        i -= 1;
+        if text[i] == b'(' {
+            return i - 1;
+        }
+    }
+    text.len()
+}
+
+// The same of an error of the system.
+fn fail(what: &[u8], error: &Error) {
+    let mut text = Cursor::new([0u8; 256]);
+    let _ = write!(text, "{error}");
+    let end = text.position().min(256) as usize;
+    let room = text.into_inner();
+    let n = message(&room[..end]);
+    complain(what, &room[..n]);
+}
+
+// The file that a path names, open to be read; none where it cannot be opened, after a line that says why.
+pub fn file<R: Files>(rt: &R, path: &[u8]) -> Option<R::File> {
+    match from_utf8(path) {
+        Ok(name) => match fs::open(rt, name) {
+            Ok(file) => Some(file),
+            Err(error) => {
+                fail(path, &error);
+                None
+            }
+        },
+        Err(_) => {
+            complain(path, b"Invalid or incomplete multibyte or wide character");
+            None
+        }
+    }
+}
