@@ -1,6 +1,6 @@
 #!/bin/sh
 # build_library.sh [--unproved] [OUT]: the library for other languages, in OUT (target/lib): libtypekey.a, libtypekey.so, typekey.wasm.
-# It proves crates/typekey_c and all below it by `rt staticlib`, keeps the one LLVM module behind that archive (typekey.ll), whose tables
+# It proves crates/typekey_c and all below it by `rt lib`, keeps the one LLVM module behind that archive (typekey.ll), whose tables
 # become constants (constants.py), and compiles all three from it. With --unproved nothing is proved: for trying things out only. It needs rt, gcc and python3.
 set -eu
 root=$(cd "$(dirname "$0")/.." && pwd -P)
@@ -15,31 +15,30 @@ done
 for tool in rt gcc python3; do command -v $tool >/dev/null || { echo "build_library.sh: it needs $tool, which is not in PATH" >&2; exit 2; }; done
 mkdir -p "$out"; out=$(cd "$out" && pwd -P)
 rm -f "$out/libtypekey.a" "$out/libtypekey.so" "$out/typekey.wasm" "$out/typekey.ll"
-home=${RATTLE_HOME:-$(cd "$(dirname "$(readlink -f "$(command -v rt)")")/.." && pwd -P)}
+home=$(cd "$(dirname "$(readlink -f "$(command -v rt)")")/.." && pwd -P)
 machine=$(uname -m)
-own=$home/on/$machine
-clang=$own/toolchain/bin/clang
+clang=$home/toolchain/bin/clang
 work=$(mktemp -d); trap 'rm -rf "$work"' EXIT
 
 # A module as text, with nothing optimised.
 text_of() { "$clang" -w -Xclang -disable-llvm-passes -S -emit-llvm "$1" -o "$2"; }
 
-# The module of the proved archive. The toolchain is reached through links; its clang first keeps a copy of the module that it is given.
+# The module of the proved archive, and what the kit passes clang. The kit is reached through links, but for rt itself, which looks beside
+# its own file; its clang first keeps a copy of the module that it is given.
 proved_module() {
-    bin=$work/kit/on/$machine/toolchain/bin
-    mkdir -p "$bin"
-    for f in "$home"/*; do [ "${f##*/}" = on ] || ln -s "$f" "$work/kit/"; done
-    for f in "$own"/*; do [ "${f##*/}" = toolchain ] || ln -s "$f" "$work/kit/on/$machine/"; done
-    for f in "$own"/toolchain/*; do [ "${f##*/}" = bin ] || ln -s "$(readlink -f "$f")" "$work/kit/on/$machine/toolchain/"; done
-    for f in "$own"/toolchain/bin/*; do [ "${f##*/}" = clang ] || ln -s "$f" "$bin/"; done
+    bin=$work/kit/toolchain/bin
+    mkdir -p "$bin" "$work/kit/bin"
+    for f in "$home"/*; do case ${f##*/} in bin | toolchain) ;; *) ln -s "$f" "$work/kit/" ;; esac; done
+    for f in "$home"/bin/*; do case ${f##*/} in rt | rtlib.py) cp "$f" "$work/kit/bin/" ;; *) ln -s "$f" "$work/kit/bin/" ;; esac; done
+    for f in "$home"/toolchain/*; do [ "${f##*/}" = bin ] || ln -s "$f" "$work/kit/toolchain/"; done
+    for f in "$home"/toolchain/bin/*; do [ "${f##*/}" = clang ] || ln -s "$f" "$bin/"; done
     cat >"$bin/clang" <<END
 #!/bin/sh
-last=
-for word; do [ "\$last" = ir ] && cp "\$word" "$work/kept.bc"; last=\$word; done
+cp module.bc "$work/kept.bc"; printf '%s\n' "\$@" >"$work/flags"
 exec "$clang" "\$@"
 END
     chmod +x "$bin/clang"
-    (cd "$root" && RATTLE_HOME=$work/kit rt staticlib typekey_c)
+    (cd "$root/crates/typekey_c" && "$work/kit/bin/rt" lib)
     text_of "$work/kept.bc" "$work/module.ll"
 }
 
@@ -47,7 +46,7 @@ END
 unproved_module() {
     mkdir -p "$work/crates/typekey_try/src"
     for d in "$root"/crates/*; do ln -s "$d" "$work/crates/"; done
-    { cat "$root/crates.txt"; sed -n 's/^typekey_c:/typekey_try:/p' "$root/crates.txt"; } >"$work/crates.txt"
+    { cat "$root/crates.txt"; sed -n 's/^typekey_c staticlib:/typekey_try:/p' "$root/crates.txt"; } >"$work/crates.txt"
     cat "$root/crates/typekey_c/src/lib.rt" - >"$work/crates/typekey_try/src/main.rt" <<END
 fn main() {
     let bytes = [0u8; 1];
@@ -63,17 +62,18 @@ fn main() {
 }
 END
     (cd "$work" && sh "$root/tools/unproved.sh" typekey_try "$work/try" >"$work/say") || { cat "$work/say"; exit 1; }
-    text_of "$work/try/typekey_try.bc" "$work/program.ll"
-    python3 "$root/tools/exports.py" "$work/program.ll" "$work/module.ll" typekey_try
+    cp "$work/try/typekey_try.flags" "$work/flags"
+    python3 "$root/tools/exports.py" "$work/try/typekey_try.ll" "$work/module.ll" typekey_try
 }
 
-# FILE for a target: the module without the words that name another processor. Much is inlined, so that structs stay in registers: it takes
-# less time, and less stack than LLVM's own measure. All is optimised twice: what the first time finds out of a table counts in the second.
+# FILE for a target: the module without the words that name another processor, under the words by which the kit keeps LLVM from its known
+# faults. Much is inlined, so that structs stay in registers: it takes less time, and less stack than LLVM's own measure. All is optimised
+# twice: what the first time finds out of a table counts in the second.
 compile() { # FILE TARGET FLAGS..
     to=$1 target=$2; shift 2
     { "$clang" --target="$target" -S -emit-llvm -x c /dev/null -o - | grep '^target '
       sed -e '/^target /d' -e 's/"target-cpu"="[^"]*"//; s/"probe-stack"="[^"]*"//' "$work/module.ll"; } >"$work/target.ll"
-    set -- -Werror --target="$target" -O3 -mllvm -inline-threshold=1000 -mllvm -jump-threading-threshold=20 "$@"
+    set -- $(grep -A 1 -xe -mllvm "$work/flags" | grep -vxe --) -Werror --target="$target" -O3 -mllvm -inline-threshold=1000 -mllvm -jump-threading-threshold=20 "$@"
     "$clang" "$@" -S -emit-llvm -x ir "$work/target.ll" -o "$work/once.ll"
     "$clang" "$@" -c -x ir "$work/once.ll" -o "$to"
 }
@@ -95,5 +95,5 @@ ln -s "$clang" "$work/wasm-ld"
     --stack-first -z stack-size=1048576 --initial-memory=4194304 --max-memory=1073741824 --strip-all "$work/wasm.o" -o "$out/typekey.wasm"
 
 ls -l "$out/libtypekey.a" "$out/libtypekey.so" "$out/typekey.wasm"
-if [ $proved = yes ]; then echo "PROVED: rt staticlib has checked typekey_c and all below it, and these are compiled from the module that it wrote."
+if [ $proved = yes ]; then echo "PROVED: rt lib has checked typekey_c and all below it, and these are compiled from the module that it wrote."
 else echo "NOT PROVED: built for trying things out. Run without --unproved for the library."; fi

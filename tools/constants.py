@@ -1,9 +1,9 @@
 #!/usr/bin/env python3
 """constants.py FILE.ll OUT.ll: a module that rattle wrote (as text, not optimised), with its constant tables as constants.
 
-A constant array is a function that stores each number in a local of its own and then copies that to where the caller wants it: a call
-builds the whole table. Where a function is nothing else, line by line as below, its numbers become a constant of the module and its body
-a copy of that, which LLVM leaves out where nobody writes to the copy. Every other function stays as it is."""
+A constant array is a function that clears a local of its own, stores each number there and then copies that to where the caller wants it: a
+call builds the whole table. Where a function is nothing else, line by line as below, its numbers become a constant of the module and its
+body a copy of that, which LLVM leaves out where nobody writes to the copy. Every other function stays as it is."""
 import re
 import sys
 
@@ -17,8 +17,10 @@ def table(lines):
     first = re.fullmatch(r"  %r0 = alloca \[(\d+) x i8\], align \d+", lines[0])
     if not first or lines[-1] != "  ret void" or lines[-2] != "  call void @llvm.memmove.p0.p0.i64(ptr %%a0, ptr %%r0, i64 %s, i1 false)" % first[1]:
         return None
+    if lines[1] != "  call void @llvm.memset.p0.i64(ptr %%r0, i8 0, i64 %s, i1 false)" % first[1]:
+        return None
     kind, numbers, place, name = None, [], 0, "%r0"
-    for line in lines[1:-2]:
+    for line in lines[2:-2]:
         step = re.fullmatch(r"  (%r\d+) = getelementptr i8, ptr %r0, i64 (\d+)", line)
         store = re.fullmatch(r"  store (i\d+) (\d+), ptr (%r\d+), align \d+", line)
         if step:

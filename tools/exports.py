@@ -11,11 +11,11 @@ EXPORTS = {"typekey_read": "ssuussssp", "typekey_take_back": "ssssp", "typekey_d
 def exported(program, name, parts):
     params, body, args = [], [], []
     for i, part in enumerate(parts):
-        if part == "s":
+        if part == "s":                                                 # a slice of no bytes may be a null pointer
             params += [f"ptr noundef %a{i}", f"i64 noundef %n{i}"]
-            body += [f"%s{i} = alloca [16 x i8], align 8", f"store ptr %a{i}, ptr %s{i}, align 8",
-                     f"%l{i} = getelementptr i8, ptr %s{i}, i64 8", f"store i64 %n{i}, ptr %l{i}, align 8"]
-            args.append(f"ptr %s{i}")
+            body += [f"%z{i} = icmp eq ptr %a{i}, null", f"%y{i} = zext i1 %z{i} to i64", f"%x{i} = mul i64 %y{i}, 4096",
+                     f"%s{i} = getelementptr i8, ptr %a{i}, i64 %x{i}"]
+            args += [f"ptr %s{i}", f"i64 %n{i}"]
         else:
             kind = "i64" if part == "u" else "ptr"
             params.append(f"{kind} noundef %a{i}")
@@ -26,7 +26,7 @@ def exported(program, name, parts):
 
 def main():
     source, to, program = sys.argv[1:]
-    text = re.sub(r"^define i32 @main\(", "define internal i32 @main(", open(source).read(), flags=re.M)
+    text = re.sub(r'^define (?:i32 @main|[^\n]*@"%s::main")\(.*?^\}\n|^declare i64 @__sysv_signal\(.*?\n' % program, "", open(source).read(), flags=re.M | re.S)
     i = text.index("\nattributes #0")
     open(to, "w").write(text[:i] + "\n" + "\n".join(exported(program, *x) for x in EXPORTS.items()) + text[i:])
 

@@ -21,7 +21,7 @@ diff "$work/said" "$root/crates/rows/stdout"
 python3 "$root/tests/c/compare_sample.py" "$work/sample"
 "$work/example" | diff - "$root/examples/c/read.out"
 # Tests and library with each access to memory checked: the module compiled once more, for gcc's sanitizers.
-clang=$(dirname "$(readlink -f "$(command -v rt)")")/../on/$(uname -m)/toolchain/bin/clang
+clang=$(dirname "$(readlink -f "$(command -v rt)")")/../toolchain/bin/clang
 sed 's/^attributes #[0-9]* = { /&sanitize_address /' "$lib/typekey.ll" >"$work/watched.ll"
 "$clang" -w -O1 -fsanitize=address -c -x ir "$work/watched.ll" -o "$work/watched.o"
 for t in vectors edges members fuzz; do

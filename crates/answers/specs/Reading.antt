@@ -1,6 +1,6 @@
 -- What the call that reads promises, over the slices that it is lent, and what its parts do ("The two calls", "Refusal numbers").
 use Rattle.std.specs.Prelude.{ℕ, ◌+◌, ◌*◌, ◌^◌, ◌≤◌, ◌<◌, min, ◌≡◌, Bool, List, length, take}
-use Rattle.std.specs.Borrow.{Bor}
+use Rattle.std.specs.Borrow.{Bor, MutBor}
 use denote.Triple.Both.{Both}
 use Rattle.words.specs.Limits.{most_key}
 use Rattle.keys.specs.Form.{Fits, nodes as nodesIn, names as names_in, height}
@@ -21,6 +21,10 @@ use Rattle.answers.specs.declared.reading.Refused as declared
 abbrev pub Slice : Type 0
 Slice = Both (Bor (List ℕ)) (Bor (List ℕ))
 
+-- One that is lent to be filled.
+abbrev pub Filled : Type 0
+Filled = Both (MutBor (List ℕ)) (MutBor (List ℕ))
+
 -- The code's answer in the words of the definitions.
 abbrev pub answer_of : Reading → Answer
 answer_of (Read c) = reads c.nodes c.names c.notes c.at c.half c.key c.entered
@@ -30,7 +34,7 @@ answer_of (Refused r) = refuses r.number r.token r.half r.byte
 abbrev pub seen : Reading → (N M O K : List ℕ) → Called
 seen r N M O K = record { answer = answer_of r; node_words = N; name_words = M; note_words = O; key = K }
 
-module _ (nodes names notes key : Slice) where
+module _ (nodes names notes key : Filled) where
   -- What is lent, by its lengths.
   abbrev pub lent_of : Lent
   lent_of = lend (length nodes.entry.now) (length names.entry.now) (length notes.entry.now) (length key.entry.now)
@@ -65,11 +69,11 @@ pub record HeldIn (X N M : List ℕ) (q : Mark) (t : Placed) : Type 0 where
   pub names_are : q.named ≤ length M → take q.named M ≡ names_of t
   pub spelled : all_pointed X (names_of t) ≡ names_in (bare t)
 
-abbrev pub Held : (text nodes names : Slice) → Mark → Placed → Type 0
+abbrev pub Held : (text : Slice) (nodes names : Filled) → Mark → Placed → Type 0
 Held text nodes names q t = HeldIn text.entry.now nodes.entry.now names.entry.now q t
 
 -- It gets its key, and is left with it and its diagnostics.
-abbrev pub Finishes : (noting nodes names notes key : Slice) → Mark → Placed → Reading → Type 0
+abbrev pub Finishes : (noting : Slice) (nodes names notes key : Filled) → Mark → Placed → Reading → Type 0
 Finishes noting nodes names notes key q t r =
     let l = lent_of nodes names notes key in Leaves nodes names notes key (written l (with_key l t (view q noting.entry.now))) r
 
@@ -79,5 +83,5 @@ pub record WroteIn (N M X : List ℕ) (root n r : ℕ) (k : List ℕ) : Type 0 w
   pub is : (p : Placed) → Stands N M X p → root + 1 ≡ nodesIn (bare p) → height (bare p) ≤ tallest → length (key_of (bare p)) ≤ most_key → length (key_of (bare p)) ≤ n
       → k ≡ filled n (key_of (bare p))
 
-abbrev pub Wrote : (nodes names text : Slice) (root : ℕ) (key : Slice) → ℕ → Type 0
+abbrev pub Wrote : (nodes names text : Slice) (root : ℕ) (key : Filled) → ℕ → Type 0
 Wrote nodes names text root key r = WroteIn nodes.entry.now names.entry.now text.entry.now root (length key.entry.now) r key.exit.now

@@ -218,18 +218,18 @@ module _ (bs : Bits) (ln lm lx : ℕ) (T : List ℕ) (class : ℕ) (p : Pos) (h 
       subst (λ (x : Pos). NodeIn bs lm lx G left class p N M X x N M X) (sym j)
       (record { nodes_same = refl; names_same = refl; text_same = refl; in_key = h.inside.in_key; stopped = λ _. e; grown = λ z. absurd (omega arith) })
 
+  bad_by : (c.why ≡ 0 → ⊥) → (x : ℕ) → node_run lx (grammar_of T) x class (state_at bs lm lx p) ≡ halt 10 (length bs - p.bit)
+  bad_by z zero = picked.stopped z p.nodes (lm - p.names) (lx - p.chars) _
+  bad_by z (suc x) = picked.stopped z p.nodes (lm - p.names) (lx - p.chars) _
+
   pub node_bad : (left : ℕ) (N M X : List ℕ) (q : Pos) → q ≡ refused_at 10 p.bit → (c.why ≡ 0 → ⊥) → NodeIn bs lm lx (grammar_of T) left class p N M X q N M X
-  node_bad left N M X q j z = refuse left 10 N M X q j (omega arith) (by left)
-    where
-      by : (x : ℕ) → node_run lx (grammar_of T) x class (state_at bs lm lx p) ≡ halt 10 (length bs - p.bit)
-      by zero = picked.stopped z _ _ _ _
-      by (suc x) = picked.stopped z _ _ _ _
+  node_bad left N M X q j z = refuse left 10 N M X q j (omega arith) (bad_by z left)
 
   module _ (z : c.why ≡ 0) where
     pub node_tall : (left : ℕ) (N M X : List ℕ) (q : Pos) → q ≡ refused_at 6 p.bit → left ≡ 0 → NodeIn bs lm lx (grammar_of T) left class p N M X q N M X
     node_tall left N M X q j l =
         refuse left 6 N M X q j (omega arith)
-        (ap (λ (x : ℕ). node_run lx G x class (state_at bs lm lx p)) l ∙ picked.went z _ _ _ _ ∙ ap (halt 6) (length-drop p.bit bs))
+        (ap (λ (x : ℕ). node_run lx G x class (state_at bs lm lx p)) l ∙ picked.went z p.nodes (lm - p.names) (lx - p.chars) _ ∙ ap (halt 6) (length-drop p.bit bs))
 
     module _ (left l : ℕ) (y : left ≡ suc l) where
       abbrev under_it : ℕ → Ran
@@ -237,7 +237,7 @@ module _ (bs : Bits) (ln lm lx : ℕ) (T : List ℕ) (class : ℕ) (p : Pos) (h 
 
       entered : (m : ℕ) → p.nodes ≡ m → node_run lx (grammar_of T) left class (state_at bs lm lx p) ≡ room_run (state_at bs lm lx p) under_it m
       entered m e =
-          ap (λ (x : ℕ). node_run lx G x class (state_at bs lm lx p)) y ∙ picked.went z _ _ _ _ ∙ ap (room_run (state_at bs lm lx p) under_it) e
+          ap (λ (x : ℕ). node_run lx G x class (state_at bs lm lx p)) y ∙ picked.went z p.nodes (lm - p.names) (lx - p.chars) _ ∙ ap (room_run (state_at bs lm lx p) under_it) e
 
       pub node_full : (N M X : List ℕ) (q : Pos) → q ≡ refused_at 8 p.bit → p.nodes ≡ 0 → NodeIn bs lm lx (grammar_of T) left class p N M X q N M X
       node_full N M X q j e = refuse left 8 N M X q j (omega arith) (entered 0 e ∙ ap (halt 8) (length-drop p.bit bs))

@@ -8,7 +8,7 @@ use borrow.Author.Tests.{le-leb, lt-leb}
 use lib.Dec.{eqb}
 use lib.ListN.{length, take, drop}
 use Rattle.keys.specs.Bits.{Bits, take_field, bits_of_bytes}
-use Rattle.keys.specs.Form.{Value, nothing, spelt, choice, pair, node, Form, child, Grammar, is_never, nodes, names, letters, State, state, Result, got, stop, into, allowed, if_whole, take_form, take_node}
+use Rattle.keys.specs.Form.{Value, nothing, spelt, choice, pair, node, Form, child, Grammar, is_never, branch, left, right, class, nodes, names, letters, State, state, Result, got, stop, into, allowed, if_whole, take_form, take_node}
 use Rattle.keys.specs.Limits.{longest_key, tallest, newest, count_width, record_words, bad_key, no_space}
 use Rattle.keys.specs.Table.{type, type_under, whole_key}
 use Rattle.keys.specs.Placed.{bare, laid}
@@ -41,10 +41,10 @@ use Rattle.key_parts.proofs.Rows.{table_fine, words_slim, other_edition}
 letters_plant : (G : Grammar) (f : Form) (v : Value) (x : ℕ) (r : Run) → letters_in (plant G f (laid v x) r) ≡ text_of v ++ letters_in r
 letters_plant G f nothing x r = refl
 letters_plant G f (spelt s) x r = refl
-letters_plant G f (choice k v) x r = letters_plant G _ v x r
+letters_plant G f (choice k v) x r = letters_plant G (branch f k) v x r
 letters_plant G f (pair a b) x r =
-    letters_plant G _ a x _ ∙ ap (λ (l : List ℕ). text_of a ++ l) (letters_plant G _ b (x + letters a) r) ∙ sym (append_assoc (text_of a) (text_of b) (letters_in r))
-letters_plant G f (node t v) x r = ap (λ (l : List ℕ). l ++ letters_in r) (letters_plant G _ v x done ∙ append-nil (text_of v))
+    letters_plant G (left f) a x (plant G (right f) (laid b (x + letters a)) r) ∙ ap (λ (l : List ℕ). text_of a ++ l) (letters_plant G (right f) b (x + letters a) r) ∙ sym (append_assoc (text_of a) (text_of b) (letters_in r))
+letters_plant G f (node t v) x r = ap (λ (l : List ℕ). l ++ letters_in r) (letters_plant G (G.row (class f) t) v x done ∙ append-nil (text_of v))
 
 -- ---- From a run back to the value
 

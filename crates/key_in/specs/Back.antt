@@ -12,7 +12,7 @@ use Rattle.keys.specs.Stored.{base, Stored}
 use Rattle.node_table.specs.Forms.{grammar_of, nodes_then, table_most}
 use Rattle.node_table.specs.declared.forms.Row.{Row}
 use Rattle.key_parts.specs.Runs.{ran, halt, form_run, node_run}
-use Rattle.key_parts.specs.Place.{state_at, Inside, Lent, bits_in, long}
+use Rattle.key_parts.specs.Place.{state_at, Inside, Lent, Filled, bits_in, long}
 use Rattle.key_parts.specs.Widths.{Spans, Slim, Sized}
 use Rattle.key_parts.specs.Step.{Steady, Housed, Went}
 use Rattle.key_parts.specs.declared.place.Pos.{Pos}
@@ -102,21 +102,21 @@ AsksNodes forms key nodes names text r s =
 
 -- ---- What is answered over what is lent
 
-abbrev pub TakesNode : (forms key nodes names text : Lent) (left class : ℕ) (p q : Pos) → Type 0
+abbrev pub TakesNode : (forms key : Lent) (nodes names text : Filled) (left class : ℕ) (p q : Pos) → Type 0
 TakesNode forms key nodes names text left class p q =
     NodeIn (bits_in key) (long names) (long text) (grammar_of forms.entry.now) left class p
     nodes.entry.now names.entry.now text.entry.now q nodes.exit.now names.exit.now text.exit.now
 
-abbrev pub TakesNodes : (forms key nodes names text : Lent) (left : ℕ) (r : Row) (s q : Fill) → Type 0
+abbrev pub TakesNodes : (forms key : Lent) (nodes names text : Filled) (left : ℕ) (r : Row) (s q : Fill) → Type 0
 TakesNodes forms key nodes names text left r s q =
     NodesIn (bits_in key) (long names) (long text) (grammar_of forms.entry.now) left r s
     nodes.entry.now names.entry.now text.entry.now q nodes.exit.now names.exit.now text.exit.now
 
-abbrev pub TakesWhole : (key nodes names text : Lent) (q : Pos) → Type 0
+abbrev pub TakesWhole : (key : Lent) (nodes names text : Filled) (q : Pos) → Type 0
 TakesWhole key nodes names text q =
     WholeIn key.entry.now (long nodes / record_words) (long names) (long text) q nodes.exit.now names.exit.now text.exit.now
 
 -- The whole call.
-abbrev pub GivesBack : (key nodes names text : Lent) (r : Answer) → Type 0
+abbrev pub GivesBack : (key : Lent) (nodes names text : Filled) (r : Answer) → Type 0
 GivesBack key nodes names text r =
     Answers (take_back key.entry.now (long nodes) (long names) (long text)) r nodes.exit.now names.exit.now text.exit.now

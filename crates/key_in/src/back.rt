@@ -15,7 +15,7 @@ use node_table::forms::{Row, TABLE};
 use words::limits::{Key, Tree};
 
 // A node of a class, with room for `left` nodes one above the other: it meets 10 at its tag, 6, 8, then its fields in order.
-#[cycle(take_node_take_nodes)]
+#[cycle(take)]
 fn take_node(
     forms: &[u16; TABLE],
     key: &[u8],
@@ -95,7 +95,7 @@ fn take_node(
 }
 
 // n nodes, one after the other, a spelling after each if its length has any bits.
-#[cycle(take_node_take_nodes)]
+#[cycle(take)]
 fn take_nodes(
     forms: &[u16; TABLE],
     key: &[u8],

@@ -49,6 +49,7 @@ module _ (N : List ℕ) (P : ℕ → List ℕ → Type 0) where
   -- The same behind a test.
   no_run_if : (b : Bool) {a : Run} → Of L (in_line (when b one) one) a → a ≡ done
   no_run_if true of_one = refl
+  no_run_if false {a = a} x' = elim x' [ ]
 
   -- ---- The three rows
 

@@ -1,6 +1,6 @@
 -- The key as the output of a walk, and what key out answers.
 use Rattle.std.specs.Prelude.{◌≡◌, Bool, List, [], ◌++◌, ℕ, ◌+◌, ◌*◌, ◌%◌, ◌^◌, ◌≤◌, ◌<◌, min, eqb, length}
-use Rattle.std.specs.Borrow.{Bor}
+use Rattle.std.specs.Borrow.{Bor, MutBor}
 use denote.Triple.Both.{Both}
 use Rattle.words.specs.Test.{◌and◌, ◌or◌}
 use Rattle.keys.specs.Limits.{widest, half_word, count_width}
@@ -15,9 +15,13 @@ use Rattle.node_table.specs.Moves.{Output, Noded}
 use Rattle.node_table.specs.declared.moves.Mark.{Mark}
 use Rattle.node_table.specs.declared.moves.Walk.{Walk}
 
--- A slice at a function's two moments.
+-- A slice at a function's two moments, lent to be read.
 abbrev pub Slice : Type 0
 Slice = Both (Bor (List ℕ)) (Bor (List ℕ))
+
+-- The same, lent to be written.
+abbrev pub Filled : Type 0
+Filled = Both (MutBor (List ℕ)) (MutBor (List ℕ))
 
 -- The key as an output: the bits of a choice, of a spelling's length and bytes, none of a node but what it holds.
 abbrev pub key_bits : Output
@@ -38,7 +42,7 @@ MayGoOn M key w s o =
     × (s.steps < table_most)
 
 -- The key of the node `at` of a class is put from o to r, over what a function is lent.
-abbrev pub PutsNode : (forms nodes names text key : Slice) (left class at : ℕ) (o r : Mark) → Type 0
+abbrev pub PutsNode : (forms nodes names text : Slice) (key : Filled) (left class at : ℕ) (o r : Mark) → Type 0
 PutsNode forms nodes names text key left class at o r =
     Noded key_bits (grammar_of forms.entry.now) nodes.entry.now (Spells names.entry.now text.entry.now) left 0 (length names.entry.now) class at
     o.name o.to key.entry.now r.name r.to key.exit.now
@@ -62,7 +66,7 @@ abbrev pub is_once : (class word : ℕ) → Bool
 is_once class w = eqb class 0 and (eqb w one_name or eqb w a_string or eqb (w % 64) keyword_tag)
 
 -- Such a node is put from o to r, wherever it stands in a store.
-abbrev pub PutsOnce : (names text key : Slice) (word : ℕ) (o r : Mark) → Type 0
+abbrev pub PutsOnce : (names text : Slice) (key : Filled) (word : ℕ) (o r : Mark) → Type 0
 PutsOnce names text key w o r =
     (N : List ℕ) (left at : ℕ) → word_at N at ≡ w
     → Noded key_bits (grammar_of (table_words count_width)) N (Spells names.entry.now text.entry.now) left 0 (length names.entry.now) 0 at

@@ -200,7 +200,7 @@ module _ (bs : Bits) (lm lx : ℕ) (T : List ℕ) (steps : ℕ) (r : Row) (s : F
             text_same = refl;
             in_key = omega (arith, h.inside.in_key);
             stopped =
-                λ _ Y. ap (λ (x : Form). form_run lx Y x (state_at bs lm lx s.at)) is_choice ∙ d.stopped o _ _ _ _
+                λ _ Y. ap (λ (x : Form). form_run lx Y x (state_at bs lm lx s.at)) is_choice ∙ d.stopped o s.at.nodes (lm - s.at.names) (lx - s.at.chars) _
                 ∙ ap₂ (λ (x i : ℕ). halt x (length bs - i)) (sym a) (sym b);
             went = λ i. absurd (omega arith);
           }
@@ -242,7 +242,7 @@ module _ (bs : Bits) (lm lx : ℕ) (T : List ℕ) (steps : ℕ) (r : Row) (s : F
               text_same = refl;
               run = chose r.w c.number done;
               same =
-                  ap (λ (x : Form). form_run lx Y x (state_at bs lm lx s.at)) is_choice ∙ d.went o _ _ _ _
+                  ap (λ (x : Form). form_run lx Y x (state_at bs lm lx s.at)) is_choice ∙ d.went o s.at.nodes (lm - s.at.names) (lx - s.at.chars) _
                   ∙ ap (λ (x : Form). after (chose r.w c.number done) (form_run lx Y x (state_at bs lm lx (at_bit s.at c.bit)))) (d.to o);
               fill = λ B t i x q. (stored_choice r.w c.number x, own_choice r.w c.number q);
             }

@@ -1,6 +1,6 @@
 -- Where taking is: what is left there, and what is lent (01, The two calls).
 use Rattle.std.specs.Prelude.{List, ℕ, ◌-◌, ◌*◌, ◌≤◌, length, drop}
-use Rattle.std.specs.Borrow.{Bor}
+use Rattle.std.specs.Borrow.{Bor, MutBor}
 use denote.Triple.Both.{Both}
 use Rattle.keys.specs.Bits.{Bits, bits_of_bytes}
 use Rattle.keys.specs.Form.{State, state}
@@ -33,14 +33,18 @@ at_bit p bit = record { why = 0; bit = bit; nodes = p.nodes; used = p.used; name
 
 -- ---- What is lent
 
--- A slice at a function's two moments.
+-- A slice at a function's two moments, lent to be read.
 abbrev pub Lent : Type 0
 Lent = Both (Bor (List ℕ)) (Bor (List ℕ))
+
+-- The same, lent to be written.
+abbrev pub Filled : Type 0
+Filled = Both (MutBor (List ℕ)) (MutBor (List ℕ))
 
 -- The bits of a key that is lent.
 abbrev pub bits_in : Lent → Bits
 bits_in key = bits_of_bytes key.entry.now
 
--- How long a slice is.
-abbrev pub long : Lent → ℕ
+-- How long a slice is that is lent to be written.
+abbrev pub long : Filled → ℕ
 long s = length s.entry.now

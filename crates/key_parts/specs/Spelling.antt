@@ -7,7 +7,7 @@ use Rattle.keys.specs.Store.{Run, ◌⊕◌}
 use Rattle.keys.specs.Stored.{Base, Stored, Own}
 use Rattle.node_table.specs.Forms.{spellings_then}
 use Rattle.key_parts.specs.Runs.{Ran, halt, after, form_run}
-use Rattle.key_parts.specs.Place.{state_at, Inside, Lent, bits_in, long}
+use Rattle.key_parts.specs.Place.{state_at, Inside, Lent, Filled, bits_in, long}
 use Rattle.key_parts.specs.declared.place.Pos.{Pos}
 
 -- From p to q names were stored, which are the run u: nothing but names and text has changed.
@@ -47,10 +47,10 @@ AsksSpelling key names text w p = (length key ≤ longest_key) × (w ≤ widest)
 abbrev pub AsksSpellings : (key names text : List ℕ) (w : ℕ) (p : Pos) → Type 0
 AsksSpellings key names text w p = (length key ≤ longest_key) × (w ≤ widest) × (p.why ≡ 0) × Inside (bits_of_bytes key) (length names) (length text) p
 
-abbrev pub TakesSpelling : (key names text : Lent) (w : ℕ) (p q : Pos) → Type 0
+abbrev pub TakesSpelling : (key : Lent) (names text : Filled) (w : ℕ) (p q : Pos) → Type 0
 TakesSpelling key names text w p q =
     SpellingIn (bits_in key) (long names) (long text) w p names.entry.now text.entry.now q names.exit.now text.exit.now
 
-abbrev pub TakesSpellings : (key names text : Lent) (w n : ℕ) (p q : Pos) → Type 0
+abbrev pub TakesSpellings : (key : Lent) (names text : Filled) (w n : ℕ) (p q : Pos) → Type 0
 TakesSpellings key names text w n p q =
     SpellingsIn (bits_in key) (long names) (long text) w n p names.entry.now text.entry.now q names.exit.now text.exit.now

@@ -8,7 +8,7 @@ use Rattle.keys.specs.Stored.{Base, base, Stored, Own}
 use Rattle.node_table.specs.Forms.{form_of, form_by, entry_of, spelling_if, table_most}
 use Rattle.node_table.specs.declared.forms.Row.{Row}
 use Rattle.key_parts.specs.Runs.{Ran, halt, after, form_run}
-use Rattle.key_parts.specs.Place.{state_at, Inside, fill_at, Lent, bits_in, long}
+use Rattle.key_parts.specs.Place.{state_at, Inside, fill_at, Lent, Filled, bits_in, long}
 use Rattle.key_parts.specs.Spelling.{NamesIn}
 use Rattle.key_parts.specs.Widths.{Spans, Sized}
 use Rattle.key_parts.specs.declared.place.Pos.{Pos}
@@ -89,10 +89,10 @@ AsksPlain forms key names text steps r s =
     (length key ≤ longest_key) × Steady (bits_of_bytes key) (length names) (length text) s × Sized r × (r.op ≡ 1 → ⊥) × (r.op ≡ 3 → ⊥)
     × Spans (form_by forms (form_of forms steps) s.n (entry_of r) r.op) (choices_wide - s.shift)
 
-abbrev pub TakesPlain : (forms key names text : Lent) (steps : ℕ) (r : Row) (s q : Fill) → Type 0
+abbrev pub TakesPlain : (forms key : Lent) (names text : Filled) (steps : ℕ) (r : Row) (s q : Fill) → Type 0
 TakesPlain forms key names text steps r s q =
     PlainIn (bits_in key) (long names) (long text) forms.entry.now steps r s names.entry.now text.entry.now q names.exit.now text.exit.now
 
-abbrev pub TakesAfter : (key names text : Lent) (w : ℕ) (s q : Fill) → Type 0
+abbrev pub TakesAfter : (key : Lent) (names text : Filled) (w : ℕ) (s q : Fill) → Type 0
 TakesAfter key names text w s q =
     AfterIn (bits_in key) (long names) (long text) w s names.entry.now text.entry.now q names.exit.now text.exit.now

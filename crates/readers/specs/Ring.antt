@@ -1,6 +1,6 @@
 -- What the readers of the ring ask and answer, each over what it is lent.
 use Rattle.std.specs.Prelude.{◌≡◌, Bool, true, List, [], ℕ, ◌+◌, ◌*◌, ◌^◌, ◌≤◌, ◌<◌, length}
-use Rattle.std.specs.Borrow.{Bor}
+use Rattle.std.specs.Borrow.{Bor, MutBor}
 use denote.Triple.Both.{Both}
 use Rattle.words.specs.Limits.{most_tokens, tallest}
 use Rattle.words.specs.Class.{class_words}
@@ -30,6 +30,10 @@ use Rattle.functions.specs.declared.function.Params.{Params}
 -- A slice at a function's two moments.
 abbrev pub Lent : Type 0
 Lent = Both (Bor (List ℕ)) (Bor (List ℕ))
+
+-- One that is lent to be filled.
+abbrev pub Filled : Type 0
+Filled = Both (MutBor (List ℕ)) (MutBor (List ℕ))
 
 -- ---- Words of the contracts
 
@@ -78,32 +82,32 @@ abbrev pub Rule : Type 0 → Type 0
 Rule A = rule.Given → State → Result A
 
 -- What the rule comes to there.
-abbrev pub at : {A : Type 0} → Rule A → (text words : Lent) → Given → Mark → (notes : Lent) → Result A
+abbrev pub at : {A : Type 0} → Rule A → (text words : Lent) → Given → Mark → (notes : Filled) → Result A
 at r text words given m notes = r (given_of text.entry.now words.entry.now given) (view m notes.entry.now)
 
 -- What stood in the slices at a mark.
-abbrev pub was_in : Mark → (nodes names notes : Lent) → Was
+abbrev pub was_in : Mark → (nodes names notes : Filled) → Was
 was_in m nodes names notes = was m nodes.entry.now names.entry.now notes.entry.now
 
 -- What a rule reads at m, a tree of class c, stands in the slices since B; or it is refused.
-abbrev pub SaysSince : (c : ℕ) → Was → Rule Placed → (text words : Lent) → Given → Mark → (nodes names notes : Lent) → Answer → Type 0
+abbrev pub SaysSince : (c : ℕ) → Was → Rule Placed → (text words : Lent) → Given → Mark → (nodes names notes : Filled) → Answer → Type 0
 SaysSince c B r text words given m nodes names notes a =
     Says c B (at r text words given m notes) a nodes.exit.now names.exit.now notes.exit.now
 
 -- The same of a rule that begins at m.
-abbrev pub Reads : (c : ℕ) → Rule Placed → (text words : Lent) → Given → Mark → (nodes names notes : Lent) → Answer → Type 0
+abbrev pub Reads : (c : ℕ) → Rule Placed → (text words : Lent) → Given → Mark → (nodes names notes : Filled) → Answer → Type 0
 Reads c r text words given m nodes names notes a = SaysSince c (was_in m nodes names notes) r text words given m nodes names notes a
 
 -- The same of an optional list.
-abbrev pub ReadsList : (c : ℕ) → Rule (Opt (List Placed)) → (text words : Lent) → Given → Mark → (nodes names notes : Lent) → Listed → Type 0
+abbrev pub ReadsList : (c : ℕ) → Rule (Opt (List Placed)) → (text words : Lent) → Given → Mark → (nodes names notes : Filled) → Listed → Type 0
 ReadsList c r text words given m nodes names notes l =
     SaysList c (was_in m nodes names notes) done (at r text words given m notes) l nodes.exit.now names.exit.now notes.exit.now
 
 -- A tree stood in the slices since B, or children of a node.
-abbrev pub StoodIn : Was → Placed → ℕ → Mark → (nodes names notes : Lent) → Type 0
+abbrev pub StoodIn : Was → Placed → ℕ → Mark → (nodes names notes : Filled) → Type 0
 StoodIn B u high m nodes names notes = Stands 0 B u high m nodes.entry.now names.entry.now notes.entry.now
 
-abbrev pub BuiltIn : Was → Run → Kids → Mark → (nodes names notes : Lent) → Type 0
+abbrev pub BuiltIn : Was → Run → Kids → Mark → (nodes names notes : Filled) → Type 0
 BuiltIn B t k m nodes names notes = BuiltAt B t k m nodes.entry.now names.entry.now notes.entry.now
 
 -- The answer stays within what there is.
@@ -123,7 +127,7 @@ Onward m a = a.why ≡ 0 → Past (place_of m + 1) (m.used + 1) a.m
 -- ---- A type that is one child more
 
 -- Behind any children that stand.
-abbrev pub Child : Rule Placed → (text words : Lent) → Given → Kids → Mark → (nodes names notes : Lent) → Listed → Type 0
+abbrev pub Child : Rule Placed → (text words : Lent) → Given → Kids → Mark → (nodes names notes : Filled) → Listed → Type 0
 Child r text words given k m nodes names notes l =
     (B : Was) (t : Run) → BuiltIn B t k m nodes names notes
     → SaysChild B t (at r text words given m notes) l nodes.exit.now names.exit.now notes.exit.now
@@ -133,7 +137,7 @@ abbrev pub OnwardChild : Kids → Mark → Listed → Type 0
 OnwardChild k m l = l.why ≡ 0 → Past (place_of m + 1) (m.used + 1) l.m × (l.kids.count ≡ k.count + 1) × (l.there ≡ true)
 
 -- The same of a type that may be absent.
-abbrev pub Option : Rule (Opt Placed) → (text words : Lent) → Given → Kids → Mark → (nodes names notes : Lent) → Listed → Type 0
+abbrev pub Option : Rule (Opt Placed) → (text words : Lent) → Given → Kids → Mark → (nodes names notes : Filled) → Listed → Type 0
 Option r text words given k m nodes names notes l =
     (B : Was) (t : Run) → BuiltIn B t k m nodes names notes
     → SaysOption B t (at r text words given m notes) l nodes.exit.now names.exit.now notes.exit.now
@@ -141,19 +145,19 @@ Option r text words given k m nodes names notes l =
 -- ---- What goes on behind a tree or behind children
 
 -- Behind a tree u that was read since B, with a node that begins with it: what the rule makes of it.
-abbrev pub Behind : (Placed → Rule Placed) → (text words : Lent) → Given → Begin → ℕ → Mark → (nodes names notes : Lent) → Answer → Type 0
+abbrev pub Behind : (Placed → Rule Placed) → (text words : Lent) → Given → Begin → ℕ → Mark → (nodes names notes : Filled) → Answer → Type 0
 Behind r text words given b high m nodes names notes a =
     (B : Was) (u : Placed) → StoodIn B u high m nodes names notes → b.name ≡ B.named → SaysSince 0 B (r u) text words given m nodes names notes a
 
 -- Parameters in their brackets behind children; the type of a constructor's `this` is none of them.
-abbrev pub ReadsParams : (text words : Lent) → Given → (isNew : Bool) → Kids → Mark → (nodes names notes : Lent) → Params → Type 0
+abbrev pub ReadsParams : (text words : Lent) → Given → (isNew : Bool) → Kids → Mark → (nodes names notes : Filled) → Params → Type 0
 ReadsParams text words given isNew k m nodes names notes p =
     (B : Was) (t : Run) → BuiltIn B t k m nodes names notes
     → SaysParams B t (this_run isNew) (at (λ g. function.parameters g (below given g) isNew) text words given m notes) p
     nodes.exit.now names.exit.now notes.exit.now
 
 -- The others behind a `this`.
-abbrev pub ReadsOthers : (text words : Lent) → Given → This → Kids → Mark → (nodes names notes : Lent) → Params → Type 0
+abbrev pub ReadsOthers : (text words : Lent) → Given → This → Kids → Mark → (nodes names notes : Filled) → Params → Type 0
 ReadsOthers text words given this k m nodes names notes p =
     (B : Was) (t : Run) (th : Opt ThisParameter) → BuiltIn B t k m nodes names notes → ThisIs this th
     → SaysRest B t th (at (λ g. function.parameters_from g (below given g) th (turns g) []) text words given m notes) p
@@ -162,17 +166,17 @@ ReadsOthers text words given this k m nodes names notes p =
 -- ---- Behind the head of a member that begins at b
 
 -- Names alone stood in the slices since B.
-abbrev pub SpokenIn : Was → List Spelling → Mark → (nodes names notes : Lent) → Type 0
+abbrev pub SpokenIn : Was → List Spelling → Mark → (nodes names notes : Filled) → Type 0
 SpokenIn B ss m nodes names notes = Laid B (names_run ss) m.used m.named m.noted nodes.entry.now names.entry.now notes.entry.now
 
 -- The signature that the head's choices say, behind its names.
-abbrev pub ReadsSignature : (text words : Lent) → Given → Begin → (head : ℕ) → Mark → (nodes names notes : Lent) → Answer → Type 0
+abbrev pub ReadsSignature : (text words : Lent) → Given → Begin → (head : ℕ) → Mark → (nodes names notes : Filled) → Answer → Type 0
 ReadsSignature text words given b head m nodes names notes a =
     (B : Was) (x : Signature) → SpokenIn B (signature_names x) m nodes names notes → b.name ≡ B.named → head ≡ signature_head x
     → SaysSince 6 B (λ g. object.signature g (below given g) b.first x) text words given m nodes names notes a
 
 -- The index signature, readonly or not by the head's choices, from its `[` on.
-abbrev pub ReadsIndex : (text words : Lent) → Given → Begin → (head : ℕ) → Mark → (nodes names notes : Lent) → Answer → Type 0
+abbrev pub ReadsIndex : (text words : Lent) → Given → Begin → (head : ℕ) → Mark → (nodes names notes : Filled) → Answer → Type 0
 ReadsIndex text words given b head m nodes names notes a =
     (B : Was) (readonly : Bool) → SpokenIn B [] m nodes names notes → b.name ≡ B.named → head ≡ index_head readonly
     → SaysSince 6 B (λ g. object.index g (below given g) b.first readonly) text words given m nodes names notes a

@@ -10,7 +10,7 @@ use lib.ListN.{length, drop, length-append, length-drop}
 use lib.Seq.{drop_at, drop-drop}
 use Rattle.keys.specs.Bits.{Bits, bits_of, Field, short, field, take_field, bits_of_bytes, Row, cut, row, take_bytes}
 use Rattle.keys.proofs.BitsLaws.{clash, length_bits, length_bytes, take_back_lem, bytes_back, Written, Spelled}
-use Rattle.keys.specs.Form.{Value, nothing, spelt, choice, pair, node, Form, never, one, word, choose, both, child, Grammar, is_never, write, State, state, Result, got, stop, stop_at, into, and_then, allowed, if_whole, take_choice, keep, take_letters, take_length, take_spelling, take_room, take_form, take_node}
+use Rattle.keys.specs.Form.{Value, nothing, spelt, choice, pair, node, Form, never, one, word, choose, both, child, Grammar, is_never, width, branch, left, right, write, State, state, Result, got, stop, stop_at, into, and_then, allowed, if_whole, take_choice, keep, take_letters, take_length, take_spelling, take_room, take_form, take_node}
 use Rattle.keys.specs.Limits.{bad_key, too_tall, no_space}
 use Rattle.differs.specs.Content.{Content, ends, chooses, spells, content}
 use Rattle.sound_keys.specs.Sound.{Scan, reads, fails, ◌⊕◌, after, then_read, as_node, read_allowed, read_whole, read_letters, read_length, read_choice, read_spelling, read_form, read_node}
@@ -32,8 +32,10 @@ pub data Eager : Form → Type 0 where
 content_join : (G : Grammar) (f : Form) (v : Value) (a : ℕ) (c d : Content) → content G f v a c ⊕ d ≡ content G f v a (c ⊕ d)
 content_join G f nothing a c d = refl
 content_join G f (spelt s) a c d = refl
-content_join G f (choice k v) a c d = ap (chooses k) (content_join G _ v _ c d)
-content_join G f (pair v w) a c d = content_join G _ v a _ d ∙ ap (content G _ v a) (content_join G _ w _ c d)
+content_join G f (choice k v) a c d = ap (chooses k) (content_join G (branch f k) v (a + width f) c d)
+content_join G f (pair v w) a c d =
+    content_join G (left f) v a (content G (right f) w (a + length (write G (left f) v)) c) d
+    ∙ ap (content G (left f) v a) (content_join G (right f) w (a + length (write G (left f) v)) c d)
 content_join G f (node t v) a c d = refl
 
 module _ (all : Bits) (G : Grammar) where

@@ -175,7 +175,7 @@ fn check_after(key: &[u8], w: usize, bit: usize) -> Check
 }
 
 // A node of a class, with room for `left` nodes one above the other: it meets 10 at its tag, 6, then its fields in order.
-#[cycle(check_node_check_nodes_check_rest)]
+#[cycle(check)]
 fn check_node(forms: &[u16], key: &[u8], class: usize, left: usize, bit: usize) -> Check
     requires { (length key.now ≤ longest_key) × (bit ≤ length key.now * 8) × (class < 2 ^ 32) × Narrow forms.now }
     ensures { check.ComesTo (length (bits_of_bytes key.now)) (check.read_node (bits_of_bytes key.now) (grammar_of forms.now) left class bit) result }
@@ -193,7 +193,7 @@ fn check_node(forms: &[u16], key: &[u8], class: usize, left: usize, bit: usize) 
 }
 
 // What is left of a node from a form on.
-#[cycle(check_node_check_nodes_check_rest)]
+#[cycle(check)]
 pub fn check_rest(forms: &[u16], key: &[u8], left: usize, steps: usize, from: Spot) -> Check
     requires { (length key.now ≤ longest_key) × check.Spotted (length key.now * 8) from × Narrow forms.now }
     ensures { check.ReadsRest forms key left steps from result }
@@ -223,7 +223,7 @@ pub fn check_rest(forms: &[u16], key: &[u8], left: usize, steps: usize, from: Sp
 }
 
 // n nodes, one after the other, a spelling after each if its length has any bits.
-#[cycle(check_node_check_nodes_check_rest)]
+#[cycle(check)]
 fn check_nodes(forms: &[u16], key: &[u8], left: usize, r: Row, s: Spot) -> Spot
     requires { (length key.now ≤ longest_key) × check.Spotted (length key.now * 8) s × Sized r × Narrow forms.now }
     ensures { check.NodesOn (bits_of_bytes key.now) (grammar_of forms.now) left r s result }

@@ -1,6 +1,6 @@
 -- The walk of two keys together: what stands in the list, and what its functions answer (02, W9).
 use Rattle.std.specs.Prelude.{List, [], ◌∷◌, ◌++◌, ◌≡◌, ℕ, ◌+◌, ◌*◌, ◌^◌, ◌≤◌, ◌<◌, length, take}
-use Rattle.std.specs.Borrow.{Bor}
+use Rattle.std.specs.Borrow.{Bor, MutBor}
 use denote.Triple.Both.{Both as Moments}
 use Rattle.words.specs.Test.{same}
 use Rattle.keys.specs.Bits.{Bits, bits_of_bytes}
@@ -170,9 +170,13 @@ AsksNodes forms others left right high class w v n p =
 
 -- ---- What the functions answer over what is lent
 
--- A slice at a function's two moments.
+-- A slice at a function's two moments, lent to be read.
 abbrev pub Lent : Type 0
 Lent = Moments (Bor (List ℕ)) (Bor (List ℕ))
+
+-- The same, lent to be written.
+abbrev pub Filled : Type 0
+Filled = Moments (MutBor (List ℕ)) (MutBor (List ℕ))
 
 -- The bits of a key that is lent.
 abbrev pub bits_in : Lent → Bits
@@ -186,17 +190,17 @@ nodes_by forms key high = read_node (bits_in key) (grammar_of forms.entry.now) h
 abbrev pub form_at : Lent → ℕ → Jump → Form
 form_at forms steps j = form_of forms.entry.now steps j.n j.form
 
-abbrev pub Parts : (forms left right list : Lent) (high steps : ℕ) (at : Both) (j k : Jump) (first q : Both) → Type 0
+abbrev pub Parts : (forms left right : Lent) (list : Filled) (high steps : ℕ) (at : Both) (j k : Jump) (first q : Both) → Type 0
 Parts forms left right list high steps at j k first q =
     Parted (bits_in left) (bits_in right) (nodes_by forms left high) (nodes_by forms right high) (form_at forms steps j) (form_at forms steps k) at first q list.entry.now list.exit.now
 
-abbrev pub Rests : (forms left right list : Lent) (high steps : ℕ) (from : Jump) (at first q : Both) → Type 0
+abbrev pub Rests : (forms left right : Lent) (list : Filled) (high steps : ℕ) (from : Jump) (at first q : Both) → Type 0
 Rests forms left right list high steps from at first q =
     Rested (bits_in left) (bits_in right) (nodes_by forms left high) (nodes_by forms right high) (form_at forms steps from) (form_at forms steps from) at first q list.entry.now list.exit.now
 
-abbrev pub Walks : (forms left right list : Lent) (high class : ℕ) (p q : Both) → Type 0
+abbrev pub Walks : (forms left right : Lent) (list : Filled) (high class : ℕ) (p q : Both) → Type 0
 Walks forms left right list high class p q = Walked (bits_in left) (bits_in right) (grammar_of forms.entry.now) high class p q list.entry.now list.exit.now
 
-abbrev pub WalksAll : (forms left right list : Lent) (high class w v n : ℕ) (p q : Both) → Type 0
+abbrev pub WalksAll : (forms left right : Lent) (list : Filled) (high class w v n : ℕ) (p q : Both) → Type 0
 WalksAll forms left right list high class w v n p q =
     WalkedAll (bits_in left) (bits_in right) (grammar_of forms.entry.now) high class w v n p q list.entry.now list.exit.now

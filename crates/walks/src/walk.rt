@@ -179,7 +179,7 @@ fn apart(
 }
 
 // Two nodes of a class, with room for `high` nodes one above the other.
-#[cycle(walk_node_walk_nodes_walk_rest)]
+#[cycle(walk)]
 pub fn walk_node(
     forms: &[u16],
     others: &[u16],
@@ -224,7 +224,7 @@ pub fn walk_node(
 }
 
 // What is left of two nodes whose choices so far are the same, from a form on; the nodes begin at `first`.
-#[cycle(walk_node_walk_nodes_walk_rest)]
+#[cycle(walk)]
 fn walk_rest(
     forms: &[u16],
     others: &[u16],
@@ -292,7 +292,7 @@ fn walk_rest(
 }
 
 // n nodes on each side, one after the other, a spelling after each if its length has any bits.
-#[cycle(walk_node_walk_nodes_walk_rest)]
+#[cycle(walk)]
 fn walk_nodes(
     forms: &[u16],
     others: &[u16],

@@ -21,5 +21,8 @@ function_choices-choices-requires c =
 
 pub returns : goal.returns
 returns c =
-    record { makes_function = function_put c.args.words.now c.args.given c.args.h c.args.there c.args.count c.args.p c.args.nodes.now c.args.notes.now c.if-h.false (sym c.too_long.ensures ∙ c.if-too_long.false)
-          c.function_choices-choices.ensures c.put.ensures.makes; reached = reached_put c.args.p.m refl c.requires.2 (omega arith) (omega arith) c.put.ensures.put }
+    record {
+      makes_function = function_put c.args.words.now c.args.given c.args.h c.args.there c.args.count c.args.p c.args.nodes.now c.args.notes.now c.if-h.false (sym c.too_long.ensures ∙ c.if-too_long.false)
+          c.function_choices-choices.ensures c.put.ensures.makes;
+      reached = reached_put c.args.p.m refl c.requires.2 (omega arith) (omega arith) c.put.ensures.put;
+    }

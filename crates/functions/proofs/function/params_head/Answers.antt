@@ -32,12 +32,18 @@ returns-then-kind_at-ne-L_PAREN c =
 
 pub returns-then-kind_at-ne-THIS : goal.returns-then-kind_at-ne-THIS
 returns-then-kind_at-ne-THIS c =
-    record { opens = plain (is_here c.args.words.now c.args.m c.kind_at.ensures.value c.if-kind_at-ne-L_PAREN.false) (subst (λ (q : Mark). here c.args.words.now This q ≡ false) c.next-p.ensures (is_not_here c.args.words.now c.next-p.result c.kind_at-2.ensures.value c.if-kind_at-ne-THIS.true))
-          (ap (λ (q : Mark). let h : Head = record { why = 0; choices = 0; m = q } in h) c.next-p.ensures); moved = rw c.next-p.ensures (moved_next c.requires.1 (omega (arith, c.kind_at.ensures.upper_bound, c.if-kind_at-ne-L_PAREN.false)), omega (arith, c.requires.1.half)) }
+    record {
+      opens = plain (is_here c.args.words.now c.args.m c.kind_at.ensures.value c.if-kind_at-ne-L_PAREN.false) (subst (λ (q : Mark). here c.args.words.now This q ≡ false) c.next-p.ensures (is_not_here c.args.words.now c.next-p.result c.kind_at-2.ensures.value c.if-kind_at-ne-THIS.true))
+          (ap (λ (q : Mark). let h : Head = record { why = 0; choices = 0; m = q } in h) c.next-p.ensures);
+      moved = rw c.next-p.ensures (moved_next c.requires.1 (omega (arith, c.kind_at.ensures.upper_bound, c.if-kind_at-ne-L_PAREN.false)), omega (arith, c.requires.1.half));
+    }
 
 pub returns : goal.returns
 returns c =
     let e : c.next.result ≡ next_mark (next_mark c.args.m) = c.next.ensures ∙ ap next_mark c.next-p.ensures in
     let more : c.args.m.at + 1 < length c.args.words.now = omega (arith, c.kind_at-2.ensures.upper_bound, c.if-kind_at-ne-THIS.false, ap (λ (q : Mark). q.at) c.next-p.ensures) in
-    record { opens = this (is_here c.args.words.now c.args.m c.kind_at.ensures.value c.if-kind_at-ne-L_PAREN.false) (subst (λ (q : Mark). here c.args.words.now This q ≡ true) c.next-p.ensures (is_here c.args.words.now c.next-p.result c.kind_at-2.ensures.value c.if-kind_at-ne-THIS.false))
-          (ap (λ (q : Mark). let h : Head = record { why = 0; choices = 1; m = q } in h) e); moved = rw e (moved_twice c.requires.1 more, omega (arith, c.requires.1.half)) }
+    record {
+      opens = this (is_here c.args.words.now c.args.m c.kind_at.ensures.value c.if-kind_at-ne-L_PAREN.false) (subst (λ (q : Mark). here c.args.words.now This q ≡ true) c.next-p.ensures (is_here c.args.words.now c.next-p.result c.kind_at-2.ensures.value c.if-kind_at-ne-THIS.false))
+          (ap (λ (q : Mark). let h : Head = record { why = 0; choices = 1; m = q } in h) e);
+      moved = rw e (moved_twice c.requires.1 more, omega (arith, c.requires.1.half));
+    }

@@ -13,9 +13,8 @@ first_byte-requires c =
     search rules
 
 pub returns : goal.returns
-returns c =
- (
-      ap (λ (n : ℕ). 1 + 2 * n) c.opt_bit.ensures.value,
-      c.first_byte.ensures.value ∙ ap (λ (q : Mark). first_byte c.args.words.now q.at q.half) c.next.ensures,
-      c.end_byte.ensures.value,
-    )
+returns c = (
+  ap (λ (n : ℕ). 1 + 2 * n) c.opt_bit.ensures.value,
+  c.first_byte.ensures.value ∙ ap (λ (q : Mark). first_byte c.args.words.now q.at q.half) c.next.ensures,
+  c.end_byte.ensures.value,
+)

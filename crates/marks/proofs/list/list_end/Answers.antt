@@ -20,8 +20,11 @@ report_if-a-requires c =
 
 pub returns-then-a-ne0 : goal.returns-then-a-ne0
 returns-then-a-ne0 c =
-    record { ends = ends_refused c.args.words.now c.args.given c.args.number c.args.first c.args.k c.args.m c.args.notes.now c.next-p.ensures c.end_byte.ensures.value c.report_if-a.ensures.reports c.if-a-ne0.true c.refused.ensures; ends_at = subst (λ (r : Listed). EndsAt c.args.given c.args.m r) (sym c.refused.ensures)
-          (ends_at c.report_if-a.result.why false c.next-p.ensures c.report_if-a.ensures.noted (record { first = omega arith; count = omega arith; some = omega arith; low = omega arith })) }
+    record {
+      ends = ends_refused c.args.words.now c.args.given c.args.number c.args.first c.args.k c.args.m c.args.notes.now c.next-p.ensures c.end_byte.ensures.value c.report_if-a.ensures.reports c.if-a-ne0.true c.refused.ensures;
+      ends_at = subst (λ (r : Listed). EndsAt c.args.given c.args.m r) (sym c.refused.ensures)
+          (ends_at c.report_if-a.result.why false c.next-p.ensures c.report_if-a.ensures.noted (record { first = omega arith; count = omega arith; some = omega arith; low = omega arith }));
+    }
 
 pub returns : goal.returns
 returns c =

@@ -14,6 +14,9 @@ returns-then-a-ne0 c =
 
 pub returns : goal.returns
 returns c =
-    record { starts_bound = λ text w.
+    record {
+      starts_bound = λ text w.
           bound_named text c.args.words.now c.args.given c.args.m c.args.names.now c.args.notes.now ((c.name-a.ensures.starts_names text c.args.notes.now c.args.given w).done c.if-a-ne0.false)
-          (reports_as (c.reserved.ensures ∙ ap isReserved c.kind_at.ensures.value) c.first_byte.ensures.value c.end_byte.ensures.value c.report_if.ensures.reports) c.report_if.ensures.noted; stepped = (stepped_noted (fine_along c.requires.2 c.name-a.ensures.along.0) c.name-a.ensures.along.0.onward c.name-a.ensures.along.0.used_is c.report_if.ensures.noted, omega (arith, c.name-a.ensures.along.1, c.if-a-ne0.false, c.report_if.ensures.noted.at_is)) }
+          (reports_as (c.reserved.ensures ∙ ap isReserved c.kind_at.ensures.value) c.first_byte.ensures.value c.end_byte.ensures.value c.report_if.ensures.reports) c.report_if.ensures.noted;
+      stepped = (stepped_noted (fine_along c.requires.2 c.name-a.ensures.along.0) c.name-a.ensures.along.0.onward c.name-a.ensures.along.0.used_is c.report_if.ensures.noted, omega (arith, c.name-a.ensures.along.1, c.if-a-ne0.false, c.report_if.ensures.noted.at_is));
+    }

@@ -8,15 +8,14 @@ use borrow.Author.Rules.{rules}
 use Rattle.marks.proofs.node.put_about.Goals as goal
 
 pub put-requires : goal.put-requires
-put-requires c =
- (
-      c.requires.0,
-      c.requires.1,
-      c.requires.2,
-      subst (λ (k : Kids). Under c.args.m.used k) (sym c.one.ensures) (record { first = omega arith; count = omega arith; some = omega arith; low = omega arith }),
-      c.requires.5,
-      c.requires.6,
-    )
+put-requires c = (
+  c.requires.0,
+  c.requires.1,
+  c.requires.2,
+  subst (λ (k : Kids). Under c.args.m.used k) (sym c.one.ensures) (record { first = omega arith; count = omega arith; some = omega arith; low = omega arith }),
+  c.requires.5,
+  c.requires.6,
+)
 
 pub returns : goal.returns
 returns c =

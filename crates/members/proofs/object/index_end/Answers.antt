@@ -38,5 +38,8 @@ pub returns : goal.returns
 returns c =
     let inside = kind_inside (λ k. eqb k RBrack) c.args.words.now c.args.m.at c.args.m.half refl (eq-eqb (kind_at c.args.words.now c.args.m.at c.args.m.half) RBrack c.requires.3) in
     let stands = stepped_noted {m = c.args.m} (subst (λ (x : Mark). Fine (length c.args.words.now) c.args.given x) (sym c.next-p.ensures) (fine_next c.requires.2 inside)) (omega (arith, c.requires.2.half, ap (λ (x : Mark). x.at) c.next-p.ensures)) (ap (λ (x : Mark). x.used) c.next-p.ensures) c.note_index-a.ensures.noted in
-    record { ends_index = end_colon c.args.words.now c.args.given c.args.b c.args.first c.args.ps c.args.m c.next-p.result c.args.nodes.now c.args.notes.now (eq-eqb (kind_at c.args.words.now c.args.m.at c.args.m.half) RBrack c.requires.3) c.next-p.ensures c.end_byte.ensures.value c.note_index-a.ensures.notes_index c.if-a-ne0.false (is_here c.args.words.now c.note_index-a.result.m c.kind_at.ensures.value c.if-kind_at-ne-COLON.false) c.taken.ensures c.next.ensures; stepped = rw c.taken.ensures
-          (stepped_then stands (moved_taken c.next.ensures (record { inside = stands.fine.inside; half = stands.fine.half }) (omega (arith, c.kind_at.ensures.upper_bound, c.if-kind_at-ne-COLON.false)))) }
+    record {
+      ends_index = end_colon c.args.words.now c.args.given c.args.b c.args.first c.args.ps c.args.m c.next-p.result c.args.nodes.now c.args.notes.now (eq-eqb (kind_at c.args.words.now c.args.m.at c.args.m.half) RBrack c.requires.3) c.next-p.ensures c.end_byte.ensures.value c.note_index-a.ensures.notes_index c.if-a-ne0.false (is_here c.args.words.now c.note_index-a.result.m c.kind_at.ensures.value c.if-kind_at-ne-COLON.false) c.taken.ensures c.next.ensures;
+      stepped = rw c.taken.ensures
+          (stepped_then stands (moved_taken c.next.ensures (record { inside = stands.fine.inside; half = stands.fine.half }) (omega (arith, c.kind_at.ensures.upper_bound, c.if-kind_at-ne-COLON.false))));
+    }

@@ -37,9 +37,12 @@ shape_of-names-then-kind_at-ne-COLON c =
 
 pub returns-then-kind_at-ne-COLON : goal.returns-then-kind_at-ne-COLON
 returns-then-kind_at-ne-COLON c =
-    record { starts_bound = λ text w.
+    record {
+      starts_bound = λ text w.
           index_no_colon text c.args.words.now c.args.given c.args.m c.args.names.now c.args.notes.now ((c.name-n.ensures.starts_names text c.args.notes.now c.args.given w).done c.if-n-ne0.false) (reports_as (ap (λ (n : ℕ). eqb n Question) c.kind_at.ensures.value) c.first_byte.ensures.value (c.end_byte.ensures.value ∙ ap (λ (x : Mark). end_byte c.args.words.now x.at x.half) c.next.ensures) c.report_if-a.ensures.reports) c.if-a-ne0.false c.past-q.ensures.value
-          (is_not_here c.args.words.now c.past-q.result c.kind_at-2.ensures.value c.if-kind_at-ne-COLON.true) c.refused.ensures; stepped = rw c.refused.ensures (stepped_then (stepped_noted (fine_along c.requires.2 c.name-n.ensures.along.0) c.name-n.ensures.along.0.onward c.name-n.ensures.along.0.used_is c.report_if-a.ensures.noted) c.past-q.ensures.moved, omega (arith, c.name-n.ensures.along.1, c.if-n-ne0.false, c.report_if-a.ensures.noted.at_is, c.past-q.ensures.moved.ahead)) }
+          (is_not_here c.args.words.now c.past-q.result c.kind_at-2.ensures.value c.if-kind_at-ne-COLON.true) c.refused.ensures;
+      stepped = rw c.refused.ensures (stepped_then (stepped_noted (fine_along c.requires.2 c.name-n.ensures.along.0) c.name-n.ensures.along.0.onward c.name-n.ensures.along.0.used_is c.report_if-a.ensures.noted) c.past-q.ensures.moved, omega (arith, c.name-n.ensures.along.1, c.if-n-ne0.false, c.report_if-a.ensures.noted.at_is, c.past-q.ensures.moved.ahead));
+    }
 
 pub next-requires-2 : goal.next-requires-2
 next-requires-2 c =
@@ -53,6 +56,9 @@ pub returns : goal.returns
 returns c =
     let inside : c.past-q.result.at < length c.args.words.now = omega (arith, c.kind_at-2.ensures.upper_bound, c.if-kind_at-ne-COLON.false) in
     let moved = moved_then c.past-q.ensures.moved (moved_taken c.next-2.ensures (inside_moved c.past-q.ensures.moved) inside) in
-    record { starts_bound = λ text w.
+    record {
+      starts_bound = λ text w.
           index_colon text c.args.words.now c.args.given c.args.m c.args.names.now c.args.notes.now ((c.name-n.ensures.starts_names text c.args.notes.now c.args.given w).done c.if-n-ne0.false) (reports_as (ap (λ (n : ℕ). eqb n Question) c.kind_at.ensures.value) c.first_byte.ensures.value (c.end_byte.ensures.value ∙ ap (λ (x : Mark). end_byte c.args.words.now x.at x.half) c.next.ensures) c.report_if-a.ensures.reports) c.if-a-ne0.false c.past-q.ensures.value
-          (is_here c.args.words.now c.past-q.result c.kind_at-2.ensures.value c.if-kind_at-ne-COLON.false) c.taken.ensures c.next-2.ensures c.report_if-a.ensures.noted c.past-q.ensures.moved; stepped = rw c.taken.ensures (stepped_then (stepped_noted (fine_along c.requires.2 c.name-n.ensures.along.0) c.name-n.ensures.along.0.onward c.name-n.ensures.along.0.used_is c.report_if-a.ensures.noted) moved, omega (arith, c.name-n.ensures.along.1, c.if-n-ne0.false, c.report_if-a.ensures.noted.at_is, moved.ahead)) }
+          (is_here c.args.words.now c.past-q.result c.kind_at-2.ensures.value c.if-kind_at-ne-COLON.false) c.taken.ensures c.next-2.ensures c.report_if-a.ensures.noted c.past-q.ensures.moved;
+      stepped = rw c.taken.ensures (stepped_then (stepped_noted (fine_along c.requires.2 c.name-n.ensures.along.0) c.name-n.ensures.along.0.onward c.name-n.ensures.along.0.used_is c.report_if-a.ensures.noted) moved, omega (arith, c.name-n.ensures.along.1, c.if-n-ne0.false, c.report_if-a.ensures.noted.at_is, moved.ahead));
+    }

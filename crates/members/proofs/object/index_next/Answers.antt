@@ -34,6 +34,9 @@ report_if-requires c =
 pub returns : goal.returns
 returns c =
     let inside : c.args.m.at < length c.args.words.now = omega (arith, c.kind_at-kind.ensures.upper_bound, c.if-kind-ne-COMMA.false) in
-    record { by_index = λ text.
+    record {
+      by_index = λ text.
           next_goes text c.args.words.now c.args.given c.args.m c.args.notes.now (is_not_here c.args.words.now c.args.m c.kind_at-kind.ensures.value c.if-kind-eq-R_BRACK.false) (is_here c.args.words.now c.args.m c.kind_at-kind.ensures.value c.if-kind-ne-COMMA.false) c.next-p.ensures
-          (reports_as (ap (λ (n : ℕ). eqb n RBrack) c.kind_at.ensures.value) c.first_byte.ensures.value c.end_byte.ensures.value c.report_if.ensures.reports) c.report_if.ensures.noted; stepped = stepped_noted (subst (λ (x : Mark). Fine (length c.args.words.now) c.args.given x) (sym c.next-p.ensures) (fine_next c.requires.1 inside)) (omega (arith, c.requires.1.half, ap (λ (x : Mark). x.at) c.next-p.ensures)) (ap (λ (x : Mark). x.used) c.next-p.ensures) c.report_if.ensures.noted }
+          (reports_as (ap (λ (n : ℕ). eqb n RBrack) c.kind_at.ensures.value) c.first_byte.ensures.value c.end_byte.ensures.value c.report_if.ensures.reports) c.report_if.ensures.noted;
+      stepped = stepped_noted (subst (λ (x : Mark). Fine (length c.args.words.now) c.args.given x) (sym c.next-p.ensures) (fine_next c.requires.1 inside)) (omega (arith, c.requires.1.half, ap (λ (x : Mark). x.at) c.next-p.ensures)) (ap (λ (x : Mark). x.used) c.next-p.ensures) c.report_if.ensures.noted;
+    }

@@ -44,6 +44,9 @@ loop-s-preserved c =
 pub returns : goal.returns
 returns c =
     let here = ap (among rule.operators) (sym c.kind_at.ensures.value) ∙ sym c.operates.ensures ∙ c.loop-s-test.false in
-    record { passes_operators = λ text O given T on.
+    record {
+      passes_operators = λ text O given T on.
           c.loop-s.invariant.1 text O given T on
-          ∙ ap (operators_about (given_of text c.args.words.now given) c.args.m.at (c.loop-s.p.at - c.args.m.at)) (operator_end (given_of text c.args.words.now given) T on (length c.args.words.now - (c.loop-s.p.at - c.args.m.at)) (view c.loop-s.p O) here); moved = (c.loop-s.invariant.0, omega (arith, c.loop-s.invariant.0.ahead)) }
+          ∙ ap (operators_about (given_of text c.args.words.now given) c.args.m.at (c.loop-s.p.at - c.args.m.at)) (operator_end (given_of text c.args.words.now given) T on (length c.args.words.now - (c.loop-s.p.at - c.args.m.at)) (view c.loop-s.p O) here);
+      moved = (c.loop-s.invariant.0, omega (arith, c.loop-s.invariant.0.ahead));
+    }

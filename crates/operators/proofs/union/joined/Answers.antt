@@ -23,5 +23,8 @@ put_list-requires c =
 
 pub returns : goal.returns
 returns c =
-    record { joins = union.joins (sym c.alone.ensures ∙ c.if-alone.false) c.at.result c.at.ensures.first_value.0 c.at.ensures.first_value.1 c.link-l.result _ c.link-l.ensures.links c.link-l.ensures.under.1
-          c.put_list.ensures.makes_list; joined_at = omega (arith, c.put_list.ensures.put, c.requires) }
+    record {
+      joins = union.joins (sym c.alone.ensures ∙ c.if-alone.false) c.at.result c.at.ensures.first_value.0 c.at.ensures.first_value.1 c.link-l.result _ c.link-l.ensures.links c.link-l.ensures.under.1
+          c.put_list.ensures.makes_list;
+      joined_at = omega (arith, c.put_list.ensures.put, c.requires);
+    }

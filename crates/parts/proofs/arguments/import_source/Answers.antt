@@ -19,16 +19,22 @@ use Rattle.parts.proofs.arguments.import_source.Goals as goal
 
 pub returns-then-kind_at-ne-L_PAREN : goal.returns-then-kind_at-ne-L_PAREN
 returns-then-kind_at-ne-L_PAREN c =
-    record { starts_names = λ text O given spelt.
+    record {
+      starts_names = λ text O given spelt.
           answer_refused c.refused.result 3 c.args.m (λ z. omega arith) c.refused.ensures
-          (source_none (given_of text c.args.words.now given) (view c.args.m O) (is_not_here c.args.words.now c.args.m c.kind_at.ensures.value c.if-kind_at-ne-L_PAREN.true)); along = subst (λ (a : Answer). Along (length c.args.words.now) c.args.m a.m × (c.args.m.at < a.m.at + a.why)) (sym c.refused.ensures) (along_moved (moved_same c.requires.1), omega arith) }
+          (source_none (given_of text c.args.words.now given) (view c.args.m O) (is_not_here c.args.words.now c.args.m c.kind_at.ensures.value c.if-kind_at-ne-L_PAREN.true));
+      along = subst (λ (a : Answer). Along (length c.args.words.now) c.args.m a.m × (c.args.m.at < a.m.at + a.why)) (sym c.refused.ensures) (along_moved (moved_same c.requires.1), omega arith);
+    }
 
 pub returns-then-kind_at-ne-STR : goal.returns-then-kind_at-ne-STR
 returns-then-kind_at-ne-STR c =
     let is : c.refused-then-kind_at-ne-STR.result ≡ refused_at oddSource (next_mark c.args.m) = c.refused-then-kind_at-ne-STR.ensures ∙ ap (refused_at oddSource) c.next-p.ensures in
-    record { starts_names = λ text O given spelt.
+    record {
+      starts_names = λ text O given spelt.
           answer_refused c.refused-then-kind_at-ne-STR.result oddSource (next_mark c.args.m) (λ z. omega arith) is
-          (source_other (given_of text c.args.words.now given) (view c.args.m O) (is_here c.args.words.now c.args.m c.kind_at.ensures.value c.if-kind_at-ne-L_PAREN.false) (not_at c.args.words.now Str c.next-p.ensures c.kind_at-2.ensures.value c.if-kind_at-ne-STR.true)); along = subst (λ (a : Answer). Along (length c.args.words.now) c.args.m a.m × (c.args.m.at < a.m.at + a.why)) (sym is) (along_moved (moved_next c.requires.1 (omega (arith, c.kind_at.ensures.upper_bound, c.if-kind_at-ne-L_PAREN.false))), omega arith) }
+          (source_other (given_of text c.args.words.now given) (view c.args.m O) (is_here c.args.words.now c.args.m c.kind_at.ensures.value c.if-kind_at-ne-L_PAREN.false) (not_at c.args.words.now Str c.next-p.ensures c.kind_at-2.ensures.value c.if-kind_at-ne-STR.true));
+      along = subst (λ (a : Answer). Along (length c.args.words.now) c.args.m a.m × (c.args.m.at < a.m.at + a.why)) (sym is) (along_moved (moved_next c.requires.1 (omega (arith, c.kind_at.ensures.upper_bound, c.if-kind_at-ne-L_PAREN.false))), omega arith);
+    }
 
 pub spell-q-requires : goal.spell-q-requires
 spell-q-requires c =
@@ -39,18 +45,24 @@ returns-then-kind_at-eq-COMMA c =
     let name : c.spell-q.result ≡ named_mark (next_mark c.args.m) = c.spell-q.ensures.0 ∙ ap named_mark c.next-p.ensures in
     let on : c.args.m.at + 1 < (length c.args.words.now) = omega (arith, c.kind_at-2.ensures.upper_bound, c.if-kind_at-ne-STR.false, ap (λ (q : Mark). q.at) c.next-p.ensures) in
     let is : c.refused-then-kind_at-eq-COMMA.result ≡ refused_at import_options (named_mark (next_mark c.args.m)) = c.refused-then-kind_at-eq-COMMA.ensures ∙ ap (refused_at import_options) name in
-    record { starts_names = λ text O given spelt.
+    record {
+      starts_names = λ text O given spelt.
           answer_refused c.refused-then-kind_at-eq-COMMA.result import_options (named_mark (next_mark c.args.m)) (λ z. omega arith) is
-          (source_comma (given_of text c.args.words.now given) (view c.args.m O) (is_here c.args.words.now c.args.m c.kind_at.ensures.value c.if-kind_at-ne-L_PAREN.false) (is_at c.args.words.now Str c.next-p.ensures c.kind_at-2.ensures.value c.if-kind_at-ne-STR.false) (is_at c.args.words.now Comma name c.kind_at-3.ensures.value c.if-kind_at-eq-COMMA.true)); along = subst (λ (a : Answer). Along (length c.args.words.now) c.args.m a.m × (c.args.m.at < a.m.at + a.why)) (sym is) (along_source c.args.m c.requires.1 on, omega arith) }
+          (source_comma (given_of text c.args.words.now given) (view c.args.m O) (is_here c.args.words.now c.args.m c.kind_at.ensures.value c.if-kind_at-ne-L_PAREN.false) (is_at c.args.words.now Str c.next-p.ensures c.kind_at-2.ensures.value c.if-kind_at-ne-STR.false) (is_at c.args.words.now Comma name c.kind_at-3.ensures.value c.if-kind_at-eq-COMMA.true));
+      along = subst (λ (a : Answer). Along (length c.args.words.now) c.args.m a.m × (c.args.m.at < a.m.at + a.why)) (sym is) (along_source c.args.m c.requires.1 on, omega arith);
+    }
 
 pub returns-then-kind_at-ne-R_PAREN : goal.returns-then-kind_at-ne-R_PAREN
 returns-then-kind_at-ne-R_PAREN c =
     let name : c.spell-q.result ≡ named_mark (next_mark c.args.m) = c.spell-q.ensures.0 ∙ ap named_mark c.next-p.ensures in
     let on : c.args.m.at + 1 < (length c.args.words.now) = omega (arith, c.kind_at-2.ensures.upper_bound, c.if-kind_at-ne-STR.false, ap (λ (q : Mark). q.at) c.next-p.ensures) in
     let is : c.refused-then-kind_at-ne-R_PAREN.result ≡ refused_at unexpected (named_mark (next_mark c.args.m)) = c.refused-then-kind_at-ne-R_PAREN.ensures ∙ ap (refused_at unexpected) name in
-    record { starts_names = λ text O given spelt.
+    record {
+      starts_names = λ text O given spelt.
           answer_refused c.refused-then-kind_at-ne-R_PAREN.result unexpected (named_mark (next_mark c.args.m)) (λ z. omega arith) is
-          (source_open (given_of text c.args.words.now given) (view c.args.m O) (is_here c.args.words.now c.args.m c.kind_at.ensures.value c.if-kind_at-ne-L_PAREN.false) (is_at c.args.words.now Str c.next-p.ensures c.kind_at-2.ensures.value c.if-kind_at-ne-STR.false) (not_at c.args.words.now Comma name c.kind_at-3.ensures.value c.if-kind_at-eq-COMMA.false) (not_at c.args.words.now RParen name c.kind_at-4.ensures.value c.if-kind_at-ne-R_PAREN.true)); along = subst (λ (a : Answer). Along (length c.args.words.now) c.args.m a.m × (c.args.m.at < a.m.at + a.why)) (sym is) (along_source c.args.m c.requires.1 on, omega arith) }
+          (source_open (given_of text c.args.words.now given) (view c.args.m O) (is_here c.args.words.now c.args.m c.kind_at.ensures.value c.if-kind_at-ne-L_PAREN.false) (is_at c.args.words.now Str c.next-p.ensures c.kind_at-2.ensures.value c.if-kind_at-ne-STR.false) (not_at c.args.words.now Comma name c.kind_at-3.ensures.value c.if-kind_at-eq-COMMA.false) (not_at c.args.words.now RParen name c.kind_at-4.ensures.value c.if-kind_at-ne-R_PAREN.true));
+      along = subst (λ (a : Answer). Along (length c.args.words.now) c.args.m a.m × (c.args.m.at < a.m.at + a.why)) (sym is) (along_source c.args.m c.requires.1 on, omega arith);
+    }
 
 pub returns : goal.returns
 returns c =
@@ -59,11 +71,14 @@ returns c =
     let last : c.args.m.at + 1 + 1 < (length c.args.words.now) = omega (arith, c.kind_at-4.ensures.upper_bound, c.if-kind_at-ne-R_PAREN.false, ap (λ (q : Mark). q.at) name) in
     let is : c.taken.result ≡ taken_at (next_mark (named_mark (next_mark c.args.m))) = c.taken.ensures ∙ ap taken_at (c.next.ensures ∙ ap next_mark name) in
     let along = along_source c.args.m c.requires.1 on in
-    record { starts_names = λ text O given spelt.
+    record {
+      starts_names = λ text O given spelt.
           answer_read c.taken.result (next_mark (named_mark (next_mark c.args.m))) is
           (record {
             what = spelling (given_of text c.args.words.now given) (rule.next (view c.args.m O));
             is = source_read (given_of text c.args.words.now given) (view c.args.m O) (is_here c.args.words.now c.args.m c.kind_at.ensures.value c.if-kind_at-ne-L_PAREN.false) (is_at c.args.words.now Str c.next-p.ensures c.kind_at-2.ensures.value c.if-kind_at-ne-STR.false) (not_at c.args.words.now Comma name c.kind_at-3.ensures.value c.if-kind_at-eq-COMMA.false) (is_at c.args.words.now RParen name c.kind_at-4.ensures.value c.if-kind_at-ne-R_PAREN.false);
             such = tt;
             spoken = source_spoken text c.args.words.now given c.args.m O c.next-p.ensures c.spell-q.ensures.1 spelt;
-          }); along = subst (λ (a : Answer). Along (length c.args.words.now) c.args.m a.m × (c.args.m.at < a.m.at + a.why)) (sym is) (along_then along (along_moved (moved_next (inside_along along) last)), omega arith) }
+          });
+      along = subst (λ (a : Answer). Along (length c.args.words.now) c.args.m a.m × (c.args.m.at < a.m.at + a.why)) (sym is) (along_then along (along_moved (moved_next (inside_along along) last)), omega arith);
+    }

@@ -19,10 +19,13 @@ query-requires c =
 pub returns-then-kind-eq-TYPEOF : goal.returns-then-kind-eq-TYPEOF
 returns-then-kind-eq-TYPEOF c =
     let moved : Moved (length c.args.words.now) c.args.m c.next.result = moved_taken c.next.ensures c.requires.2 (omega (arith, c.kind_at-kind.ensures.upper_bound, c.if-kind-eq-TYPEOF.true)) in
-    record { starts_names = λ text O given spelt.
+    record {
+      starts_names = λ text O given spelt.
           names_behind
           (naming_typeof (given_of text c.args.words.now given) (view c.args.m O) (is_here c.args.words.now c.args.m c.kind_at-kind.ensures.value c.if-kind-eq-TYPEOF.true) ∙ ap (λ (q : Mark). naming.query_head (given_of text c.args.words.now given) (view q O)) (sym c.next.ensures))
-          moved (c.query.ensures.starts_names text O given spelt); along = (along_then (along_moved moved) c.query.ensures.along.0, c.query.ensures.along.1, omega (arith, moved.ahead, c.query.ensures.along.2)) }
+          moved (c.query.ensures.starts_names text O given spelt);
+      along = (along_then (along_moved moved) c.query.ensures.along.0, c.query.ensures.along.1, omega (arith, moved.ahead, c.query.ensures.along.2));
+    }
 
 pub import-requires : goal.import-requires
 import-requires c =
@@ -31,15 +34,21 @@ import-requires c =
 pub returns-then-kind-eq-IMPORT : goal.returns-then-kind-eq-IMPORT
 returns-then-kind-eq-IMPORT c =
     let moved : Moved (length c.args.words.now) c.args.m c.next-then-kind-eq-IMPORT.result = moved_taken c.next-then-kind-eq-IMPORT.ensures c.requires.2 (omega (arith, c.kind_at-kind.ensures.upper_bound, c.if-kind-eq-IMPORT.true)) in
-    record { starts_names = λ text O given spelt.
+    record {
+      starts_names = λ text O given spelt.
           names_behind
           (naming_import (given_of text c.args.words.now given) (view c.args.m O) (is_not_here c.args.words.now c.args.m c.kind_at-kind.ensures.value c.if-kind-eq-TYPEOF.false) (is_here c.args.words.now c.args.m c.kind_at-kind.ensures.value c.if-kind-eq-IMPORT.true)
           ∙ ap (λ (q : Mark). naming.import_head (given_of text c.args.words.now given) false (view q O)) (sym c.next-then-kind-eq-IMPORT.ensures))
-          moved (c.import.ensures.starts_import text O given false refl spelt); along = (along_then (along_moved moved) c.import.ensures.along.0, c.import.ensures.along.1, omega (arith, moved.ahead, c.import.ensures.along.2)) }
+          moved (c.import.ensures.starts_import text O given false refl spelt);
+      along = (along_then (along_moved moved) c.import.ensures.along.0, c.import.ensures.along.1, omega (arith, moved.ahead, c.import.ensures.along.2));
+    }
 
 pub returns : goal.returns
 returns c =
-    record { starts_names = λ text O given spelt.
+    record {
+      starts_names = λ text O given spelt.
           names_same
           (naming_name (given_of text c.args.words.now given) (view c.args.m O) (is_not_here c.args.words.now c.args.m c.kind_at-kind.ensures.value c.if-kind-eq-TYPEOF.false) (is_not_here c.args.words.now c.args.m c.kind_at-kind.ensures.value c.if-kind-eq-IMPORT.false))
-          (c.reference.ensures.starts_dotted text O given naming.reference of_reference spelt); along = c.reference.ensures.along }
+          (c.reference.ensures.starts_dotted text O given naming.reference of_reference spelt);
+      along = c.reference.ensures.along;
+    }

@@ -13,17 +13,23 @@ use Rattle.parts.proofs.arguments.named_node.Goals as goal
 
 pub returns-then-n-gt-LONGEST : goal.returns-then-n-gt-LONGEST
 returns-then-n-gt-LONGEST c =
-    record { makes_named = λ text B x ts M O built name is there counts nodes.
+    record {
+      makes_named = λ text B x ts M O built name is there counts nodes.
           says_as c.refused.ensures
           (says_refused 6
-          (lists_long (given_of text c.args.words.now c.args.given) (name_count x) (count ts) (named_node c.args.b.first (end (given_of text c.args.words.now c.args.given) (view c.args.l.m O)) x ts) (view c.args.l.m O) (omega (arith, is.count, c.if-n-gt-LONGEST.true)))); put = put_refused 6 c.refused.ensures c.requires.2.roomy }
+          (lists_long (given_of text c.args.words.now c.args.given) (name_count x) (count ts) (named_node c.args.b.first (end (given_of text c.args.words.now c.args.given) (view c.args.l.m O)) x ts) (view c.args.l.m O) (omega (arith, is.count, c.if-n-gt-LONGEST.true))));
+      put = put_refused 6 c.refused.ensures c.requires.2.roomy;
+    }
 
 pub returns-then-k-gt-LONGEST : goal.returns-then-k-gt-LONGEST
 returns-then-k-gt-LONGEST c =
-    record { makes_named = λ text B x ts M O built name is there counts nodes.
+    record {
+      makes_named = λ text B x ts M O built name is there counts nodes.
           says_as c.refused-then-k-gt-LONGEST.ensures
           (says_refused 6
-          (lists_longer (given_of text c.args.words.now c.args.given) (name_count x) (count ts) (named_node c.args.b.first (end (given_of text c.args.words.now c.args.given) (view c.args.l.m O)) x ts) (view c.args.l.m O) (omega (arith, is.count, c.if-n-gt-LONGEST.false)) (omega (arith, counts, c.if-k-gt-LONGEST.true)))); put = put_refused 6 c.refused-then-k-gt-LONGEST.ensures c.requires.2.roomy }
+          (lists_longer (given_of text c.args.words.now c.args.given) (name_count x) (count ts) (named_node c.args.b.first (end (given_of text c.args.words.now c.args.given) (view c.args.l.m O)) x ts) (view c.args.l.m O) (omega (arith, is.count, c.if-n-gt-LONGEST.false)) (omega (arith, counts, c.if-k-gt-LONGEST.true))));
+      put = put_refused 6 c.refused-then-k-gt-LONGEST.ensures c.requires.2.roomy;
+    }
 
 pub overflow_mul-n : goal.overflow_mul-n
 overflow_mul-n c =
@@ -35,6 +41,9 @@ overflow_add-n c =
 
 pub returns : goal.returns
 returns c =
-    record { makes_named = λ text B x ts M O built name is there counts nodes.
+    record {
+      makes_named = λ text B x ts M O built name is there counts nodes.
           named_made c.args.words.now c.args.given c.args.b c.args.n c.args.l c.opt_list.result c.args.nodes.now c.put.result _ c.put.ensures.makes c.opt_list.ensures.value
-          (omega (arith, c.if-n-gt-LONGEST.false)) (omega (arith, c.if-k-gt-LONGEST.false)) text B x ts M O built name is there counts nodes; put = c.put.ensures.put }
+          (omega (arith, c.if-n-gt-LONGEST.false)) (omega (arith, c.if-k-gt-LONGEST.false)) text B x ts M O built name is there counts nodes;
+      put = c.put.ensures.put;
+    }

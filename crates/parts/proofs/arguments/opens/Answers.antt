@@ -34,6 +34,9 @@ returns-in-26 c =
 
 pub returns-in_default : goal.returns-in_default
 returns-in_default c =
-    record { by_index = λ text O given.
+    record {
+      by_index = λ text O given.
           opens_by text c.args.words.now given c.args.m O (sym c.on_line.ensures ∙ not-false _ c.if-not-on_line.false-raw) c.if-m-ne0.false
-          (ap (among openers) (sym c.kind_at.ensures.value) ∙ no_opener c.kind_at.result c.in_default.in_default-own.rest.0.0.0.1 c.in_default.in_default-own.rest.0.0.1 c.in_default.in_default-own.rest.0.1 c.in_default.in_default-own.rest.1); half_value = λ z. clash (cc) }
+          (ap (among openers) (sym c.kind_at.ensures.value) ∙ no_opener c.kind_at.result c.in_default.in_default-own.rest.0.0.0.1 c.in_default.in_default-own.rest.0.0.1 c.in_default.in_default-own.rest.0.1 c.in_default.in_default-own.rest.1);
+      half_value = λ z. clash (cc);
+    }

@@ -19,12 +19,18 @@ import-requires c =
 pub returns-then-kind_at-eq-IMPORT : goal.returns-then-kind_at-eq-IMPORT
 returns-then-kind_at-eq-IMPORT c =
     let moved : Moved (length c.args.words.now) c.args.m c.next.result = moved_taken c.next.ensures c.requires.2 (omega (arith, c.kind_at.ensures.upper_bound, c.if-kind_at-eq-IMPORT.true)) in
-    record { starts_names = λ text O given spelt.
+    record {
+      starts_names = λ text O given spelt.
           names_behind
           (query_import (given_of text c.args.words.now given) (view c.args.m O) (is_here c.args.words.now c.args.m c.kind_at.ensures.value c.if-kind_at-eq-IMPORT.true) ∙ ap (λ (q : Mark). naming.import_head (given_of text c.args.words.now given) true (view q O)) (sym c.next.ensures))
-          moved (c.import.ensures.starts_import text O given true refl spelt); along = (along_then (along_moved moved) c.import.ensures.along.0, c.import.ensures.along.1, omega (arith, moved.ahead, c.import.ensures.along.2)) }
+          moved (c.import.ensures.starts_import text O given true refl spelt);
+      along = (along_then (along_moved moved) c.import.ensures.along.0, c.import.ensures.along.1, omega (arith, moved.ahead, c.import.ensures.along.2));
+    }
 
 pub returns : goal.returns
 returns c =
-    record { starts_names = λ text O given spelt.
-          names_same (query_name (given_of text c.args.words.now given) (view c.args.m O) (is_not_here c.args.words.now c.args.m c.kind_at.ensures.value c.if-kind_at-eq-IMPORT.false)) (c.reference.ensures.starts_dotted text O given naming.typeof of_typeof spelt); along = c.reference.ensures.along }
+    record {
+      starts_names = λ text O given spelt.
+          names_same (query_name (given_of text c.args.words.now given) (view c.args.m O) (is_not_here c.args.words.now c.args.m c.kind_at.ensures.value c.if-kind_at-eq-IMPORT.false)) (c.reference.ensures.starts_dotted text O given naming.typeof of_typeof spelt);
+      along = c.reference.ensures.along;
+    }

@@ -12,9 +12,12 @@ use Rattle.parts.proofs.arguments.reference.Goals as goal
 
 pub returns-then-a-ne0 : goal.returns-then-a-ne0
 returns-then-a-ne0 c =
-    record { starts_dotted = λ text O given make d spelt.
+    record {
+      starts_dotted = λ text O given make d spelt.
           named_refused c.refused.result c.dotted_name-a.result.why c.dotted_name-a.result.m c.if-a-ne0.true c.refused.ensures
-          (reference_refused (given_of text c.args.words.now given) (view c.args.m O) make c.dotted_name-a.result.why c.dotted_name-a.result.m.at c.dotted_name-a.result.m.half ((c.dotted_name-a.ensures.starts_names text O given spelt).refused c.if-a-ne0.true)); along = subst (λ (n : Named). Along (length c.args.words.now) c.args.m n.m × NamedSmall (length c.args.words.now) n × (c.args.m.at < n.m.at + n.why)) (sym c.refused.ensures) (c.dotted_name-a.ensures.along.0, record { choices = omega arith; scale = omega arith; count = omega arith }, c.dotted_name-a.ensures.along.1) }
+          (reference_refused (given_of text c.args.words.now given) (view c.args.m O) make c.dotted_name-a.result.why c.dotted_name-a.result.m.at c.dotted_name-a.result.m.half ((c.dotted_name-a.ensures.starts_names text O given spelt).refused c.if-a-ne0.true));
+      along = subst (λ (n : Named). Along (length c.args.words.now) c.args.m n.m × NamedSmall (length c.args.words.now) n × (c.args.m.at < n.m.at + n.why)) (sym c.refused.ensures) (c.dotted_name-a.ensures.along.0, record { choices = omega arith; scale = omega arith; count = omega arith }, c.dotted_name-a.ensures.along.1);
+    }
 
 pub returns : goal.returns
 returns c =

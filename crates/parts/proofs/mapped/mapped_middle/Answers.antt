@@ -16,9 +16,12 @@ use Rattle.parts.proofs.mapped.mapped_middle.Goals as goal
 
 pub returns-then-kind_at-ne-R_BRACK : goal.returns-then-kind_at-ne-R_BRACK
 returns-then-kind_at-ne-R_BRACK c =
-    record { by_index = λ text O given.
+    record {
+      by_index = λ text O given.
           number_refused 2 c.args.m c.refused.ensures
-          (expect_no (given_of text c.args.words.now given) RBrack (view c.args.m O) (rule.modifier (given_of text c.args.words.now given) Question) (is_not_here c.args.words.now c.args.m c.kind_at.ensures.value c.if-kind_at-ne-R_BRACK.true)); moved = subst (λ (h : Head). Moved (length c.args.words.now) c.args.m h.m × (h.choices ≤ 3)) (sym c.refused.ensures) (moved_same c.requires.1, omega arith) }
+          (expect_no (given_of text c.args.words.now given) RBrack (view c.args.m O) (rule.modifier (given_of text c.args.words.now given) Question) (is_not_here c.args.words.now c.args.m c.kind_at.ensures.value c.if-kind_at-ne-R_BRACK.true));
+      moved = subst (λ (h : Head). Moved (length c.args.words.now) c.args.m h.m × (h.choices ≤ 3)) (sym c.refused.ensures) (moved_same c.requires.1, omega arith);
+    }
 
 pub modifier-requires : goal.modifier-requires
 modifier-requires c =
@@ -26,8 +29,11 @@ modifier-requires c =
 
 pub returns : goal.returns
 returns c =
-    record { by_index = λ text O given.
+    record {
+      by_index = λ text O given.
           number_same
           (expect_yes (given_of text c.args.words.now given) RBrack (view c.args.m O) (rule.modifier (given_of text c.args.words.now given) Question) (is_here c.args.words.now c.args.m c.kind_at.ensures.value c.if-kind_at-ne-R_BRACK.false)
           ∙ ap (λ (q : Mark). rule.modifier (given_of text c.args.words.now given) Question (view q O)) (sym c.next.ensures))
-          (c.modifier.ensures.by_index text O given); moved = (moved_then (moved_taken c.next.ensures c.requires.1 (omega arith)) c.modifier.ensures.moved.0, c.modifier.ensures.moved.1) }
+          (c.modifier.ensures.by_index text O given);
+      moved = (moved_then (moved_taken c.next.ensures c.requires.1 (omega arith)) c.modifier.ensures.moved.0, c.modifier.ensures.moved.1);
+    }

@@ -20,11 +20,14 @@ signed-requires c =
 
 pub returns-then-here-eq-PLUS : goal.returns-then-here-eq-PLUS
 returns-then-here-eq-PLUS c =
-    record { by_index = λ text O given.
+    record {
+      by_index = λ text O given.
           number_same
           (modifier_plus (given_of text c.args.words.now given) c.args.kind (view c.args.m O) (is_not_here c.args.words.now c.args.m c.kind_at-here.ensures.value c.if-here-kind.false) (is_here c.args.words.now c.args.m c.kind_at-here.ensures.value c.if-here-eq-PLUS.true)
           ∙ ap (λ (q : Mark). expect (given_of text c.args.words.now given) c.args.kind (view q O) (read 2)) (sym c.next-then-here-eq-PLUS.ensures))
-          (c.signed.ensures.by_index text O given); moved = (moved_then (moved_taken c.next-then-here-eq-PLUS.ensures c.requires.1 (omega arith)) c.signed.ensures.moved.0, c.signed.ensures.moved.1) }
+          (c.signed.ensures.by_index text O given);
+      moved = (moved_then (moved_taken c.next-then-here-eq-PLUS.ensures c.requires.1 (omega arith)) c.signed.ensures.moved.0, c.signed.ensures.moved.1);
+    }
 
 pub signed-requires-then-here-eq-MINUS : goal.signed-requires-then-here-eq-MINUS
 signed-requires-then-here-eq-MINUS c =
@@ -32,14 +35,20 @@ signed-requires-then-here-eq-MINUS c =
 
 pub returns-then-here-eq-MINUS : goal.returns-then-here-eq-MINUS
 returns-then-here-eq-MINUS c =
-    record { by_index = λ text O given.
+    record {
+      by_index = λ text O given.
           number_same
           (modifier_minus (given_of text c.args.words.now given) c.args.kind (view c.args.m O) (is_not_here c.args.words.now c.args.m c.kind_at-here.ensures.value c.if-here-kind.false) (is_not_here c.args.words.now c.args.m c.kind_at-here.ensures.value c.if-here-eq-PLUS.false) (is_here c.args.words.now c.args.m c.kind_at-here.ensures.value c.if-here-eq-MINUS.true)
           ∙ ap (λ (q : Mark). expect (given_of text c.args.words.now given) c.args.kind (view q O) (read 3)) (sym c.next-then-here-eq-MINUS.ensures))
-          (c.signed-then-here-eq-MINUS.ensures.by_index text O given); moved = (moved_then (moved_taken c.next-then-here-eq-MINUS.ensures c.requires.1 (omega arith)) c.signed-then-here-eq-MINUS.ensures.moved.0, c.signed-then-here-eq-MINUS.ensures.moved.1) }
+          (c.signed-then-here-eq-MINUS.ensures.by_index text O given);
+      moved = (moved_then (moved_taken c.next-then-here-eq-MINUS.ensures c.requires.1 (omega arith)) c.signed-then-here-eq-MINUS.ensures.moved.0, c.signed-then-here-eq-MINUS.ensures.moved.1);
+    }
 
 pub returns : goal.returns
 returns c =
-    record { by_index = λ text O given.
+    record {
+      by_index = λ text O given.
           number_read 0 refl
-          (modifier_none (given_of text c.args.words.now given) c.args.kind (view c.args.m O) (is_not_here c.args.words.now c.args.m c.kind_at-here.ensures.value c.if-here-kind.false) (is_not_here c.args.words.now c.args.m c.kind_at-here.ensures.value c.if-here-eq-PLUS.false) (is_not_here c.args.words.now c.args.m c.kind_at-here.ensures.value c.if-here-eq-MINUS.false)); moved = (moved_same c.requires.1, omega arith) }
+          (modifier_none (given_of text c.args.words.now given) c.args.kind (view c.args.m O) (is_not_here c.args.words.now c.args.m c.kind_at-here.ensures.value c.if-here-kind.false) (is_not_here c.args.words.now c.args.m c.kind_at-here.ensures.value c.if-here-eq-PLUS.false) (is_not_here c.args.words.now c.args.m c.kind_at-here.ensures.value c.if-here-eq-MINUS.false));
+      moved = (moved_same c.requires.1, omega arith);
+    }

@@ -13,5 +13,8 @@ bracketed-requires c =
 
 pub returns : goal.returns
 returns c =
-    record { makes_array = λ text B t M O st n.
-          c.bracketed.ensures.makes_closed text B (run_in 0 t) 7 t M O (rw c.one.ensures (built_one [] st.is_node st.high_is st.laid)) n (shape_array st.is_node); reached = c.bracketed.ensures.reached }
+    record {
+      makes_array = λ text B t M O st n.
+          c.bracketed.ensures.makes_closed text B (run_in 0 t) 7 t M O (rw c.one.ensures (built_one [] st.is_node st.high_is st.laid)) n (shape_array st.is_node);
+      reached = c.bracketed.ensures.reached;
+    }

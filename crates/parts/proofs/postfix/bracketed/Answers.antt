@@ -23,8 +23,11 @@ put-requires c =
 
 pub returns : goal.returns
 returns c =
-    record { makes_closed = λ text B t tag p M O d n z.
+    record {
+      makes_closed = λ text B t tag p M O d n z.
           let g = given_of text c.args.words.now c.args.given in
           let s = view c.args.m O in
           says_same (expect_yes g 19 s (λ q. make g [] (tree tag c.args.b.first (end g q) p) q) (eq_at 19 c.kind_at.ensures.value c.if-kind_at-ne-R_BRACK.false))
-          (makes_at c.args.words.now c.args.given c.args.b c.args.choices c.args.nodes.now c.put.result c.put.new.nodes refl c.next.ensures c.put.ensures.makes text 0 B t tag p M O d n z); reached = reached_put (next_mark c.args.m) c.next.ensures (fine_next c.requires.2 (omega (arith, c.kind_at.ensures.upper_bound, c.if-kind_at-ne-R_BRACK.false))) (omega (arith, c.requires.2.half)) (omega arith) c.put.ensures.put }
+          (makes_at c.args.words.now c.args.given c.args.b c.args.choices c.args.nodes.now c.put.result c.put.new.nodes refl c.next.ensures c.put.ensures.makes text 0 B t tag p M O d n z);
+      reached = reached_put (next_mark c.args.m) c.next.ensures (fine_next c.requires.2 (omega (arith, c.kind_at.ensures.upper_bound, c.if-kind_at-ne-R_BRACK.false))) (omega (arith, c.requires.2.half)) (omega arith) c.put.ensures.put;
+    }

@@ -22,37 +22,52 @@ returns-in-16 c =
 
 pub returns-in-18 : goal.returns-in-18
 returns-in-18 c =
-    record { starts_as = λ text O given T.
+    record {
+      starts_as = λ text O given T.
           let g = given_of text c.args.words.now given in
           let s = view c.args.m O in
-          (enclosed_tuple g T s (sym c.requires.2 ∙ c.in-18.is), (sym c.requires.2 ∙ c.in-18.is)); start_has = omega (arith, c.requires.3, c.in-18.is) }
+          (enclosed_tuple g T s (sym c.requires.2 ∙ c.in-18.is), (sym c.requires.2 ∙ c.in-18.is));
+      start_has = omega (arith, c.requires.3, c.in-18.is);
+    }
 
 pub returns-in-20 : goal.returns-in-20
 returns-in-20 c =
-    record { starts_as = λ text O given T.
+    record {
+      starts_as = λ text O given T.
           let g = given_of text c.args.words.now given in
           let s = view c.args.m O in
-          enclosed_parens g T s (sym c.requires.2 ∙ c.in-20.is); start_has = omega (arith, c.requires.3, c.in-20.is) }
+          enclosed_parens g T s (sym c.requires.2 ∙ c.in-20.is);
+      start_has = omega (arith, c.requires.3, c.in-20.is);
+    }
 
 pub returns-in-5 : goal.returns-in-5
 returns-in-5 c =
-    record { starts_as = λ text O given T.
+    record {
+      starts_as = λ text O given T.
           let g = given_of text c.args.words.now given in
           let s = view c.args.m O in
-          (enclosed_whole g T s (sym c.requires.2 ∙ c.in-5.is), template_here g T s (eq-eqb _ _ (sym c.requires.2 ∙ c.in-5.is))); start_has = (omega (arith, c.requires.3, c.in-5.is), λ h. absurd (minus_off (λ k. eqb k 5) c.args.words.now c.args.m refl (eq-eqb _ _ (sym c.requires.2 ∙ c.in-5.is)) h)) }
+          (enclosed_whole g T s (sym c.requires.2 ∙ c.in-5.is), template_here g T s (eq-eqb _ _ (sym c.requires.2 ∙ c.in-5.is)));
+      start_has = (omega (arith, c.requires.3, c.in-5.is), λ h. absurd (minus_off (λ k. eqb k 5) c.args.words.now c.args.m refl (eq-eqb _ _ (sym c.requires.2 ∙ c.in-5.is)) h));
+    }
 
 pub returns-in-6 : goal.returns-in-6
 returns-in-6 c =
-    record { starts_as = λ text O given T.
+    record {
+      starts_as = λ text O given T.
           let g = given_of text c.args.words.now given in
           let s = view c.args.m O in
-          (enclosed_template g T s (sym c.requires.2 ∙ c.in-6.is), (sym c.requires.2 ∙ c.in-6.is)); start_has = omega (arith, c.requires.3, c.in-6.is) }
+          (enclosed_template g T s (sym c.requires.2 ∙ c.in-6.is), (sym c.requires.2 ∙ c.in-6.is));
+      start_has = omega (arith, c.requires.3, c.in-6.is);
+    }
 
 pub returns-in_default : goal.returns-in_default
 returns-in_default c =
-    record { starts_as = λ text O given T.
+    record {
+      starts_as = λ text O given T.
           let g = given_of text c.args.words.now given in
           let s = view c.args.m O in
           start_from c.other_start.result g T s
           (enclosed_other g T s (λ e. c.in_default.in_default-own.rest.0.0.0.0.1 (c.requires.2 ∙ e)) (λ e. c.in_default.in_default-own.rest.0.0.0.1 (c.requires.2 ∙ e)) (λ e. c.in_default.in_default-own.rest.0.0.1 (c.requires.2 ∙ e)) (λ e. c.in_default.in_default-own.rest.0.1 (c.requires.2 ∙ e)) (λ e. c.in_default.in_default-own.rest.1 (c.requires.2 ∙ e)))
-          (c.other_start.ensures.reference_is g T s (sym c.requires.2)); start_has = c.other_start.ensures.reference_has c.args.words.now c.args.m (sym c.requires.2) }
+          (c.other_start.ensures.reference_is g T s (sym c.requires.2));
+      start_has = c.other_start.ensures.reference_has c.args.words.now c.args.m (sym c.requires.2);
+    }

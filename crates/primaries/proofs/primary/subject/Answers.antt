@@ -25,7 +25,7 @@ returns-then-asserts c =
           (spoken_from c.args.m refl refl refl
           (subst (λ (x : Mark). Spoken (opt_names (subject (given_of text c.args.words.now given) (view x O))) x c.subject_at.result.m c.args.names.now c.subject_at.new.names) c.next.ensures (c.subject_at.ensures.speaks_subject text O given t)));
       choices_value = rw c.if-asserts.true
-            (omega (arith, subst (λ (x : Mark). c.subject_at.result.choices ≡ 80 + 128 * unit (here c.args.words.now 102 x)) c.next.ensures c.subject_at.ensures.choices_value));
+          (omega (arith, subst (λ (x : Mark). c.subject_at.result.choices ≡ 80 + 128 * unit (here c.args.words.now 102 x)) c.next.ensures c.subject_at.ensures.choices_value));
       at_value = (rw c.if-asserts.true (omega (arith, c.subject_at.ensures.at_value.0, ap (λ (x : Mark). x.at) c.next.ensures)), c.subject_at.ensures.at_value.1, c.subject_at.ensures.at_value.2 ∙ ap (λ (x : Mark). x.used) c.next.ensures, c.subject_at.ensures.at_value.3 ∙ ap (λ (x : Mark). x.noted) c.next.ensures, omega (arith, c.subject_at.ensures.at_value.4, ap (λ (x : Mark). x.named) c.next.ensures), omega (arith, c.subject_at.ensures.at_value.5, ap (λ (x : Mark). x.named) c.next.ensures));
     }
 

@@ -8,14 +8,20 @@ use Rattle.primaries.proofs.primary.this_start.Goals as goal
 
 pub returns-then-predicates : goal.returns-then-predicates
 returns-then-predicates c =
-    record { starts_as = λ text O given T.
+    record {
+      starts_as = λ text O given T.
           let g = given_of text c.args.words.now given in
           let s = view c.args.m O in
-          this_predicate g T s (eq-eqb _ _ c.requires.3) (sym (c.predicates.ensures text O given) ∙ c.if-predicates.true); start_has = c.requires.1 }
+          this_predicate g T s (eq-eqb _ _ c.requires.3) (sym (c.predicates.ensures text O given) ∙ c.if-predicates.true);
+      start_has = c.requires.1;
+    }
 
 pub returns : goal.returns
 returns c =
-    record { starts_as = λ text O given T.
+    record {
+      starts_as = λ text O given T.
           let g = given_of text c.args.words.now given in
           let s = view c.args.m O in
-          this_alone g T s (eq-eqb _ _ c.requires.3) (sym (c.predicates.ensures text O given) ∙ c.if-predicates.false); start_has = c.requires.1 }
+          this_alone g T s (eq-eqb _ _ c.requires.3) (sym (c.predicates.ensures text O given) ∙ c.if-predicates.false);
+      start_has = c.requires.1;
+    }

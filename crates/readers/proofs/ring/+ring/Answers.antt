@@ -138,17 +138,16 @@ elem-returns-then-a-ne0 t c =
     }
 
 pub elem-element_node-requires : goal.elem-element_node-requires
-elem-element_node-requires t c =
- (
-      c.requires.sound,
-      omega arith,
-      omega arith,
-      omega (arith, c.ty-a.ensures.onward c.if-a-ne0.false),
-      omega arith,
-      omega arith,
-      omega arith,
-      omega arith,
-    )
+elem-element_node-requires t c = (
+  c.requires.sound,
+  omega arith,
+  omega arith,
+  omega (arith, c.ty-a.ensures.onward c.if-a-ne0.false),
+  omega arith,
+  omega arith,
+  omega arith,
+  omega arith,
+)
 
 pub elem-shape_of-nodes : goal.elem-shape_of-nodes
 elem-shape_of-nodes t c =
@@ -687,18 +686,17 @@ infer-returns-then-a-ne0 t c =
     }
 
 pub infer-infer_node-requires : goal.infer-infer_node-requires
-infer-infer_node-requires t c =
- (
-      c.requires.0.sound,
-      omega arith,
-      omega arith,
-      omega arith,
-      omega (arith, c.ty-a.ensures.within, c.ty-a.ensures.onward c.if-a-ne0.false, c.at-b.ensures.first_value, c.at-b.ensures.first_bound, c.infer_head-h.auto, c.infer_head-h.ensures.stepped, c.requires),
-      omega (arith, c.ty-a.ensures.onward c.if-a-ne0.false),
-      omega arith,
-      omega arith,
-      omega arith,
-    )
+infer-infer_node-requires t c = (
+  c.requires.0.sound,
+  omega arith,
+  omega arith,
+  omega arith,
+  omega (arith, c.ty-a.ensures.within, c.ty-a.ensures.onward c.if-a-ne0.false, c.at-b.ensures.first_value, c.at-b.ensures.first_bound, c.infer_head-h.auto, c.infer_head-h.ensures.stepped, c.requires),
+  omega (arith, c.ty-a.ensures.onward c.if-a-ne0.false),
+  omega arith,
+  omega arith,
+  omega arith,
+)
 
 pub infer-shape_of-nodes : goal.infer-shape_of-nodes
 infer-shape_of-nodes t c =
@@ -1115,16 +1113,15 @@ named-at-requires t c =
     (c.requires.sound, omega arith)
 
 pub named-named_node-requires : goal.named-named_node-requires
-named-named_node-requires t c =
- (
-      c.requires.sound,
-      omega arith,
-      omega arith,
-      omega arith,
-      omega arith,
-      omega arith,
-      omega arith,
-    )
+named-named_node-requires t c = (
+  c.requires.sound,
+  omega arith,
+  omega arith,
+  omega arith,
+  omega arith,
+  omega arith,
+  omega arith,
+)
 
 pub named-shape_of-nodes : goal.named-shape_of-nodes
 named-shape_of-nodes t c =
@@ -1246,17 +1243,16 @@ operator-returns-then-a-ne0 t c =
     }
 
 pub operator-put_operators-requires : goal.operator-put_operators-requires
-operator-put_operators-requires t c =
- (
-      c.requires.sound,
-      omega arith,
-      omega arith,
-      omega arith,
-      omega arith,
-      omega (arith, c.infer-a.ensures.onward c.if-a-ne0.false),
-      omega arith,
-      omega arith,
-    )
+operator-put_operators-requires t c = (
+  c.requires.sound,
+  omega arith,
+  omega arith,
+  omega arith,
+  omega arith,
+  omega (arith, c.infer-a.ensures.onward c.if-a-ne0.false),
+  omega arith,
+  omega arith,
+)
 
 pub operator-shape_of-nodes-then-kind_at-eq-INFER : goal.operator-shape_of-nodes-then-kind_at-eq-INFER
 operator-shape_of-nodes-then-kind_at-eq-INFER t c =
@@ -1308,17 +1304,16 @@ operator-returns-then-a-ne0-2 t c =
     }
 
 pub operator-put_operators-requires-2 : goal.operator-put_operators-requires-2
-operator-put_operators-requires-2 t c =
- (
-      c.requires.sound,
-      omega arith,
-      omega arith,
-      omega arith,
-      omega arith,
-      omega (arith, c.postfix-a.ensures.onward c.if-a-ne0-2.false),
-      omega arith,
-      omega arith,
-    )
+operator-put_operators-requires-2 t c = (
+  c.requires.sound,
+  omega arith,
+  omega arith,
+  omega arith,
+  omega arith,
+  omega (arith, c.postfix-a.ensures.onward c.if-a-ne0-2.false),
+  omega arith,
+  omega arith,
+)
 
 pub operator-shape_of-nodes : goal.operator-shape_of-nodes
 operator-shape_of-nodes t c =
@@ -1482,7 +1477,7 @@ params-shape_of-names-then-h-eq0 t c =
 pub params-returns-then-h-eq0 : goal.params-returns-then-h-eq0
 params-returns-then-h-eq0 t c =
     record {
-      reads_params = λ B r b. params_plain c.args.is-new (opens_plain _ _ _ _ _ c.params_head-h.ensures.opens c.if-h-ne0.false c.if-h-eq0.true) (c.plist.ensures.reads_others B r absent (built_moved c.params_head-h.ensures.moved.0 b) (this_none c.none-none.ensures));
+      reads_params = λ B r b. params_plain c.args.is_new (opens_plain _ _ _ _ _ c.params_head-h.ensures.opens c.if-h-ne0.false c.if-h-eq0.true) (c.plist.ensures.reads_others B r absent (built_moved c.params_head-h.ensures.moved.0 b) (this_none c.none-none.ensures));
       within_params = omega (arith, c.plist.ensures.within_params);
       past = λ z. omega (arith, opens_past c.params_head-h.ensures.opens c.if-h-ne0.false, c.params_head-h.ensures.moved, c.plist.ensures.past z);
     }
@@ -1506,7 +1501,7 @@ params-shape_of-names-then-a-ne0 t c =
 pub params-returns-then-a-ne0 : goal.params-returns-then-a-ne0
 params-returns-then-a-ne0 t c =
     record {
-      reads_params = λ B r b. params_refused c.refused-then-a-ne0.ensures c.if-a-ne0.true (params_this_refused (given_of c.args.text.now c.args.words.now c.args.given) (below c.args.given (given_of c.args.text.now c.args.words.now c.args.given)) c.args.is-new c.args.nodes.now c.args.names.now c.args.notes.now c.params_head-h.ensures.opens c.if-h-ne0.false c.if-h-eq0.false b c.before_this.ensures.value (λ C r d. c.opt-a.ensures.option C r d) c.if-a-ne0.true);
+      reads_params = λ B r b. params_refused c.refused-then-a-ne0.ensures c.if-a-ne0.true (params_this_refused (given_of c.args.text.now c.args.words.now c.args.given) (below c.args.given (given_of c.args.text.now c.args.words.now c.args.given)) c.args.is_new c.args.nodes.now c.args.names.now c.args.notes.now c.params_head-h.ensures.opens c.if-h-ne0.false c.if-h-eq0.false b c.before_this.ensures.value (λ C r d. c.opt-a.ensures.option C r d) c.if-a-ne0.true);
       within_params = omega (arith, same_params c.refused-then-a-ne0.ensures, c.requires, c.params_head-h.ensures.moved, c.before_this.ensures.first_le_first, c.opt-a.ensures.within_list);
       past = λ z. omega (arith, same_params c.refused-then-a-ne0.ensures, c.requires, c.params_head-h.ensures.moved, c.before_this.ensures.first_le_first, c.opt-a.ensures.within_list, z);
     }
@@ -1529,10 +1524,10 @@ params-shape_of-names-then-c-ne0 t c =
 
 pub params-returns-then-c-ne0 : goal.params-returns-then-c-ne0
 params-returns-then-c-ne0 t c =
-    let low = freed_low c.args.is-new c.args.m.used c.opt-a.result.m.used c.args.given.room (omega (arith, c.requires)) (omega (arith, c.opt-a.ensures.within_list)) in
-    let few = freed_low c.args.is-new c.args.m.named c.opt-a.result.m.named c.opt-a.result.m.at (omega (arith, c.params_head-h.ensures.moved, c.opt-a.ensures.within_list, c.opt-a.ensures.past c.if-a-ne0.false, c.requires)) (omega (arith, c.opt-a.ensures.within_list)) in
+    let low = freed_low c.args.is_new c.args.m.used c.opt-a.result.m.used c.args.given.room (omega (arith, c.requires)) (omega (arith, c.opt-a.ensures.within_list)) in
+    let few = freed_low c.args.is_new c.args.m.named c.opt-a.result.m.named c.opt-a.result.m.at (omega (arith, c.params_head-h.ensures.moved, c.opt-a.ensures.within_list, c.opt-a.ensures.past c.if-a-ne0.false, c.requires)) (omega (arith, c.opt-a.ensures.within_list)) in
     record {
-      reads_params = λ B r b. params_refused c.refused-then-c-ne0.ensures c.if-c-ne0.true (params_this_stops (given_of c.args.text.now c.args.words.now c.args.given) (below c.args.given (given_of c.args.text.now c.args.words.now c.args.given)) c.args.is-new c.args.nodes.now c.args.names.now c.args.notes.now c.params_head-h.ensures.opens c.if-h-ne0.false c.if-h-eq0.false b c.before_this.ensures.value (λ C r d. c.opt-a.ensures.option C r d) c.if-a-ne0.false c.freed.ensures.value c.separated-c.ensures.separates c.if-c-ne0.true);
+      reads_params = λ B r b. params_refused c.refused-then-c-ne0.ensures c.if-c-ne0.true (params_this_stops (given_of c.args.text.now c.args.words.now c.args.given) (below c.args.given (given_of c.args.text.now c.args.words.now c.args.given)) c.args.is_new c.args.nodes.now c.args.names.now c.args.notes.now c.params_head-h.ensures.opens c.if-h-ne0.false c.if-h-eq0.false b c.before_this.ensures.value (λ C r d. c.opt-a.ensures.option C r d) c.if-a-ne0.false c.freed.ensures.value c.separated-c.ensures.separates c.if-c-ne0.true);
       within_params = omega (arith, low, few, same_params c.refused-then-c-ne0.ensures, c.requires, c.params_head-h.ensures.moved, c.before_this.ensures.first_le_first, c.opt-a.ensures.within_list, c.opt-a.ensures.past c.if-a-ne0.false, c.freed.ensures.at_value, c.separated-c.ensures.moved);
       past = λ z. omega (arith, same_params c.refused-then-c-ne0.ensures, c.requires, c.params_head-h.ensures.moved, c.before_this.ensures.first_le_first, c.opt-a.ensures.within_list, c.opt-a.ensures.past c.if-a-ne0.false, c.freed.ensures.at_value, c.separated-c.ensures.moved, z);
     }
@@ -1543,7 +1538,7 @@ params-this_of-t-requires t c =
 
 pub params-plist-requires-2 : goal.params-plist-requires-2
 params-plist-requires-2 t c =
-    let low = freed_low c.args.is-new c.args.m.used c.opt-a.result.m.used c.args.given.room (omega (arith, c.requires)) (omega (arith, c.opt-a.ensures.within_list)) in let few = freed_low c.args.is-new c.args.m.named c.opt-a.result.m.named c.opt-a.result.m.at (omega (arith, c.params_head-h.ensures.moved, c.opt-a.ensures.within_list, c.opt-a.ensures.past c.if-a-ne0.false, c.requires)) (omega (arith, c.opt-a.ensures.within_list)) in let high = freed_high c.args.is-new c.args.m.used c.opt-a.result.m.used c.args.m.used (omega arith) (omega (arith, c.opt-a.ensures.past c.if-a-ne0.false, c.params_head-h.ensures.moved)) in let bit = bit_low c.opt-a.result.there in let under = under_this c.args.is-new c.args.m.used c.opt-a.result.m.used c.args.kids c.opt-a.result.kids (omega (arith, c.requires)) (omega (arith, c.opt-a.ensures.within_list)) in (omega (arith, low, few, high, bit, c.requires, c.params_head-h.ensures.moved, c.before_this.ensures.first_le_first, c.opt-a.ensures.within_list, c.opt-a.ensures.past c.if-a-ne0.false, c.freed.ensures.at_value, c.separated-c.ensures.moved, c.this_of-t.ensures.0), (ready c.requires.0 (omega (arith, c.requires, c.params_head-h.ensures.moved, c.before_this.ensures.first_le_first, c.opt-a.ensures.within_list, c.opt-a.ensures.past c.if-a-ne0.false, c.opt-a.auto, c.freed.ensures.at_value, c.separated-c.ensures.moved, c.this_of-t.ensures.0)) (omega (arith, low, few, high, bit, c.requires, c.params_head-h.ensures.moved, c.before_this.ensures.first_le_first, c.opt-a.ensures.within_list, c.opt-a.ensures.past c.if-a-ne0.false, c.freed.ensures.at_value, c.separated-c.ensures.moved, c.this_of-t.ensures.0)), subst (λ (k : Kids). Under c.separated-c.result.m.used k) (sym c.this_kids-k.ensures) (omega (arith, under, c.requires, c.params_head-h.ensures.moved, c.before_this.ensures.first_le_first, c.opt-a.ensures.within_list, c.opt-a.ensures.past c.if-a-ne0.false, c.freed.ensures.at_value, c.separated-c.ensures.moved, c.this_of-t.ensures.0)), omega (arith, bit, c.requires, c.params_head-h.ensures.moved, c.before_this.ensures.first_le_first, c.opt-a.ensures.within_list, c.opt-a.ensures.past c.if-a-ne0.false, c.freed.ensures.at_value, c.separated-c.ensures.moved, c.this_of-t.ensures.0)))
+    let low = freed_low c.args.is_new c.args.m.used c.opt-a.result.m.used c.args.given.room (omega (arith, c.requires)) (omega (arith, c.opt-a.ensures.within_list)) in let few = freed_low c.args.is_new c.args.m.named c.opt-a.result.m.named c.opt-a.result.m.at (omega (arith, c.params_head-h.ensures.moved, c.opt-a.ensures.within_list, c.opt-a.ensures.past c.if-a-ne0.false, c.requires)) (omega (arith, c.opt-a.ensures.within_list)) in let high = freed_high c.args.is_new c.args.m.used c.opt-a.result.m.used c.args.m.used (omega arith) (omega (arith, c.opt-a.ensures.past c.if-a-ne0.false, c.params_head-h.ensures.moved)) in let bit = bit_low c.opt-a.result.there in let under = under_this c.args.is_new c.args.m.used c.opt-a.result.m.used c.args.kids c.opt-a.result.kids (omega (arith, c.requires)) (omega (arith, c.opt-a.ensures.within_list)) in (omega (arith, low, few, high, bit, c.requires, c.params_head-h.ensures.moved, c.before_this.ensures.first_le_first, c.opt-a.ensures.within_list, c.opt-a.ensures.past c.if-a-ne0.false, c.freed.ensures.at_value, c.separated-c.ensures.moved, c.this_of-t.ensures.0), (ready c.requires.0 (omega (arith, c.requires, c.params_head-h.ensures.moved, c.before_this.ensures.first_le_first, c.opt-a.ensures.within_list, c.opt-a.ensures.past c.if-a-ne0.false, c.opt-a.auto, c.freed.ensures.at_value, c.separated-c.ensures.moved, c.this_of-t.ensures.0)) (omega (arith, low, few, high, bit, c.requires, c.params_head-h.ensures.moved, c.before_this.ensures.first_le_first, c.opt-a.ensures.within_list, c.opt-a.ensures.past c.if-a-ne0.false, c.freed.ensures.at_value, c.separated-c.ensures.moved, c.this_of-t.ensures.0)), subst (λ (k : Kids). Under c.separated-c.result.m.used k) (sym c.this_kids-k.ensures) (omega (arith, under, c.requires, c.params_head-h.ensures.moved, c.before_this.ensures.first_le_first, c.opt-a.ensures.within_list, c.opt-a.ensures.past c.if-a-ne0.false, c.freed.ensures.at_value, c.separated-c.ensures.moved, c.this_of-t.ensures.0)), omega (arith, bit, c.requires, c.params_head-h.ensures.moved, c.before_this.ensures.first_le_first, c.opt-a.ensures.within_list, c.opt-a.ensures.past c.if-a-ne0.false, c.freed.ensures.at_value, c.separated-c.ensures.moved, c.this_of-t.ensures.0)))
 
 pub params-shape_of-nodes : goal.params-shape_of-nodes
 params-shape_of-nodes t c =
@@ -1555,12 +1550,12 @@ params-shape_of-names t c =
 
 pub params-returns : goal.params-returns
 params-returns t c =
-    let low = freed_low c.args.is-new c.args.m.used c.opt-a.result.m.used c.args.given.room (omega (arith, c.requires)) (omega (arith, c.opt-a.ensures.within_list)) in
-    let few = freed_low c.args.is-new c.args.m.named c.opt-a.result.m.named c.opt-a.result.m.at (omega (arith, c.params_head-h.ensures.moved, c.opt-a.ensures.within_list, c.opt-a.ensures.past c.if-a-ne0.false, c.requires)) (omega (arith, c.opt-a.ensures.within_list)) in
-    let high = freed_high c.args.is-new c.args.m.used c.opt-a.result.m.used c.args.m.used (omega arith) (omega (arith, c.opt-a.ensures.past c.if-a-ne0.false, c.params_head-h.ensures.moved)) in
+    let low = freed_low c.args.is_new c.args.m.used c.opt-a.result.m.used c.args.given.room (omega (arith, c.requires)) (omega (arith, c.opt-a.ensures.within_list)) in
+    let few = freed_low c.args.is_new c.args.m.named c.opt-a.result.m.named c.opt-a.result.m.at (omega (arith, c.params_head-h.ensures.moved, c.opt-a.ensures.within_list, c.opt-a.ensures.past c.if-a-ne0.false, c.requires)) (omega (arith, c.opt-a.ensures.within_list)) in
+    let high = freed_high c.args.is_new c.args.m.used c.opt-a.result.m.used c.args.m.used (omega arith) (omega (arith, c.opt-a.ensures.past c.if-a-ne0.false, c.params_head-h.ensures.moved)) in
     let bit = bit_low c.opt-a.result.there in
     record {
-      reads_params = λ B r b. params_this (given_of c.args.text.now c.args.words.now c.args.given) (below c.args.given (given_of c.args.text.now c.args.words.now c.args.given)) c.args.is-new c.args.nodes.now c.args.names.now c.args.notes.now c.params_head-h.ensures.opens c.if-h-ne0.false c.if-h-eq0.false b c.before_this.ensures.value (λ C r d. c.opt-a.ensures.option C r d) c.if-a-ne0.false c.freed.ensures.value c.separated-c.ensures.separates c.if-c-ne0.false c.separated-c.ensures.moved c.this_kids-k.ensures (omega (arith, c.requires)) c.this_of-t.ensures (λ run th built i. c.plist-2.ensures.reads_others B run th built i);
+      reads_params = λ B r b. params_this (given_of c.args.text.now c.args.words.now c.args.given) (below c.args.given (given_of c.args.text.now c.args.words.now c.args.given)) c.args.is_new c.args.nodes.now c.args.names.now c.args.notes.now c.params_head-h.ensures.opens c.if-h-ne0.false c.if-h-eq0.false b c.before_this.ensures.value (λ C r d. c.opt-a.ensures.option C r d) c.if-a-ne0.false c.freed.ensures.value c.separated-c.ensures.separates c.if-c-ne0.false c.separated-c.ensures.moved c.this_kids-k.ensures (omega (arith, c.requires)) c.this_of-t.ensures (λ run th built i. c.plist-2.ensures.reads_others B run th built i);
       within_params = omega (arith, low, few, high, bit, c.requires, c.params_head-h.ensures.moved, c.before_this.ensures.first_le_first, c.opt-a.ensures.within_list, c.opt-a.ensures.past c.if-a-ne0.false, c.freed.ensures.at_value, c.separated-c.ensures.moved, c.plist-2.ensures.within_params, c.this_of-t.ensures.0);
       past = λ z. omega (arith, opens_past c.params_head-h.ensures.opens c.if-h-ne0.false, low, few, high, bit, c.requires, c.params_head-h.ensures.moved, c.before_this.ensures.first_le_first, c.opt-a.ensures.within_list, c.opt-a.ensures.past c.if-a-ne0.false, c.freed.ensures.at_value, c.separated-c.ensures.moved, c.plist-2.ensures.within_params, c.this_of-t.ensures.0, z, c.plist-2.ensures.past z);
     }
@@ -1630,7 +1625,7 @@ plist-shape_of-names-then-why-ne0 t c =
 pub plist-returns-then-why-ne0 : goal.plist-returns-then-why-ne0
 plist-returns-then-why-ne0 t c =
     record {
-      reads_others = λ B r th b i.          let w = c.loop-given.invariant.2 B r th b in
+      reads_others = λ B r th b i. let w = c.loop-given.invariant.2 B r th b in
           rest_refused c.refused.ensures c.if-why-ne0.true
           (w.is ∙ parameters_why _ _ th w.fuel w.list _
           (is_not_here c.args.words.now c.loop-given.p c.kind_at.ensures.value c.loop-given-test.true) (c.no_param-why.ensures c.args.text.now c.loop-given.notes c.args.given)
@@ -1654,7 +1649,7 @@ plist-shape_of-names-then-a-ne0 t c =
 pub plist-returns-then-a-ne0 : goal.plist-returns-then-a-ne0
 plist-returns-then-a-ne0 t c =
     record {
-      reads_others = λ B r th b i.          let w = c.loop-given.invariant.2 B r th b in
+      reads_others = λ B r th b i. let w = c.loop-given.invariant.2 B r th b in
           rest_refused c.refused-then-a-ne0.ensures c.if-a-ne0.true
           (w.is ∙ parameters_refused _ _ th w.fuel w.list _
           (is_not_here c.args.words.now c.loop-given.p c.kind_at.ensures.value c.loop-given-test.true)
@@ -1687,7 +1682,7 @@ plist-shape_of-names-then-c-ne0 t c =
 pub plist-returns-then-c-ne0 : goal.plist-returns-then-c-ne0
 plist-returns-then-c-ne0 t c =
     record {
-      reads_others = λ B r th b i.          let w = c.loop-given.invariant.2 B r th b in
+      reads_others = λ B r th b i. let w = c.loop-given.invariant.2 B r th b in
           let got = c.param-a.ensures.reads.done c.if-a-ne0.false in
           rest_refused c.refused-then-c-ne0.ensures c.if-c-ne0.true
           (w.is ∙ parameters_stop _ _ th w.fuel w.list _
@@ -1703,22 +1698,21 @@ plist-loop-given-smaller t c =
     omega (arith, c.param-a.ensures.onward c.if-a-ne0.false)
 
 pub plist-loop-given-preserved : goal.plist-loop-given-preserved
-plist-loop-given-preserved t c =
- (
-      omega (arith, c.param-a.auto, c.param-a.ensures.within, c.param-a.ensures.onward c.if-a-ne0.false, c.separated-c.ensures.moved, c.loop-given.invariant.0, c.requires),
-      omega (arith, c.param-a.ensures.within, c.param-a.ensures.onward c.if-a-ne0.false, c.separated-c.ensures.moved, c.link-k.ensures.under, c.loop-given.invariant.1, c.requires),
-      λ B r th b.          let w = c.loop-given.invariant.2 B r th b in
-          let got = c.param-a.ensures.reads.done c.if-a-ne0.false in
-          turn_parameter _ _ th r _ w c.link-k.result c.param-a.result.m c.separated-c.result _ _ _ got.tree
-          (is_not_here c.args.words.now c.loop-given.p c.kind_at.ensures.value c.loop-given-test.true)
-          (may_begin (given_of c.args.text.now c.args.words.now c.args.given) (view c.loop-given.p c.loop-given.notes) (c.no_param-why.ensures c.args.text.now c.loop-given.notes c.args.given) c.if-why-ne0.false)
-          got.is (separates_as Dot3 c.kind_at-in-loop-given.ensures.value c.separated-c.ensures.separates) c.if-c-ne0.false
-          (omega (arith, c.param-a.ensures.onward c.if-a-ne0.false)) (omega (arith, c.param-a.ensures.within, c.param-a.ensures.onward c.if-a-ne0.false))
-          got.stands.is_node
-          (built_moved c.separated-c.ensures.moved
-          (c.link-k.ensures.links 5 B _ got.tree _ _ _ _ _ _ _ _ _ w.built (omega (arith, c.param-a.auto)) got.stands.is_node got.stands.high_is
-          got.stands.laid)),
-    )
+plist-loop-given-preserved t c = (
+  omega (arith, c.param-a.auto, c.param-a.ensures.within, c.param-a.ensures.onward c.if-a-ne0.false, c.separated-c.ensures.moved, c.loop-given.invariant.0, c.requires),
+  omega (arith, c.param-a.ensures.within, c.param-a.ensures.onward c.if-a-ne0.false, c.separated-c.ensures.moved, c.link-k.ensures.under, c.loop-given.invariant.1, c.requires),
+  λ B r th b. let w = c.loop-given.invariant.2 B r th b in
+      let got = c.param-a.ensures.reads.done c.if-a-ne0.false in
+      turn_parameter _ _ th r _ w c.link-k.result c.param-a.result.m c.separated-c.result _ _ _ got.tree
+      (is_not_here c.args.words.now c.loop-given.p c.kind_at.ensures.value c.loop-given-test.true)
+      (may_begin (given_of c.args.text.now c.args.words.now c.args.given) (view c.loop-given.p c.loop-given.notes) (c.no_param-why.ensures c.args.text.now c.loop-given.notes c.args.given) c.if-why-ne0.false)
+      got.is (separates_as Dot3 c.kind_at-in-loop-given.ensures.value c.separated-c.ensures.separates) c.if-c-ne0.false
+      (omega (arith, c.param-a.ensures.onward c.if-a-ne0.false)) (omega (arith, c.param-a.ensures.within, c.param-a.ensures.onward c.if-a-ne0.false))
+      got.stands.is_node
+      (built_moved c.separated-c.ensures.moved
+      (c.link-k.ensures.links 5 B _ got.tree _ _ _ _ _ _ _ _ _ w.built (omega (arith, c.param-a.auto)) got.stands.is_node got.stands.high_is
+      got.stands.laid)),
+)
 
 pub plist-all-requires : goal.plist-all-requires
 plist-all-requires t c =
@@ -1735,7 +1729,7 @@ plist-shape_of-names t c =
 pub plist-returns : goal.plist-returns
 plist-returns t c =
     record {
-      reads_others = λ B r th b i.          rest_all _ _ th r _ (c.loop-given.invariant.2 B r th b) (is_here c.args.words.now c.loop-given.p c.kind_at.ensures.value c.loop-given-test.false) i
+      reads_others = λ B r th b i. rest_all _ _ th r _ (c.loop-given.invariant.2 B r th b) (is_here c.args.words.now c.loop-given.p c.kind_at.ensures.value c.loop-given-test.false) i
           c.all.ensures;
       within_params = omega (arith, same_params c.all.ensures, c.requires);
       past = λ z. omega (arith, same_params c.all.ensures);
@@ -1769,25 +1763,23 @@ postfix-at-b-requires t c =
     (c.requires.sound, omega arith)
 
 pub postfix-loop-given-init : goal.postfix-loop-given-init
-postfix-loop-given-init t c =
- (
-      omega arith,
-      omega (arith, c.primary-a.ensures.onward c.if-a-ne0.false),
-      λ B u h n.          let g = given_of c.args.text.now c.args.words.now c.args.given in
-          let T = below c.args.given g in
-          marks_begin c.args.text.now c.args.words.now c.args.given T c.at-b.result.first h,
-    )
+postfix-loop-given-init t c = (
+  omega arith,
+  omega (arith, c.primary-a.ensures.onward c.if-a-ne0.false),
+  λ B u h n. let g = given_of c.args.text.now c.args.words.now c.args.given in
+      let T = below c.args.given g in
+      marks_begin c.args.text.now c.args.words.now c.args.given T c.at-b.result.first h,
+)
 
 pub postfix-suffixed-requires : goal.postfix-suffixed-requires
 postfix-suffixed-requires t c =
     (c.requires.classes_are, omega arith)
 
 pub postfix-suffix-c-requires : goal.postfix-suffix-c-requires
-postfix-suffix-c-requires t c =
- (
-      omega (arith, c.primary-a.ensures.onward c.if-a-ne0.false),
-      (ready c.requires (omega arith) (omega arith), suffixed_inside (given_of [] c.args.words.now c.args.given) (view c.loop-given.p []) (sym (c.suffixed.ensures [] [] c.args.given) ∙ c.loop-given-test.true), omega arith, omega arith, omega arith),
-    )
+postfix-suffix-c-requires t c = (
+  omega (arith, c.primary-a.ensures.onward c.if-a-ne0.false),
+  (ready c.requires (omega arith) (omega arith), suffixed_inside (given_of [] c.args.words.now c.args.given) (view c.loop-given.p []) (sym (c.suffixed.ensures [] [] c.args.given) ∙ c.loop-given-test.true), omega arith, omega arith, omega arith),
+)
 
 pub postfix-shape_of-nodes-then-c-ne0 : goal.postfix-shape_of-nodes-then-c-ne0
 postfix-shape_of-nodes-then-c-ne0 t c =
@@ -1818,17 +1810,16 @@ postfix-loop-given-smaller t c =
     omega (arith, c.suffix-c.ensures.past c.if-c-ne0.false, c.loop-given.invariant.1)
 
 pub postfix-loop-given-preserved : goal.postfix-loop-given-preserved
-postfix-loop-given-preserved t c =
- (
-      omega (arith, c.suffix-c.ensures.past c.if-c-ne0.false),
-      omega (arith, c.suffix-c.ensures.past c.if-c-ne0.false),
-      λ B u h n.          let g = given_of c.args.text.now c.args.words.now c.args.given in
-          let T = below c.args.given g in
-          let w = c.loop-given.invariant.2 B u h n in
-          marks_again c.args.text.now c.args.words.now c.args.given T c.at-b.result.first w
-          (sym (c.suffixed.ensures c.args.text.now c.loop-given.notes c.args.given) ∙ c.loop-given-test.true)
-          (c.suffix-c.ensures.behind B w.tree w.stands n) c.if-c-ne0.false (omega (arith, c.suffix-c.ensures.past c.if-c-ne0.false)),
-    )
+postfix-loop-given-preserved t c = (
+  omega (arith, c.suffix-c.ensures.past c.if-c-ne0.false),
+  omega (arith, c.suffix-c.ensures.past c.if-c-ne0.false),
+  λ B u h n. let g = given_of c.args.text.now c.args.words.now c.args.given in
+      let T = below c.args.given g in
+      let w = c.loop-given.invariant.2 B u h n in
+      marks_again c.args.text.now c.args.words.now c.args.given T c.at-b.result.first w
+      (sym (c.suffixed.ensures c.args.text.now c.loop-given.notes c.args.given) ∙ c.loop-given-test.true)
+      (c.suffix-c.ensures.behind B w.tree w.stands n) c.if-c-ne0.false (omega (arith, c.suffix-c.ensures.past c.if-c-ne0.false)),
+)
 
 pub postfix-shape_of-nodes : goal.postfix-shape_of-nodes
 postfix-shape_of-nodes t c =
@@ -2740,13 +2731,12 @@ tparams-overflow_add-p t c =
     omega arith
 
 pub tparams-loop-nodes-init : goal.tparams-loop-nodes-init
-tparams-loop-nodes-init t c =
- (
-      omega arith,
-      omega (arith, same_kids c.none-k.ensures),
-      turn_starts c.args.m _ c.none-k.ensures refl refl refl
-          (types_some _ _ _ _ (is_here c.args.words.now c.args.m c.kind_at.ensures.value c.if-kind_at-ne-L_ANGLE.false)),
-    )
+tparams-loop-nodes-init t c = (
+  omega arith,
+  omega (arith, same_kids c.none-k.ensures),
+  turn_starts c.args.m _ c.none-k.ensures refl refl refl
+      (types_some _ _ _ _ (is_here c.args.words.now c.args.m c.kind_at.ensures.value c.if-kind_at-ne-L_ANGLE.false)),
+)
 
 pub tparams-tparam-a-requires : goal.tparams-tparam-a-requires
 tparams-tparam-a-requires t c =
@@ -2801,16 +2791,15 @@ tparams-loop-nodes-smaller t c =
     omega (arith, c.tparam-a.ensures.onward c.if-a-ne0.false)
 
 pub tparams-loop-nodes-preserved : goal.tparams-loop-nodes-preserved
-tparams-loop-nodes-preserved t c =
- (
-      omega (arith, c.tparam-a.auto, c.tparam-a.ensures.onward c.if-a-ne0.false),
-      omega arith,
-          let goes_on_lem = is_not_here c.args.words.now c.loop-nodes.p c.kind_at-in-loop-nodes.ensures.value c.loop-nodes-test.true in
-          turn_again _ _ _ _ c.loop-nodes.p c.loop-nodes.invariant.2 goes_on_lem (c.tparam-a.ensures.reads.done c.if-a-ne0.false) c.link-k.ensures.links (omega arith)
-          c.link-k.ensures.under.1
-          c.past_comma-s.ensures.follows c.if-s-ne0.false c.past_comma-s.ensures.moved
-          (omega (arith, c.tparam-a.ensures.onward c.if-a-ne0.false)) (omega (arith, c.tparam-a.ensures.onward c.if-a-ne0.false)),
-    )
+tparams-loop-nodes-preserved t c = (
+  omega (arith, c.tparam-a.auto, c.tparam-a.ensures.onward c.if-a-ne0.false),
+  omega arith,
+  let goes_on_lem = is_not_here c.args.words.now c.loop-nodes.p c.kind_at-in-loop-nodes.ensures.value c.loop-nodes-test.true in
+      turn_again _ _ _ _ c.loop-nodes.p c.loop-nodes.invariant.2 goes_on_lem (c.tparam-a.ensures.reads.done c.if-a-ne0.false) c.link-k.ensures.links (omega arith)
+      c.link-k.ensures.under.1
+      c.past_comma-s.ensures.follows c.if-s-ne0.false c.past_comma-s.ensures.moved
+      (omega (arith, c.tparam-a.ensures.onward c.if-a-ne0.false)) (omega (arith, c.tparam-a.ensures.onward c.if-a-ne0.false)),
+)
 
 pub tparams-list_end-requires : goal.tparams-list_end-requires
 tparams-list_end-requires t c =
@@ -2838,12 +2827,11 @@ tuple-overflow_add-p t c =
     omega arith
 
 pub tuple-loop-latest-init : goal.tuple-loop-latest-init
-tuple-loop-latest-init t c =
- (
-      omega arith,
-      omega (arith, same_kids c.none-k.ensures),
-      λ brack.          tuple_begins _ _ c.args.m _ _ _ c.none-k.ensures c.none-latest.ensures brack,
-    )
+tuple-loop-latest-init t c = (
+  omega arith,
+  omega (arith, same_kids c.none-k.ensures),
+  λ brack. tuple_begins _ _ c.args.m _ _ _ c.none-k.ensures c.none-latest.ensures brack,
+)
 
 pub tuple-elem-a-requires : goal.tuple-elem-a-requires
 tuple-elem-a-requires t c =
@@ -2860,7 +2848,7 @@ tuple-shape_of-names-then-a-ne0 t c =
 pub tuple-returns-then-a-ne0 : goal.tuple-returns-then-a-ne0
 tuple-returns-then-a-ne0 t c =
     record {
-      reads = λ brack.          says_stop c.if-a-ne0.true
+      reads = λ brack. says_stop c.if-a-ne0.true
           (tuple_refused c.args.text.now c.args.words.now c.args.given _ _ (c.loop-latest.invariant.2 brack)
           (is_not_here c.args.words.now c.loop-latest.p c.kind_at.ensures.value c.loop-latest-test.true) (c.elem-a.ensures.reads.refused c.if-a-ne0.true));
       within = omega arith;
@@ -2882,7 +2870,7 @@ tuple-shape_of-names-then-e-ne0 t c =
 pub tuple-returns-then-e-ne0 : goal.tuple-returns-then-e-ne0
 tuple-returns-then-e-ne0 t c =
     record {
-      reads = λ brack.          says_as c.refused.ensures
+      reads = λ brack. says_as c.refused.ensures
           (says_stop c.if-e-ne0.true
           (tuple_full c.args.text.now c.args.words.now c.args.given _ _ (c.loop-latest.invariant.2 brack)
           (is_not_here c.args.words.now c.loop-latest.p c.kind_at.ensures.value c.loop-latest-test.true)
@@ -2910,7 +2898,7 @@ tuple-shape_of-names-then-s-ne0 t c =
 pub tuple-returns-then-s-ne0 : goal.tuple-returns-then-s-ne0
 tuple-returns-then-s-ne0 t c =
     record {
-      reads = λ brack.          says_as c.refused-then-s-ne0.ensures
+      reads = λ brack. says_as c.refused-then-s-ne0.ensures
           (says_stop c.if-s-ne0.true
           (tuple_stops c.args.text.now c.args.words.now c.args.given _ _ (c.loop-latest.invariant.2 brack)
           (is_not_here c.args.words.now c.loop-latest.p c.kind_at.ensures.value c.loop-latest-test.true)
@@ -2924,18 +2912,17 @@ tuple-loop-latest-smaller t c =
     omega (arith, c.checked-e.ensures.seen_at, c.elem-a.ensures.onward c.if-a-ne0.false, same_kids c.none-k.ensures)
 
 pub tuple-loop-latest-preserved : goal.tuple-loop-latest-preserved
-tuple-loop-latest-preserved t c =
- (
-      omega (arith, c.elem-a.ensures.within, c.elem-a.auto, c.elem-a.ensures.onward c.if-a-ne0.false, c.loop-latest.invariant.0, c.loop-latest.invariant.1, same_kids c.none-k.ensures),
-      omega arith,
-      λ brack.          tuple_again c.args.text.now c.args.words.now c.args.given _ _ (c.loop-latest.invariant.2 brack)
-          (is_not_here c.args.words.now c.loop-latest.p c.kind_at.ensures.value c.loop-latest-test.true)
-          (c.elem-a.ensures.reads.done c.if-a-ne0.false) c.checked-e.ensures.checks c.if-e-ne0.false c.past_comma-s.ensures.follows c.if-s-ne0.false
-          c.past_comma-s.ensures.moved
-          (omega (arith, c.elem-a.ensures.onward c.if-a-ne0.false))
-          (omega (arith, c.elem-a.ensures.onward c.if-a-ne0.false, c.elem-a.ensures.within)) c.link-k.ensures.links c.link-k.ensures.under.1
-          (omega (arith, c.elem-a.auto)),
-    )
+tuple-loop-latest-preserved t c = (
+  omega (arith, c.elem-a.ensures.within, c.elem-a.auto, c.elem-a.ensures.onward c.if-a-ne0.false, c.loop-latest.invariant.0, c.loop-latest.invariant.1, same_kids c.none-k.ensures),
+  omega arith,
+  λ brack. tuple_again c.args.text.now c.args.words.now c.args.given _ _ (c.loop-latest.invariant.2 brack)
+      (is_not_here c.args.words.now c.loop-latest.p c.kind_at.ensures.value c.loop-latest-test.true)
+      (c.elem-a.ensures.reads.done c.if-a-ne0.false) c.checked-e.ensures.checks c.if-e-ne0.false c.past_comma-s.ensures.follows c.if-s-ne0.false
+      c.past_comma-s.ensures.moved
+      (omega (arith, c.elem-a.ensures.onward c.if-a-ne0.false))
+      (omega (arith, c.elem-a.ensures.onward c.if-a-ne0.false, c.elem-a.ensures.within)) c.link-k.ensures.links c.link-k.ensures.under.1
+      (omega (arith, c.elem-a.auto)),
+)
 
 pub tuple-tuple_node-requires : goal.tuple-tuple_node-requires
 tuple-tuple_node-requires t c =
@@ -2952,7 +2939,7 @@ tuple-shape_of-names t c =
 pub tuple-returns : goal.tuple-returns
 tuple-returns t c =
     record {
-      reads = λ brack.          says_same
+      reads = λ brack. says_same
           (tuple_closed c.args.text.now c.args.words.now c.args.given _ _ (c.loop-latest.invariant.2 brack) c.at.ensures.first_value.0
           (is_here c.args.words.now c.loop-latest.p c.kind_at.ensures.value c.loop-latest-test.false))
           (c.tuple_node.ensures.makes_list c.args.text.now _ _ _ _ _ (c.loop-latest.invariant.2 brack).turn.built c.at.ensures.first_value.1

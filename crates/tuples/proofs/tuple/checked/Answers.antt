@@ -20,11 +20,14 @@ returns-then-last_tag-eq-REST c =
 
 pub returns : goal.returns
 returns c =
-    record { checks = checks_other c.args.given c.args.latest c.args.m c.args.nodes.now c.args.notes.now c.requires.2 c.requires.1 c.place_at-place.result c.report_both-a.result _ (sym c.is_optional.ensures ∙ c.if-is_optional.false) (not-false _ c.if-not-latest.false) (λ z. c.if-last_tag-eq-REST.false (c.last_tag.ensures ∙ z)) c.place_at-place.ensures.0 c.place_at-place.ensures.1 c.report_both-a.ensures.reports; seen_at = record {
+    record {
+      checks = checks_other c.args.given c.args.latest c.args.m c.args.nodes.now c.args.notes.now c.requires.2 c.requires.1 c.place_at-place.result c.report_both-a.result _ (sym c.is_optional.ensures ∙ c.if-is_optional.false) (not-false _ c.if-not-latest.false) (λ z. c.if-last_tag-eq-REST.false (c.last_tag.ensures ∙ z)) c.place_at-place.ensures.0 c.place_at-place.ensures.1 c.report_both-a.ensures.reports;
+      seen_at = record {
         at_is = c.report_both-a.ensures.noted.at_is;
         half_is = c.report_both-a.ensures.noted.half_is;
         used_is = c.report_both-a.ensures.noted.used_is;
         named_is = c.report_both-a.ensures.noted.named_is;
         more = c.report_both-a.ensures.noted.more;
         recorded = c.report_both-a.ensures.noted.recorded;
-      } }
+      };
+    }

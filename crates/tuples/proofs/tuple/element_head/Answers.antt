@@ -9,13 +9,12 @@ use borrow.Author.Rules.{rules}
 use Rattle.tuples.proofs.tuple.element_head.Goals as goal
 
 pub labelled-requires : goal.labelled-requires
-labelled-requires c =
- (
-      c.requires.1,
-      record { inside = c.past-p.ensures.moved.inside; half = c.past-p.ensures.moved.half },
-      omega (arith, c.past-p.ensures.moved.named_is, c.past-p.ensures.moved.ahead, c.requires.3),
-      sym c.is_next_token_colon_or_question_colon.ensures ∙ c.if-is_next_token_colon_or_question_colon.true,
-    )
+labelled-requires c = (
+  c.requires.1,
+  record { inside = c.past-p.ensures.moved.inside; half = c.past-p.ensures.moved.half },
+  omega (arith, c.past-p.ensures.moved.named_is, c.past-p.ensures.moved.ahead, c.requires.3),
+  sym c.is_next_token_colon_or_question_colon.ensures ∙ c.if-is_next_token_colon_or_question_colon.true,
+)
 
 pub returns-then-is_next_token_colon_or_question_colon : goal.returns-then-is_next_token_colon_or_question_colon
 returns-then-is_next_token_colon_or_question_colon c =
@@ -25,9 +24,9 @@ returns-then-is_next_token_colon_or_question_colon c =
       label_is = h.0;
       starts_element = h.1;
       along = (
-          along_then (along_moved c.past-p.ensures.moved) c.labelled.ensures.along.0,
-          record { first = subst (λ (x : Label). x.b.first < 2 ^ 32) (sym c.labelled.ensures.value.0) c.at-b.ensures.first_bound; label = c.labelled.ensures.along.1; typed = c.labelled.ensures.along.2 },
-        );
+        along_then (along_moved c.past-p.ensures.moved) c.labelled.ensures.along.0,
+        record { first = subst (λ (x : Label). x.b.first < 2 ^ 32) (sym c.labelled.ensures.value.0) c.at-b.ensures.first_bound; label = c.labelled.ensures.along.1; typed = c.labelled.ensures.along.2 },
+      );
     }
 
 pub returns : goal.returns

@@ -14,13 +14,12 @@ spell-p-requires c =
     (c.requires.0, label_inside c.args.words.now c.args.m c.requires.3, c.requires.2)
 
 pub past-requires : goal.past-requires
-past-requires c =
- (
-      c.requires.0,
-      subst (λ (x : Mark). Inside (length c.args.words.now) x) (sym c.spell-p.ensures.0)
-          (record { inside = omega (arith, label_inside c.args.words.now c.args.m c.requires.3); half = omega arith }),
-      omega arith,
-    )
+past-requires c = (
+  c.requires.0,
+  subst (λ (x : Mark). Inside (length c.args.words.now) x) (sym c.spell-p.ensures.0)
+      (record { inside = omega (arith, label_inside c.args.words.now c.args.m c.requires.3); half = omega arith }),
+  omega arith,
+)
 
 pub first_byte-requires-2 : goal.first_byte-requires-2
 first_byte-requires-2 c =
@@ -37,12 +36,15 @@ past-requires-2 c =
 
 pub returns : goal.returns
 returns c =
-    record { value = (
+    record {
+      value = (
         label_made c.args.words.now c.args.b c.args.rest c.args.m c.spell-p.result c.past.result c.next-q.result c.past-2.result _ _ _ _
             c.spell-p.ensures.0 c.past.ensures.value c.next-q.ensures c.past-2.ensures.value c.first_byte.ensures.value c.kind_at.ensures.value c.first_byte-2.ensures.value c.kind_at-2.ensures.value,
         c.spell-p.ensures.1,
-      ); along = (
+      );
+      along = (
         along_label (length c.args.words.now) c.args.m c.spell-p.result c.past.result c.next-q.result c.past-2.result c.spell-p.ensures.0 c.past.ensures.moved c.next-q.ensures c.past-2.ensures.moved c.requires.1.half,
         c.first_byte.ensures.upper_bound,
         c.first_byte-2.ensures.upper_bound,
-      ) }
+      );
+    }

@@ -22,5 +22,8 @@ put_about-requires c =
 
 pub returns : goal.returns
 returns c =
-    record { makes_rest = rest_about c.args.words.now c.args.given c.args.l c.args.high c.args.m c.args.nodes.now c.args.notes.now c.report_if-a.result _ _ (not-false _ c.if-not-l.false) c.end_byte.result c.end_byte.ensures.value c.report_if-a.ensures.reports c.put_about.result c.if-a-ne0.false c.put_about.ensures.makes_about; reached = reached_put c.report_if-a.result.m refl (fine_noted c.requires.2 c.report_if-a.ensures.noted) (omega (arith, c.report_if-a.ensures.noted.at_is, c.report_if-a.ensures.noted.half_is))
-          (omega (arith, c.report_if-a.ensures.noted.used_is)) c.put_about.ensures.put }
+    record {
+      makes_rest = rest_about c.args.words.now c.args.given c.args.l c.args.high c.args.m c.args.nodes.now c.args.notes.now c.report_if-a.result _ _ (not-false _ c.if-not-l.false) c.end_byte.result c.end_byte.ensures.value c.report_if-a.ensures.reports c.put_about.result c.if-a-ne0.false c.put_about.ensures.makes_about;
+      reached = reached_put c.report_if-a.result.m refl (fine_noted c.requires.2 c.report_if-a.ensures.noted) (omega (arith, c.report_if-a.ensures.noted.at_is, c.report_if-a.ensures.noted.half_is))
+          (omega (arith, c.report_if-a.ensures.noted.used_is)) c.put_about.ensures.put;
+    }

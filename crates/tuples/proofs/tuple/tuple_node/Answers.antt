@@ -9,17 +9,16 @@ use borrow.Author.Rules.{rules}
 use Rattle.tuples.proofs.tuple.tuple_node.Goals as goal
 
 pub put_list-requires : goal.put_list-requires
-put_list-requires c =
- (
-      c.requires.0,
-      c.requires.1,
-      subst (λ (x : Mark). Fine (length c.args.words.now) c.args.given x) (sym c.next.ensures)
-          (record { inside = omega arith; half = omega arith; roomy = c.requires.2.roomy; few = omega arith; recorded = c.requires.2.recorded }),
-      subst (λ (x : Mark). Under x.used c.args.k) (sym c.next.ensures) c.requires.4,
-      c.requires.5,
-      c.requires.6,
-      omega arith,
-    )
+put_list-requires c = (
+  c.requires.0,
+  c.requires.1,
+  subst (λ (x : Mark). Fine (length c.args.words.now) c.args.given x) (sym c.next.ensures)
+      (record { inside = omega arith; half = omega arith; roomy = c.requires.2.roomy; few = omega arith; recorded = c.requires.2.recorded }),
+  subst (λ (x : Mark). Under x.used c.args.k) (sym c.next.ensures) c.requires.4,
+  c.requires.5,
+  c.requires.6,
+  omega arith,
+)
 
 pub returns : goal.returns
 returns c =
