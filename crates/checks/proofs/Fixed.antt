@@ -1,14 +1,14 @@
 -- Laws of the fixed spellings: each was computed once over all kinds.
-use mathlib.Core.Path.{◌≡◌, refl, sym, ap, ap₂, ◌∙◌, subst}
+use mathlib.Core.Path.{◌≡◌, refl, sym, ap, ◌∙◌}
 use mathlib.Core.Bool.{Bool, true, false, not}
-use mathlib.Core.List.{List, [], ◌∷◌, ◌++◌}
-use Prim.Native.Nat.{ℕ, zero, suc, ◌+◌, ◌-◌, ◌*◌, ◌/◌, ◌%◌, ◌≤◌, ◌<◌}
+use mathlib.Core.List.{List, [], ◌∷◌}
+use Prim.Native.Nat.{ℕ, zero, suc, ◌+◌, ◌-◌, ◌/◌, ◌%◌, ◌≤◌, ◌<◌}
 use native.Mathlib.Omega.{arith}
 use borrow.Author.Tests.{eqb-true, leb-true, ltb-true, lt-leb}
 use native.Mathlib.Nat.{add-zero}
 use lib.Seq.{get_or-take, get_or-drop}
 use lib.Dec.{eqb, leb, ltb}
-use lib.ListN.{length, get_or, take, drop}
+use lib.ListN.{length, get_or, drop}
 use mathlib.Core.Logic.{⊎_elim}
 use Rattle.words.specs.Test.{◌and◌, ◌or◌, same, between}
 use Rattle.words.specs.Kind.{LCurly, Star, Any, Unique, Extends, Const}

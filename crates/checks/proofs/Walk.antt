@@ -1,8 +1,8 @@
 -- Laws of the token check: a word by its tests, and the list one word at a time.
-use mathlib.Core.Path.{◌≡◌, refl, sym, ap, ap₂, ◌∙◌}
+use mathlib.Core.Path.{◌≡◌, refl, sym, ap, ◌∙◌}
 use mathlib.Core.Bool.{Bool, true, false, not}
 use mathlib.Core.List.{List, [], ◌∷◌}
-use Prim.Native.Nat.{ℕ, zero, suc, ◌+◌, ◌-◌, ◌≤◌, ◌<◌}
+use Prim.Native.Nat.{ℕ, zero, suc, ◌+◌, ◌≤◌, ◌<◌}
 use native.Mathlib.Numerals.{add-one}
 use native.Mathlib.Omega.{arith}
 use borrow.Author.Tests.{eq-eqb, ne_eqb, leb-true}
@@ -15,7 +15,7 @@ use Rattle.words.specs.Kind.{Eof, Word}
 use Rattle.words.specs.Class.{good_kind, fixed, other}
 use Rattle.words.specs.Spelling.{spelling, spelled_right, spelled_as_any, backslash}
 use Rattle.words.specs.Test.{same}
-use Rattle.words.specs.Check.{Verdict, sound, refused, part, none, ends_well, placed, good_fields, good_word, judged, words_from, check}
+use Rattle.words.specs.Check.{sound, refused, part, none, ends_well, placed, good_fields, good_word, judged, words_from, check}
 use Rattle.words.proofs.Tests.{both_true}
 
 -- ---- one word, its fields read and its tests answered

@@ -1,5 +1,4 @@
 -- What the answer of the check says in 01's numbers: the refusal and its place.
-use Rattle.std.specs.Prelude.{ℕ}
 use Rattle.words.specs.Check.{Verdict, sound, refused}
 use Rattle.checks.specs.declared.check.Checked.{Checked}
 use Rattle.checks.specs.declared.check.Checked.TheVariants.{Sound, BadList, BadToken}

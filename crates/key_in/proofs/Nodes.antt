@@ -6,7 +6,7 @@ use native.Mathlib.Nat.{add-zero}
 use native.Mathlib.Omega.{arith}
 use lib.ListN.{length, drop, length-drop}
 use Rattle.keys.specs.Bits.{Bits}
-use Rattle.keys.specs.Form.{Form, one, word, both, child, Grammar, State, state}
+use Rattle.keys.specs.Form.{Form, one, both, child, Grammar, State, state}
 use Rattle.keys.specs.Limits.{widest, half_word, choices_wide}
 use Rattle.keys.specs.Store.{Run, done, chose, kid}
 use Rattle.keys.proofs.StoreLaws.{join_done}

@@ -1,12 +1,11 @@
 -- The laws of the whole key: what is written into zeros from their start is the key, as much of it as fits.
 use mathlib.Core.Path.{◌≡◌, refl, sym, ap, ap₂, ◌∙◌, subst}
 use mathlib.Core.Bool.{false}
-use mathlib.Core.List.{List, [], ◌∷◌, ◌++◌, append_assoc, append-nil}
+use mathlib.Core.List.{List, [], ◌∷◌, ◌++◌, append_assoc}
 use Prim.Native.Nat.{ℕ, zero, suc, ◌+◌, ◌*◌, ◌/◌, ◌^◌, ◌≤◌, ◌<◌}
-use native.Mathlib.Numerals.{add-one}
 use native.Mathlib.Omega.{arith}
-use lib.ListN.{length, get_or, set, take, replicate, length-set, replicate-append-replicate}
-use lib.Seq.{sets, take-suc-set, take_all, length-take-le}
+use lib.ListN.{length, get_or, take, replicate, replicate-append-replicate}
+use lib.Seq.{sets, take_all}
 use Rattle.keys.specs.Bits.{Bits, bits_of, bits_of_bytes}
 use Rattle.keys.proofs.BitsLaws.{length_bits, bytes_one}
 use Rattle.keys.specs.Form.{choice, one, child, both, Grammar, Bytes, height, nodes, write}

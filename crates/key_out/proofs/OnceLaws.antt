@@ -1,7 +1,7 @@
 -- Nodes that are put at once: what they hold, by their word alone.
 use mathlib.Core.Path.{◌≡◌, refl, sym, ap, ◌∙◌, subst}
 use mathlib.Core.Bool.{Bool, true, false}
-use Prim.Native.Nat.{ℕ, ◌+◌, ◌*◌, ◌/◌, ◌%◌, ◌^◌, ◌≤◌, ◌<◌}
+use Prim.Native.Nat.{ℕ, ◌+◌, ◌/◌, ◌%◌, ◌^◌, ◌≤◌, ◌<◌}
 use native.Mathlib.Omega.{arith}
 use native.Mathlib.Nat.{mod-lt}
 use borrow.Author.Tests.{eqb-true, ne_eqb}
@@ -14,15 +14,15 @@ use Rattle.words.proofs.Tests.{both_true}
 use Rattle.keys.specs.Limits.{count_width}
 use Rattle.keys.specs.Key.{node_table}
 use Rattle.keys.specs.Table.{when}
-use Rattle.keys.specs.Store.{Run, done, chose, name, kid, called}
+use Rattle.keys.specs.Store.{Run, done, chose, name, called}
 use Rattle.keys.specs.Holds.{word_at, child_at, Spells, Cursor, cursor, HoldsBy}
-use Rattle.fields.specs.Put.{far, Put}
-use Rattle.fields.proofs.PutLaws.{put_none, put_append, bits_three}
+use Rattle.fields.specs.Put.{Put}
+use Rattle.fields.proofs.PutLaws.{put_append, bits_three}
 use Rattle.node_table.specs.Moves.{Noded, Spelled, items}
 use Rattle.node_table.specs.Forms.{grammar_of, table_words}
 use Rattle.key_out.specs.Out.{key_bits, is_once}
 use Rattle.key_out.proofs.OutLaws.{items_written}
-use Rattle.keys.specs.Lines.{in_line, lined, tagged, Of, of_one, of_word, of_choose, of_child, written}
+use Rattle.keys.specs.Lines.{in_line, lined, tagged, Of, of_one, of_word, of_choose, written}
 
 -- The node table with its rows in line.
 abbrev pub L : Grammar

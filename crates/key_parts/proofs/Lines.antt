@@ -1,21 +1,18 @@
 -- From forms to runs: what a value of a form puts into the store, also where the forms stand in line.
-use mathlib.Core.Path.{◌≡◌, refl, sym, ap, ap₂, ◌∙◌, subst}
+use mathlib.Core.Path.{◌≡◌, refl, sym, ap, ap₂, ◌∙◌}
 use mathlib.Core.Bool.{Bool, true, false}
-use mathlib.Core.List.{List, [], ◌∷◌}
-use Prim.Native.Nat.{ℕ, zero, suc, ◌+◌, ◌-◌, ◌*◌, ◌≤◌, ◌<◌}
+use Prim.Native.Nat.{ℕ, zero, suc, ◌+◌, ◌-◌, ◌≤◌}
 use native.Mathlib.Omega.{arith}
-use lib.Dec.{leb, ltb}
 use Rattle.keys.specs.Bits.{Bits, Field, short, field, take_field}
-use Rattle.keys.specs.Form.{Value, nothing, spelt, choice, pair, node, letters, Form, never, one, word, choose, both, child, Grammar, is_never, Fits, fits_word, State, state, Result, got, stop, stop_at, into, and_then, allowed, if_whole, take_choice, take_spelling, take_room, take_form, take_node, wider}
+use Rattle.keys.specs.Form.{Value, choice, pair, node, letters, Form, never, one, word, choose, both, child, Grammar, is_never, Fits, fits_word, State, state, Result, got, stop, into, and_then, allowed, if_whole, take_spelling, take_room, take_form, take_node, wider}
 use Rattle.keys.proofs.FormLaws.{form_back}
-use Rattle.keys.specs.Limits.{too_tall}
 use Rattle.keys.specs.Placed.{laid}
-use Rattle.keys.specs.Store.{Run, done, chose, name, kid, plant, ◌⊕◌}
+use Rattle.keys.specs.Store.{Run, done, chose, plant}
 use Rattle.keys.proofs.StoreLaws.{join_done, plant_join}
 use Rattle.keys.specs.Lines.{in_line, lined}
-use Rattle.key_parts.specs.Runs.{Ran, ran, halt, halt_at, after, then_run, as_child, spelled_at, as_name, allowed_run, whole_run, choice_run, room_run, form_run, node_run}
+use Rattle.key_parts.specs.Runs.{Ran, ran, halt, after, then_run, as_child, spelled_at, as_name, allowed_run, whole_run, room_run, form_run, node_run}
 use Rattle.key_parts.specs.Widths.{Spans}
-use Rattle.key_parts.proofs.Steps.{after_done, after_after, then_after}
+use Rattle.key_parts.proofs.Steps.{after_done, then_after}
 
 -- ---- A value and its run
 

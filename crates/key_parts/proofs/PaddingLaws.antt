@@ -1,14 +1,14 @@
 -- The last bits of a key: zeros to the byte, and no byte more.
 use mathlib.Core.Path.{◌≡◌, refl, sym, ap, ap₂, ◌∙◌}
 use mathlib.Core.Bool.{Bool, true, false}
-use mathlib.Core.List.{List, [], ◌∷◌}
-use Prim.Native.Nat.{ℕ, zero, suc, ◌+◌, ◌-◌, ◌*◌, ◌%◌, ◌≤◌, ◌<◌}
+use mathlib.Core.List.{◌∷◌}
+use Prim.Native.Nat.{ℕ, suc, ◌+◌, ◌-◌, ◌*◌, ◌%◌, ◌≤◌, ◌<◌}
 use native.Mathlib.Numerals.{add-one}
 use native.Mathlib.Omega.{arith}
 use lib.ListN.{length, get_or, drop, length-drop, drop_of_length-le}
 use lib.Seq.{drop-cons}
-use Rattle.keys.specs.Bits.{Bits, unit, Field, field, take_field}
-use Rattle.keys.specs.Form.{Value, state, got, stop}
+use Rattle.keys.specs.Bits.{Bits, unit, field, take_field}
+use Rattle.keys.specs.Form.{Value, stop}
 use Rattle.keys.specs.Limits.{bad_key}
 use Rattle.keys.specs.Key.{padding}
 use Rattle.fields.proofs.Chunks.{Told}

@@ -1,17 +1,17 @@
 -- Our node table: no part of a row that something follows is never, and a node's choices fit its word.
-use mathlib.Core.Path.{◌≡◌, refl, sym, ap, ◌∙◌, subst}
+use mathlib.Core.Path.{◌≡◌, refl, sym, ap, subst}
 use mathlib.Core.Bool.{Bool, true, false}
 use mathlib.Core.List.{List, [], ◌∷◌}
 use Prim.Native.Nat.{ℕ, zero, suc, ◌+◌, ◌-◌, ◌≤◌}
 use native.Mathlib.Omega.{arith}
 use borrow.Author.Tests.{ne_eqb}
 use lib.Dec.{leb, ltb}
-use Rattle.keys.specs.Form.{Form, never, one, word, choose, both, child, Grammar, is_never}
-use Rattle.keys.specs.Limits.{newest, count_width, tag_wide, choices_wide}
-use Rattle.keys.specs.Table.{when, one_of, times, flag, below, opt, needed, spelling, subject, list, args, rows, rows_of, table, named_row, type_param_row, param_row, property_key, signature_row, literals, type, under_rest, type_under}
+use Rattle.keys.specs.Form.{Form, one, choose, both, child, Grammar, is_never}
+use Rattle.keys.specs.Limits.{newest, count_width, choices_wide}
+use Rattle.keys.specs.Table.{when, one_of, times, flag, below, opt, needed, spelling, subject, list, args, rows, rows_of, named_row, type_param_row, param_row, property_key, signature_row, literals, type, type_under}
 use Rattle.keys.specs.Key.{node_table}
 use Rattle.keys.specs.Lines.{in_line, lined}
-use Rattle.node_table.specs.Forms.{grammar_of, table_words}
+use Rattle.node_table.specs.Forms.{table_words}
 use Rattle.node_table.proofs.FormsLaws.{words_are, words_narrow}
 use Rattle.key_parts.specs.Widths.{Spans, Slim}
 use Rattle.key_parts.proofs.Lines.{Fine, never_fine, one_fine, word_fine, child_fine, choose_fine, both_fine, line_spans, spans_more}

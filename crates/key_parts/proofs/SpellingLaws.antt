@@ -1,12 +1,12 @@
 -- A spelling of the key: each way in which the code answers.
-use mathlib.Core.Path.{◌≡◌, refl, sym, ap, ap₂, ◌∙◌, subst, subst₂}
+use mathlib.Core.Path.{◌≡◌, sym, ◌∙◌, subst, subst₂}
 use mathlib.Core.List.{List, [], ◌∷◌, ◌++◌}
-use Prim.Native.Nat.{ℕ, zero, suc, ◌+◌, ◌-◌, ◌*◌, ◌/◌, ◌^◌, ◌≤◌, ◌<◌}
+use Prim.Native.Nat.{ℕ, ◌+◌, ◌-◌, ◌*◌, ◌/◌, ◌≤◌, ◌<◌}
 use native.Mathlib.Omega.{arith}
 use lib.ListN.{length, take, drop}
 use Rattle.keys.specs.Limits.{half_word}
 use Rattle.keys.specs.Bits.{Bits, take_field, bits_of_bytes}
-use Rattle.keys.specs.Form.{spelt, State, state, Result, got, stop, take_spelling}
+use Rattle.keys.specs.Form.{spelt, state, got, stop, take_spelling}
 use Rattle.keys.proofs.BitsLaws.{length_bytes}
 use Rattle.keys.specs.Words.{first_names}
 use Rattle.keys.proofs.Cells.{name_roomy}

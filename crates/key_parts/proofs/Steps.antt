@@ -1,22 +1,22 @@
 -- Steps of taking back: names, choices, and how runs join.
 use mathlib.Core.Path.{◌≡◌, refl, sym, ap, ap₂, ◌∙◌, subst}
 use mathlib.Core.Bool.{Bool, true, false}
-use mathlib.Core.List.{List, [], ◌∷◌, ◌++◌, append_assoc, append-nil}
+use mathlib.Core.List.{List, [], ◌∷◌, ◌++◌}
 use mathlib.Core.Logic.{◌⊎◌, inl, inr}
-use Prim.Native.Nat.{ℕ, zero, suc, ◌+◌, ◌-◌, ◌*◌, ◌/◌, ◌%◌, ◌^◌, ◌≤◌, ◌<◌}
+use Prim.Native.Nat.{ℕ, zero, suc, ◌+◌, ◌-◌, ◌*◌, ◌/◌, ◌≤◌, ◌<◌}
 use native.Mathlib.Omega.{arith}
 use borrow.Author.Tests.{le-leb, lt-leb}
 use lib.Dec.{leb}
 use lib.ListN.{length, take, drop, length-drop}
 use lib.Seq.{drop-drop}
-use Rattle.keys.specs.Bits.{Bits, Field, short, field, take_field, Row, cut, row, ahead, after_byte, take_bytes}
-use Rattle.keys.specs.Form.{Value, spelt, Form, word, both, is_never, State, state, Result, got, stop, keep, take_letters, take_length, take_spelling}
+use Rattle.keys.specs.Bits.{Bits, field, take_field, cut, row, ahead, after_byte, take_bytes}
+use Rattle.keys.specs.Form.{spelt, Form, word, both, is_never, State, state, Result, got, stop, keep, take_letters, take_length, take_spelling}
 use Rattle.keys.specs.Limits.{bad_key, no_space, half_word}
-use Rattle.keys.specs.Store.{Run, done, name, name_of, ◌⊕◌}
+use Rattle.keys.specs.Store.{Run, done, name, ◌⊕◌}
 use Rattle.keys.proofs.StoreLaws.{join_join}
 use Rattle.keys.proofs.BitsLaws.{take_whole_lem, take_short, bytes_back, le_or_lt}
-use Rattle.keys.specs.Words.{first_nodes, first_names}
-use Rattle.keys.specs.Stored.{letters_in, Base, Stored, Own}
+use Rattle.keys.specs.Words.{first_names}
+use Rattle.keys.specs.Stored.{Stored, Own}
 use Rattle.keys.proofs.StoredLaws.{stored_same, own_same, stored_name, own_name}
 use Rattle.fields.specs.Take.{answered}
 use Rattle.fields.specs.Reader.{remembered}

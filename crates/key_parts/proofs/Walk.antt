@@ -7,10 +7,10 @@ use native.Mathlib.Omega.{arith}
 use lib.ListN.{length, set, length-set, length-drop}
 use Rattle.keys.specs.Limits.{widest, choices_wide}
 use Rattle.keys.specs.Bits.{Bits}
-use Rattle.keys.specs.Form.{Form, word, choose, both, child, State}
+use Rattle.keys.specs.Form.{Form, word, choose, both, State}
 use Rattle.keys.specs.Store.{Run, done, chose, ◌⊕◌}
 use Rattle.keys.proofs.StoreLaws.{join_join}
-use Rattle.keys.specs.Stored.{Base, base, Stored, Own}
+use Rattle.keys.specs.Stored.{Base, Stored, Own}
 use Rattle.keys.proofs.StoredLaws.{stored_same, own_same, stored_choice, own_choice, kid_first, kid_next, own_first, own_next}
 use Rattle.node_table.specs.Forms.{Entry, form_by, form_of, leads, entry_of, spellings_then, nodes_then, spelling_if, table_most, entry_at, IsRow, Narrow}
 use Rattle.node_table.specs.declared.forms.Row.{Row}

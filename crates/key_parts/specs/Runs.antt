@@ -1,5 +1,5 @@
 -- Taking a key back as it goes into the store: what a form puts into its node, and then what is left (01, The two calls; Refusal numbers).
-use Rattle.std.specs.Prelude.{Bool, true, false, List, [], ◌++◌, ℕ, zero, suc, ◌-◌, length}
+use Rattle.std.specs.Prelude.{Bool, true, false, ℕ, zero, suc, ◌-◌, length}
 use Rattle.keys.specs.Bits.{Bits, Field, short, field, take_field}
 use Rattle.keys.specs.Form.{Value, nothing, spelt, choice, pair, node, Form, never, one, word, choose, both, child, Grammar, is_never, State, state, Result, got, stop, take_spelling, wider}
 use Rattle.keys.specs.Limits.{too_tall, no_room, bad_key}

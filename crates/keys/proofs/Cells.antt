@@ -1,12 +1,12 @@
 -- Words stored one after the other, and the rest cleared.
-use mathlib.Core.Path.{◌≡◌, refl, sym, ap, ap₂, ◌∙◌, subst}
+use mathlib.Core.Path.{◌≡◌, refl, sym, ap, ap₂, ◌∙◌}
 use mathlib.Core.List.{List, [], ◌∷◌, ◌++◌, append_assoc, append-nil}
-use Prim.Native.Nat.{ℕ, zero, suc, ◌+◌, ◌-◌, ◌*◌, ◌^◌, ◌≤◌, ◌<◌, min}
+use Prim.Native.Nat.{ℕ, zero, suc, ◌+◌, ◌-◌, ◌*◌, ◌≤◌, ◌<◌}
 use native.Mathlib.Numerals.{add-one}
 use native.Mathlib.Omega.{arith}
-use lib.ListN.{length, take, drop, set, replicate, length-set, length-append, length-take, take-append-drop}
-use lib.Seq.{take-suc-set, take_all, take-set-le, length-take-le, set_out, take-length}
-use Rattle.keys.specs.Limits.{record_words, half_word}
+use lib.ListN.{length, take, set, replicate, length-set, length-append, length-take}
+use lib.Seq.{take-suc-set, take_all, length-take-le}
+use Rattle.keys.specs.Limits.{half_word}
 use Rattle.keys.specs.Store.{filled}
 use Rattle.keys.specs.Words.{first_nodes, first_names}
 

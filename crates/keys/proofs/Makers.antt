@@ -1,17 +1,16 @@
 -- Every maker's tree is one of the node table: a lemma for each entry, and what a type may stand for.
-use mathlib.Core.Path.{◌≡◌, refl, sym, ap, ◌∙◌, subst}
+use mathlib.Core.Path.{◌≡◌, refl, sym, ap, subst}
 use mathlib.Core.Bool.{Bool, true, false}
 use mathlib.Core.List.{List, [], ◌∷◌, ◌++◌}
-use Prim.Native.Nat.{ℕ, zero, suc, ◌+◌, ◌^◌, ◌≤◌, ◌<◌}
+use Prim.Native.Nat.{ℕ, zero, suc, ◌^◌, ◌<◌}
 use native.Mathlib.Omega.{arith}
 use borrow.Author.Tests.{le-leb, lt-ltb, eqb-true}
 use lib.Dec.{T, eqb, ltb, ltb→lt}
 use lib.ListN.{length, length-append}
-use Rattle.keys.specs.Bits.{unit}
-use Rattle.keys.specs.Form.{Value, Form, never, one, choose, child, Fits, fits_one, fits_word, fits_choose, fits_both, fits_child}
+use Rattle.keys.specs.Form.{Value, Form, never, one, child, Fits, fits_one, fits_word, fits_choose, fits_both, fits_child}
 use Rattle.keys.specs.Limits.{count_width}
 use Rattle.keys.specs.Table.{◌⊗◌, when, one_of, times, flag, below, opt, spelling, type, element, under_rest, under_name, type_param, param, literals, subject, named_row, property_key, member, signature_row, list, rows, rows_of}
-use Rattle.keys.specs.Placed.{Placed, void, said, pick, join, tree, bare, Spelling, Opt, absent, present, spell, bit, number, entries, listed, spellings, listed_names, maybe, maybe_list, maybe_this, subject_of, pieces, reference, keyword, literal, parens, union, intersection, array, indexed, conditional, infer, operator, function, constructor, mapped, template, predicate, typeof, import_type, tuple, optional, rest, named, non_null, asked, type_parameter, parameter, PropertyKey, spell_key, maybe_named, signature, object, property, method, call_signature, construct_signature, index_signature, tag_of, is_asked, optional_if, as_element}
+use Rattle.keys.specs.Placed.{Placed, void, said, pick, join, tree, bare, Spelling, Opt, absent, present, spell, bit, number, entries, listed, spellings, listed_names, maybe, maybe_list, maybe_this, subject_of, pieces, reference, keyword, literal, parens, union, intersection, array, indexed, conditional, infer, operator, function, constructor, mapped, template, predicate, typeof, import_type, tuple, optional, rest, named, non_null, asked, type_parameter, parameter, PropertyKey, spell_key, maybe_named, signature, object, property, method, call_signature, construct_signature, index_signature, optional_if, as_element}
 use Rattle.keys.specs.Key.{node_table}
 use Rattle.keys.proofs.Fitting.{Is, IsSpelling, Each, IfAny, Few, IsList, IsNames, IsPiece, IsPropertyKey, IsNamed}
 use Rattle.keys.proofs.BitsLaws.{clash}

@@ -1,5 +1,5 @@
 -- Taking back meets no refusal but 6, 8, 10 and 11, over any node table.
-use mathlib.Core.Path.{◌≡◌, refl, sym, ap, ◌∙◌, subst, subst₂}
+use mathlib.Core.Path.{◌≡◌, subst₂}
 use mathlib.Core.Bool.{Bool, true, false}
 use mathlib.Core.List.{List, [], ◌∷◌}
 use Prim.Native.Nat.{ℕ, zero, suc, ◌-◌, ◌%◌, ◌≤◌}
@@ -8,8 +8,8 @@ use lib.Dec.{leb, eqb}
 use lib.ListN.{length}
 use Rattle.keys.specs.Limits.{too_tall, no_room, bad_key, no_space}
 use Rattle.keys.specs.Bits.{Bits, Field, short, field, take_field, Row, cut, row, take_bytes}
-use Rattle.keys.specs.Form.{Value, choice, pair, node, Form, never, one, word, choose, both, child, Grammar, is_never, State, state, Result, got, stop, stop_at, into, and_then, allowed, if_whole, take_choice, keep, take_letters, take_length, take_spelling, take_room, take_form, take_node}
-use Rattle.keys.specs.Key.{padding, closed, take_whole, Taken, taken, refused, refusal_place, outcome, IsRefusal, is_too_tall, is_no_room, is_bad_key, is_no_space}
+use Rattle.keys.specs.Form.{Value, choice, pair, node, Form, never, one, word, choose, both, child, Grammar, is_never, State, state, Result, got, stop, into, and_then, allowed, if_whole, take_choice, keep, take_letters, take_length, take_room, take_form, take_node}
+use Rattle.keys.specs.Key.{padding, closed, take_whole, refused, refusal_place, outcome, IsRefusal, is_too_tall, is_no_room, is_bad_key, is_no_space}
 use Rattle.keys.proofs.BitsLaws.{clash}
 
 -- The numbers that are met.

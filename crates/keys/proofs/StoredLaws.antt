@@ -1,14 +1,14 @@
 -- How the outputs grow: by a choice, a name, a child, a finished node.
 use mathlib.Core.Path.{◌≡◌, refl, sym, ap, ap₂, ◌∙◌, subst}
 use mathlib.Core.List.{List, [], ◌∷◌, ◌++◌, append_assoc, append-nil}
-use Prim.Native.Nat.{ℕ, zero, suc, ◌+◌, ◌-◌, ◌*◌, ◌^◌, ◌≤◌, ◌<◌}
+use Prim.Native.Nat.{ℕ, ◌+◌, ◌-◌, ◌*◌, ◌^◌, ◌≤◌, ◌<◌}
 use native.Mathlib.Nat.{add-zero}
 use native.Mathlib.Omega.{arith}
 use lib.ListN.{length, take, set, length-append}
 use lib.Seq.{take-set-lt, set_at, length-take-le, take-take, take_at}
 use Rattle.keys.specs.Limits.{half_word}
 use Rattle.keys.specs.Store.{Run, done, chose, name, kid, under, called, packed, first_kid, record_of, records, name_of, names_in, ◌⊕◌, span}
-use Rattle.keys.proofs.StoreLaws.{join_done, join_join, under_join, called_join, span_join, packed_join, first_kid_join, records_join, names_in_join}
+use Rattle.keys.proofs.StoreLaws.{join_done, under_join, called_join, span_join, packed_join, first_kid_join, records_join, names_in_join}
 use Rattle.keys.specs.Words.{first_nodes, first_names}
 use Rattle.keys.specs.Stored.{letters_in, Base, base, Stored, Own}
 

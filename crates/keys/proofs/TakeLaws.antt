@@ -2,18 +2,18 @@
 use mathlib.Core.Path.{◌≡◌, refl, sym, ap, ◌∙◌, subst}
 use mathlib.Core.Bool.{Bool, true, false}
 use mathlib.Core.List.{List, []}
-use Prim.Native.Nat.{ℕ, zero, suc, ◌+◌, ◌-◌, ◌*◌, ◌/◌, ◌^◌, ◌≤◌, ◌<◌}
+use Prim.Native.Nat.{ℕ, ◌-◌, ◌*◌, ◌/◌, ◌^◌, ◌≤◌, ◌<◌}
 use native.Mathlib.Omega.{arith}
 use borrow.Author.Tests.{leb-true, eqb-true, eq-eqb}
 use lib.Dec.{leb, eqb}
 use lib.ListN.{length, take, replicate}
 use lib.Seq.{take_at}
-use Rattle.keys.specs.Bits.{Bits, bits_of_bytes}
-use Rattle.keys.specs.Form.{Value, choice, Form, Bytes, Fits, fits_choose, nodes, names, letters, write, State, state, Result, got, stop}
+use Rattle.keys.specs.Bits.{bits_of_bytes}
+use Rattle.keys.specs.Form.{Value, choice, Form, Bytes, Fits, fits_choose, nodes, names, letters, write, state, Result, got, stop}
 use Rattle.keys.specs.Limits.{longest_key, tallest, edition_width, Edition, edition1, numbered, newest, edition, record_words, half_word}
 use Rattle.keys.specs.Table.{when, type, table, type_under, key_form, whole_key}
-use Rattle.keys.specs.Placed.{bare, laid}
-use Rattle.keys.specs.Key.{Taken, taken, refused, tree_in, outcome, take_whole, node_table, take_within, take_under, IsTree, HasRoom, IsKeyUnder}
+use Rattle.keys.specs.Placed.{laid}
+use Rattle.keys.specs.Key.{taken, refused, tree_in, outcome, take_whole, node_table, take_within, take_under, IsTree, HasRoom, IsKeyUnder}
 use Rattle.keys.specs.Store.{Kept, lent, filled, run_of, nodes_of, names_of, text_of, done}
 use Rattle.keys.proofs.BitsLaws.{clash}
 use Rattle.keys.proofs.FormLaws.{some, letters_written}

@@ -3,7 +3,7 @@ use mathlib.Core.Path.{◌≡◌, refl, sym, ap, ◌∙◌, subst₂}
 use mathlib.Core.Logic.{◌↔◌}
 use mathlib.Core.Bool.{Bool, true, false}
 use mathlib.Core.List.{List, ◌++◌}
-use Prim.Native.Nat.{ℕ, ◌-◌, ◌/◌, ◌^◌, ◌<◌}
+use Prim.Native.Nat.{ℕ, ◌-◌, ◌/◌, ◌<◌}
 use native.Mathlib.Omega.{arith}
 use borrow.Author.Tests.{le-leb}
 use lib.Dec.{leb}
@@ -14,7 +14,7 @@ use Rattle.keys.specs.Limits.{longest_key, tallest, edition_width, Edition, numb
 use Rattle.keys.specs.Table.{type, table, key_form}
 use Rattle.keys.specs.Placed.{Placed, bare}
 use Rattle.keys.specs.Key.{Taken, taken, refused, outcome, bytes_of, node_table, key_under, take_within, take_under, take_key, IsTreeUnder, IsTree, HasRoom, IsKeyUnder, IsKey, IsRefusal}
-use Rattle.keys.specs.Store.{TakenBack, back, no, lent, take_back, filled, nodes_of, names_of, text_of, all_pointed, Kept, Left}
+use Rattle.keys.specs.Store.{back, no, lent, take_back, filled, nodes_of, names_of, text_of, all_pointed, Kept, Left}
 use Rattle.keys.specs.Holds.{Stands}
 use Rattle.keys.proofs.BitsLaws.{clash}
 use Rattle.keys.proofs.KeyLaws.{whole_room, whole_one}

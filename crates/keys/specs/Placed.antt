@@ -1,5 +1,5 @@
 -- Trees with positions, as a reading makes them: one maker for each entry of the node table, and the tests that rules ask of a node (01, The key; Reading rules).
-use Rattle.std.specs.Prelude.{Bool, true, false, not, ◌&&◌, ◌||◌, List, [], ◌∷◌, ◌++◌, ℕ, zero, suc, ◌+◌, eqb, length}
+use Rattle.std.specs.Prelude.{Bool, true, false, not, ◌&&◌, ◌||◌, List, [], ◌∷◌, ℕ, ◌+◌, eqb, length}
 use Rattle.keys.specs.Bits.{unit}
 use Rattle.keys.specs.Form.{Value, nothing, spelt, choice, pair, node, letters}
 

@@ -7,7 +7,7 @@ use native.Mathlib.Nat.{le_refl}
 use native.Mathlib.Omega.{arith}
 use borrow.Author.Tests.{le-leb, lt-leb}
 use lib.ListN.{length, drop, length-drop}
-use Rattle.keys.specs.Bits.{Bits, short, take_field, bits_of_bytes}
+use Rattle.keys.specs.Bits.{Bits, take_field, bits_of_bytes}
 use Rattle.keys.proofs.BitsLaws.{clash, length_bytes}
 use Rattle.keys.specs.Form.{Value, nothing, choice, child, Grammar, is_never, State, state, Result, stop, into, allowed, if_whole, take_form, take_node}
 use Rattle.keys.specs.Limits.{longest_key, tallest, newest, count_width, bad_key}

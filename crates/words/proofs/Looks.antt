@@ -3,20 +3,20 @@ use mathlib.Core.Path.{◌≡◌, refl, sym, ap, ap₂, ◌∙◌}
 use mathlib.Core.Bool.{Bool, true, false}
 use mathlib.Core.List.{List, [], ◌∷◌}
 use mathlib.Core.Logic.{⊎_elim}
-use Prim.Native.Nat.{ℕ, zero, suc, ◌+◌, ◌-◌, ◌≤◌, ◌<◌}
+use Prim.Native.Nat.{ℕ, zero, suc, ◌+◌, ◌≤◌, ◌<◌}
 use native.Mathlib.Numerals.{add-one}
 use native.Mathlib.Omega.{arith}
 use borrow.Author.Tests.{eq-eqb, ne_eqb}
 use lib.Dec.{eqb}
 use Rattle.words.proofs.Tests.{lt_or_le}
-use lib.ListN.{length, get_or, drop}
+use lib.ListN.{length, drop}
 use Rattle.words.specs.Test.{◌and◌, ◌or◌, test, among}
 use Rattle.words.specs.Word.{kind, newline}
 use Rattle.words.specs.Kind.{Eof, LParen, RParen, LBrack, RBrack, LAngle, ShiftLeft, LtEq, ShiftLeftEq, Eq, NumberLiteral, BigIntLiteral, Str, Word, Dot3, Colon, Comma, Question, Plus, Minus, Abstract, Readonly, In, Const}
 use Rattle.words.specs.Kind as kinds
 use Rattle.words.specs.Class.{modifier, name}
 use Rattle.words.specs.Class as class
-use Rattle.words.specs.Cursor.{word_at, whole_kind, second_half, kind_at, same_line}
+use Rattle.words.specs.Cursor.{word_at, whole_kind, second_half, kind_at}
 use Rattle.words.specs.Ahead.{starts, starts_by, lone_starter, parameter_name, modifies, passed, past_modifiers, after_parameter, before_arrow, followed, parameter_start, brackets_by, in_brackets, abstract_start, start_by, skip, then_is, key_by, key_in, mapped_by, mapped_start, accessor_word, after_index_name, index_modifier, index_by}
 use Rattle.words.specs.declared.ahead.FunctionStart.TheVariants.{TypeParameters, New, Empty, Rest, Parameter, Nothing}
 

@@ -1,5 +1,5 @@
 -- Looking ahead: tests that use nothing up (01, "Type starter", "Function start", "Primary").
-use Rattle.std.specs.Prelude.{ℕ, zero, suc, ◌+◌, Bool, true, false, not, List, [], ◌∷◌, eqb, drop}
+use Rattle.std.specs.Prelude.{ℕ, suc, ◌+◌, Bool, true, false, not, List, [], ◌∷◌, eqb, drop}
 use Rattle.words.specs.Test.{◌and◌, ◌or◌, test, among, same}
 use Rattle.words.specs.Word.{kind, newline}
 use Rattle.words.specs.Kind.{Eof, Word, NumberLiteral, BigIntLiteral, Str, LCurly, LBrack, RBrack, LParen, RParen, LAngle, Question, Colon, Comma, Dot3, Arrow, Eq, Minus, Plus, Abstract, Readonly, In, This, Const}

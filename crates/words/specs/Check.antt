@@ -1,5 +1,5 @@
 -- The check of a token list: refusals 1 and 2 with their places (01, "Token words", "Refusal numbers").
-use Rattle.std.specs.Prelude.{ℕ, zero, suc, ◌+◌, Bool, true, false, not, List, [], ◌∷◌, eqb, leb, ltb, length, take, drop}
+use Rattle.std.specs.Prelude.{ℕ, suc, ◌+◌, Bool, true, false, not, List, [], ◌∷◌, eqb, leb, ltb, length, take, drop}
 use Rattle.words.specs.Limits.{most_text, most_tokens}
 use Rattle.words.specs.Test.{◌and◌, test}
 use Rattle.words.specs.Word.{kind, zeros, size, start, end}

@@ -1,7 +1,7 @@
 -- The classes of kinds, by ranges of kind numbers, and the table of 256 class words that they make (01, "Token words").
 use Rattle.std.specs.Prelude.{ℕ, zero, suc, ◌+◌, ◌*◌, Bool, true, false, List, [], ◌∷◌, ◌++◌, eqb, leb, get_or}
-use Rattle.words.specs.Test.{◌and◌, ◌or◌, between, among}
-use Rattle.words.specs.Kind.{Eof, Word, NumberLiteral, TemplateHead, TemplateTail, LCurly, LBrack, LAngle, Pipe, Amp, Question, Bang, Star, Dot3, OtherMark, Any, Abstract, Out, Readonly, Unique, OtherModifier, Extends, New, Import, This, Typeof, Void, Null, True, False, Const, OtherReserved}
+use Rattle.words.specs.Test.{◌or◌, between, among}
+use Rattle.words.specs.Kind.{Word, NumberLiteral, TemplateHead, TemplateTail, LCurly, LBrack, LAngle, Pipe, Amp, Question, Bang, Star, Dot3, OtherMark, Any, Abstract, Out, Readonly, Unique, OtherModifier, Extends, New, Import, This, Typeof, Void, Null, True, False, Const, OtherReserved}
 
 -- the kinds that there are
 abbrev pub good_kind : ℕ → Bool

@@ -1,5 +1,5 @@
 -- The cursor: a token's index, and whether the first half of a split token is used up (01, "The two calls", "Arguments").
-use Rattle.std.specs.Prelude.{ℕ, zero, suc, ◌+◌, ◌-◌, Bool, true, false, List, [], ◌∷◌, eqb, get_or}
+use Rattle.std.specs.Prelude.{ℕ, zero, suc, ◌+◌, Bool, true, List, eqb, get_or}
 use Rattle.words.specs.Test.{test}
 use Rattle.words.specs.Word.{kind, newline, start, end}
 use Rattle.words.specs.Kind.{Eof, LAngle, ShiftLeft, LtEq, ShiftLeftEq, Eq}

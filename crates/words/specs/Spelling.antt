@@ -1,9 +1,9 @@
 -- The spellings that 01's table of kinds fixes, and what a token's bytes must be.
-use Rattle.std.specs.Prelude.{ℕ, zero, suc, ◌+◌, ◌-◌, ◌*◌, ◌%◌, Bool, true, false, not, List, [], ◌∷◌, ◌++◌, eqb, leb, get_or, length, set, replicate}
-use Prim.Native.Char.{Char, code}
+use Rattle.std.specs.Prelude.{ℕ, zero, suc, ◌+◌, ◌-◌, ◌*◌, ◌%◌, Bool, true, not, List, [], ◌∷◌, ◌++◌, eqb, leb, get_or, length, set, replicate}
+use Prim.Native.Char.{code}
 use Prim.Native.String as S
 use Prim.Native.String.{String}
-use Rattle.words.specs.Test.{◌and◌, ◌or◌, same, test, some_below, among}
+use Rattle.words.specs.Test.{◌and◌, same, test, some_below, among}
 use Rattle.words.specs.Kind.{Word, LCurly, Any, Extends, OtherReserved}
 use Rattle.words.specs.Class.{fixed, other}
 

@@ -1,7 +1,6 @@
 -- `lent` lends the first part of each buffer. Assumes nothing.
 use native.Mathlib.Omega.{arith}
 use lib.ListN.{length-take}
-use borrow.Author.Rules.{rules}
 use Rattle.differs_run.proofs.lent.Goals as goal
 
 pub slice_bounds-answer-end : goal.slice_bounds-answer-end

@@ -2,7 +2,6 @@
 use Prim.Native.Nat.{◌<◌}
 use mathlib.Core.Path.{◌≡◌}
 use lib.ListN.{length}
-use borrow.Author.Rules.{rules}
 use Rattle.differs_run.proofs.records.Given as goal
 
 abbrev pub invariant-loop-more : goal.invariant-loop-more

@@ -1,8 +1,7 @@
 -- The three tests of refusal 1, and then the walk.
-use mathlib.Core.Path.{◌≡◌, refl, sym, ◌∙◌}
+use mathlib.Core.Path.{refl, sym, ◌∙◌}
 use borrow.Author.Tests.{lt-leb, le-leb, lt-ltb, le-ltb}
 use Rattle.checks.proofs.Walk.{list_is}
-use borrow.Author.Rules.{rules}
 use Rattle.checks.proofs.check.check.Goals as goal
 
 pub returns-then-text-gt-MOST : goal.returns-then-text-gt-MOST

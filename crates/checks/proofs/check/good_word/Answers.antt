@@ -1,11 +1,10 @@
 -- The tests in their order; each way out is what they answered so far.
-use mathlib.Core.Path.{◌≡◌, refl, ap, sym, ◌∙◌}
+use mathlib.Core.Path.{refl, ap, sym, ◌∙◌}
 use Prim.Native.Nat.{ℕ}
 use borrow.Author.Tests.{eq-eqb, ne_eqb, not-true, not-false}
 use Rattle.words.specs.Spelling.{spelled_right}
 use Rattle.words.specs.Check as spec
 use Rattle.checks.proofs.Walk.{word_is, inside, bytes_there}
-use borrow.Author.Rules.{rules}
 use native.Mathlib.Omega.{arith}
 use Rattle.checks.proofs.check.good_word.Goals as goal
 

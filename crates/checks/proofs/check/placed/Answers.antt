@@ -1,5 +1,5 @@
 -- Each way out is one part of the definition.
-use mathlib.Core.Path.{◌≡◌, refl, sym, ◌∙◌}
+use mathlib.Core.Path.{refl, sym}
 use borrow.Author.Tests.{lt-leb, le-leb}
 use Rattle.checks.proofs.Walk.{placed_is}
 use native.Mathlib.Omega.{arith}

@@ -1,10 +1,7 @@
-use mathlib.Core.Path.{◌≡◌, ap, sym, ◌∙◌}
-use Prim.Native.Nat.{◌≤◌, ◌-◌}
-use lib.ListN.{length}
+use mathlib.Core.Path.{ap, sym, ◌∙◌}
 use Rattle.words.specs.Test.{among}
 use Rattle.words.specs.Spelling.{backslash}
-use Rattle.words.specs.Check.{part}
-use Rattle.words.proofs.Bytes.{rest, rest_all, rest_none, among_here, among_later}
+use Rattle.words.proofs.Bytes.{rest_all, rest_none, among_here, among_later}
 use borrow.Author.Rules.{rules}
 use Rattle.checks.proofs.spelling.backslash_by_bytes.Goals as goal
 

@@ -1,12 +1,10 @@
 -- The invariant: what is left of the part holds a backslash where the whole part does. Assumes nothing.
-use mathlib.Core.Path.{◌≡◌, ap, sym, ◌∙◌}
+use mathlib.Core.Path.{◌≡◌}
 use Prim.Native.Nat.{◌≤◌, ◌-◌}
-use lib.ListN.{length}
 use Rattle.words.specs.Test.{among}
 use Rattle.words.specs.Spelling.{backslash}
 use Rattle.words.specs.Check.{part}
-use Rattle.words.proofs.Bytes.{rest, rest_all, rest_none, among_here, among_later}
-use borrow.Author.Rules.{rules}
+use Rattle.words.proofs.Bytes.{rest}
 use Rattle.checks.proofs.spelling.backslash_by_bytes.Given as goal
 
 abbrev pub invariant-loop-j : goal.invariant-loop-j

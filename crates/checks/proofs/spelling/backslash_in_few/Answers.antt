@@ -6,7 +6,6 @@ use Rattle.words.specs.Test.{among}
 use Rattle.words.specs.Check.{part}
 use Rattle.words.specs.Spelling.{backslash}
 use Rattle.words.proofs.Bytes.{among_front, among_fewer, among_behind}
-use borrow.Author.Rules.{rules}
 use Rattle.checks.proofs.spelling.backslash_in_few.Goals as goal
 
 pub returns-then-backslash_in_four : goal.returns-then-backslash_in_four

@@ -1,6 +1,5 @@
 use Rattle.words.specs.Spelling.{backslash}
 use Rattle.words.proofs.Bytes.{among_four}
-use borrow.Author.Rules.{rules}
 use Rattle.checks.proofs.spelling.backslash_in_four.Goals as goal
 
 pub returns : goal.returns

@@ -1,7 +1,7 @@
 use native.Mathlib.Omega.{arith}
 use mathlib.Core.Path.{◌≡◌, refl, sym, ◌∙◌}
 use mathlib.Core.Bool.{false}
-use Prim.Native.Nat.{◌-◌, ◌+◌, ◌<◌}
+use Prim.Native.Nat.{◌-◌, ◌+◌}
 use Rattle.words.specs.Test.{among}
 use Rattle.words.specs.Check.{part}
 use Rattle.words.specs.Spelling.{backslash}

@@ -1,12 +1,10 @@
 -- Eight bytes at a time: the invariant says that no backslash stands before. Assumes nothing.
-use native.Mathlib.Omega.{arith}
-use mathlib.Core.Path.{◌≡◌, refl, sym, ◌∙◌}
+use mathlib.Core.Path.{◌≡◌}
 use mathlib.Core.Bool.{false}
-use Prim.Native.Nat.{◌-◌, ◌+◌, ◌<◌}
+use Prim.Native.Nat.{◌-◌, ◌<◌}
 use Rattle.words.specs.Test.{among}
 use Rattle.words.specs.Check.{part}
 use Rattle.words.specs.Spelling.{backslash}
-use Rattle.words.proofs.Bytes.{among_front, among_fewer, among_behind}
 use Rattle.checks.proofs.spelling.backslash_in_many.Given as goal
 
 abbrev pub invariant-loop-j : goal.invariant-loop-j

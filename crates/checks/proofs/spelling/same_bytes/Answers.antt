@@ -1,9 +1,6 @@
-use mathlib.Core.Path.{◌≡◌, ap₂, sym, ◌∙◌}
-use Prim.Native.Nat.{◌≤◌, ◌-◌}
-use lib.ListN.{length}
+use mathlib.Core.Path.{ap₂, sym, ◌∙◌}
 use Rattle.words.specs.Test.{same}
-use Rattle.words.specs.Check.{part}
-use Rattle.words.proofs.Bytes.{rest, rest_all, same_later, same_not, same_ends}
+use Rattle.words.proofs.Bytes.{rest_all, same_later, same_not, same_ends}
 use borrow.Author.Rules.{rules}
 use native.Mathlib.Omega.{arith}
 use Rattle.checks.proofs.spelling.same_bytes.Goals as goal

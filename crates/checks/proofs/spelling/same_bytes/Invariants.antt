@@ -1,12 +1,9 @@
 -- The invariant: what is left of the two parts is the same where the whole parts are. Assumes nothing.
-use mathlib.Core.Path.{◌≡◌, ap₂, sym, ◌∙◌}
+use mathlib.Core.Path.{◌≡◌}
 use Prim.Native.Nat.{◌≤◌, ◌-◌}
-use lib.ListN.{length}
 use Rattle.words.specs.Test.{same}
 use Rattle.words.specs.Check.{part}
-use Rattle.words.proofs.Bytes.{rest, rest_all, same_later, same_not, same_ends}
-use borrow.Author.Rules.{rules}
-use native.Mathlib.Omega.{arith}
+use Rattle.words.proofs.Bytes.{rest}
 use Rattle.checks.proofs.spelling.same_bytes.Given as goal
 
 abbrev pub invariant-loop-i : goal.invariant-loop-i

@@ -1,5 +1,5 @@
 -- The spelling stands among the letters at the kind's place.
-use mathlib.Core.Path.{◌≡◌, ap, ◌∙◌}
+use mathlib.Core.Path.{ap, ◌∙◌}
 use mathlib.Core.List.{List}
 use lib.ListN.{length}
 use Rattle.words.specs.Test.{same}
@@ -8,7 +8,6 @@ use Rattle.words.specs.Spelling as spec
 use Rattle.words.proofs.Bytes.{part_length, same_long}
 use Rattle.checks.proofs.Fixed.{entry_small, entry_size, entry_inside, entry_spells}
 use Prim.Native.Nat.{ℕ}
-use borrow.Author.Rules.{rules}
 use native.Mathlib.Omega.{arith}
 use Rattle.checks.proofs.spelling.spelled.Goals as goal
 

@@ -1,7 +1,6 @@
 -- Some bytes are a fixed spelling exactly when they are that of their guess.
 use mathlib.Core.Path.{◌∙◌}
 use Rattle.checks.proofs.Fixed.{guess_decides}
-use borrow.Author.Rules.{rules}
 use native.Mathlib.Omega.{arith}
 use Rattle.checks.proofs.spelling.spelled_as_any.Goals as goal
 

@@ -8,7 +8,6 @@ use Rattle.node_table.specs.Forms.{Narrow}
 use Rattle.node_table.proofs.FormsLaws.{words_narrow}
 use Rattle.sound_keys.specs.Sound.{Wholly}
 use Rattle.comparing.proofs.Differing.{bad_left, bad_right, read_left, read_right, too_many, all_listed}
-use borrow.Author.Rules.{rules}
 use Rattle.comparing.proofs.differ.differ.Goals as goal
 
 pub returns-then-c-ne0 : goal.returns-then-c-ne0

@@ -2,8 +2,6 @@
 use native.Mathlib.Omega.{arith}
 use lib.ListN.{length}
 use Rattle.key_in.proofs.Whole.{call_refused, call_taken, used_small}
-use borrow.Author.Rules.{rules}
-use Rattle.key_in.proofs.back.take_back.Statement.{statement}
 use Rattle.key_in.proofs.back.take_back.Goals as goal
 
 pub returns-then-q-ne0 : goal.returns-then-q-ne0

@@ -5,8 +5,6 @@ use Prim.Native.Nat.{◌/◌}
 use lib.ListN.{length}
 use Rattle.keys.proofs.BitsLaws.{length_bytes}
 use Rattle.key_in.proofs.Whole.{whole_long, whole_short, whole_other, whole_asks, whole_stop, whole_left, whole_done}
-use borrow.Author.Rules.{rules}
-use Rattle.key_in.proofs.back.take_whole.Statement.{statement}
 use Rattle.key_in.proofs.back.take_whole.Goals as goal
 
 pub returns-then-key-gt-MOST : goal.returns-then-key-gt-MOST

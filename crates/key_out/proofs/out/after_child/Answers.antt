@@ -3,7 +3,6 @@ use Rattle.keys.specs.Holds.{Spells}
 use Rattle.node_table.proofs.MovesLaws.{after_plain, after_spelling, after_as}
 use Rattle.key_out.specs.Out.{key_bits}
 use Rattle.key_out.proofs.OutLaws.{bits_sound}
-use borrow.Author.Rules.{rules}
 use Rattle.key_out.proofs.out.after_child.Goals as goal
 
 pub returns-then-w-eq0 : goal.returns-then-w-eq0

@@ -1,5 +1,5 @@
 -- The tests in order.
-use borrow.Author.Tests.{eq-eqb, ne_eqb}
+use borrow.Author.Tests.{ne_eqb}
 use Rattle.key_out.proofs.out.is_once.Goals as goal
 
 pub returns-then-class-ne-TYPE : goal.returns-then-class-ne-TYPE

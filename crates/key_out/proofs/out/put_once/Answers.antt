@@ -2,7 +2,6 @@
 use mathlib.Core.Path.{sym, ap, ◌∙◌, subst}
 use Prim.Native.Nat.{ℕ, ◌+◌, ◌/◌, ◌%◌}
 use native.Mathlib.Omega.{arith}
-use borrow.Author.Rules.{rules}
 use Rattle.keys.specs.Bits.{bits_of}
 use Rattle.keys.specs.Limits.{newest, count_width}
 use Rattle.keys.specs.Holds.{child_at, Spells, cursor, HoldsBy}

@@ -1,6 +1,5 @@
 use mathlib.Core.Path.{refl, sym, ◌∙◌}
 use Rattle.key_out.proofs.OnceLaws.{once_type, once_noded}
-use borrow.Author.Rules.{rules}
 use Rattle.key_out.proofs.out.put_root.Goals as goal
 
 pub put_once-requires : goal.put_once-requires

@@ -1,12 +1,6 @@
 -- A choice joins those before it.
 use native.Mathlib.Omega.{arith}
-use mathlib.Core.Path.{◌≡◌, refl, sym, ap, ◌∙◌}
-use Prim.Native.Nat.{ℕ, ◌+◌, ◌*◌}
-use Rattle.key_parts.specs.Place.{at_bit}
-use Rattle.key_parts.specs.declared.place.Fill.{Fill}
-use Rattle.key_parts.specs.declared.place.Pos.{Pos}
 use Rattle.key_parts.proofs.ChoiceLaws.{pack_fits, refuses, chooses}
-use borrow.Author.Rules.{rules}
 use Rattle.key_parts.proofs.choice.choose.Goals as goal
 
 pub returns-then-c-ne0 : goal.returns-then-c-ne0

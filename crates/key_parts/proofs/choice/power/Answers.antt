@@ -4,7 +4,6 @@ use Prim.Native.Nat.{ℕ, ◌*◌, ◌≤◌, ◌%◌, ◌^◌}
 use native.Mathlib.Nat.{one-mul, mod-eq_of_lt}
 use native.Mathlib.Omega.{arith}
 use lib.Pow.{pow-lt, pow_mono}
-use borrow.Author.Rules.{rules}
 use Rattle.keys.specs.Limits.{choices_wide}
 use Rattle.key_parts.proofs.choice.power.Goals as goal
 

@@ -8,7 +8,6 @@ use Rattle.keys.proofs.BitsLaws.{length_bytes}
 use Rattle.fields.specs.declared.reader.Field.TheVariants.{Read}
 use Rattle.node_table.specs.Forms.{leads, form_of, entry_of}
 use Rattle.key_parts.proofs.Steps.{picked_short, picked_never, picked_to}
-use borrow.Author.Rules.{rules}
 use Rattle.key_parts.proofs.choice.take_tag.Goals as goal
 
 pub returns-in_default : goal.returns-in_default

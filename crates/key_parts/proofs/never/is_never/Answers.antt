@@ -1,7 +1,5 @@
 -- Whether the table has no form there, its first step done n times.
 use Rattle.key_parts.proofs.NeverLaws.{no_steps, past_words, past_nodes, past_none, some_times}
-use borrow.Author.Rules.{rules}
-use Rattle.key_parts.proofs.never.is_never.Statement.{statement}
 use Rattle.key_parts.proofs.never.is_never.Goals as goal
 
 pub returns-then-n-ne0 : goal.returns-then-n-ne0

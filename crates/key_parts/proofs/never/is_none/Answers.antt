@@ -1,6 +1,5 @@
 -- Whether the table has no form there.
 use Rattle.key_parts.proofs.NeverLaws.{no_steps, some_steps}
-use borrow.Author.Rules.{rules}
 use Rattle.key_parts.proofs.never.is_none.Goals as goal
 
 pub returns-then-steps-eq0 : goal.returns-then-steps-eq0

@@ -1,10 +1,9 @@
 use native.Mathlib.Omega.{arith}
-use Prim.Native.Nat.{◌-◌, ◌*◌}
 use lib.ListN.{length}
 use Rattle.keys.specs.Bits.{bits_of_bytes}
 use Rattle.keys.proofs.BitsLaws.{length_bytes}
 use Rattle.fields.proofs.Chunks.{number_told}
-use Rattle.key_parts.proofs.PaddingLaws.{Pads, pads_none, pads_inside, pads_more, ends_set, ends_whole}
+use Rattle.key_parts.proofs.PaddingLaws.{pads_none, pads_inside, pads_more, ends_set, ends_whole}
 use Rattle.key_parts.proofs.padding.pad_end.Goals as goal
 
 pub loop-at-init : goal.loop-at-init

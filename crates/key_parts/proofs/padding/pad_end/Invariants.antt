@@ -1,11 +1,8 @@
 -- The bits after a tree, to the byte.
-use native.Mathlib.Omega.{arith}
-use Prim.Native.Nat.{◌-◌, ◌*◌}
+use Prim.Native.Nat.{◌-◌}
 use lib.ListN.{length}
 use Rattle.keys.specs.Bits.{bits_of_bytes}
-use Rattle.keys.proofs.BitsLaws.{length_bytes}
-use Rattle.fields.proofs.Chunks.{number_told}
-use Rattle.key_parts.proofs.PaddingLaws.{Pads, pads_none, pads_inside, pads_more, ends_set, ends_whole}
+use Rattle.key_parts.proofs.PaddingLaws.{Pads}
 use Rattle.key_parts.proofs.padding.pad_end.Given as goal
 
 abbrev pub invariant-loop-at : goal.invariant-loop-at

@@ -1,12 +1,9 @@
 -- A spelling: refused, or its bytes and its name behind those before them.
 use native.Mathlib.Omega.{arith}
 use mathlib.Core.Path.{refl, sym, ap₂, ◌∙◌}
-use lib.ListN.{length}
-use Rattle.keys.specs.Bits.{bits_of_bytes}
 use Rattle.keys.proofs.BitsLaws.{length_bytes}
 use Rattle.fields.specs.declared.reader.Field.TheVariants.{Read}
-use Rattle.key_parts.proofs.SpellingLaws.{spell_short, spell_within, spell_zero, spell_cut, spell_full, spell_crowded, spell_ends, spell_done}
-use borrow.Author.Rules.{rules}
+use Rattle.key_parts.proofs.SpellingLaws.{spell_short, spell_within, spell_zero, spell_cut, spell_full, spell_crowded, spell_done}
 use Rattle.key_parts.proofs.spelling.take_spelling.Goals as goal
 
 pub field_at-taken-requires : goal.field_at-taken-requires

@@ -1,9 +1,8 @@
 use native.Mathlib.Omega.{arith}
-use mathlib.Core.Path.{sym, ap, ◌∙◌}
-use Prim.Native.Nat.{◌-◌}
+use mathlib.Core.Path.{◌∙◌}
 use lib.ListN.{length}
 use Rattle.keys.specs.Bits.{bits_of_bytes}
-use Rattle.key_parts.proofs.Steps.{Spelling, spelling_none, spelling_more, spelling_stop, spelling_all, inside_as}
+use Rattle.key_parts.proofs.Steps.{spelling_none, spelling_more, spelling_stop, spelling_all, inside_as}
 use Rattle.key_parts.proofs.spelling.take_spellings.Goals as goal
 
 pub loop-i-init : goal.loop-i-init

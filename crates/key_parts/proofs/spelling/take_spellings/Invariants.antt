@@ -1,10 +1,8 @@
 -- n spellings, one after the other.
-use native.Mathlib.Omega.{arith}
-use mathlib.Core.Path.{sym, ap, ◌∙◌}
 use Prim.Native.Nat.{◌-◌}
 use lib.ListN.{length}
 use Rattle.keys.specs.Bits.{bits_of_bytes}
-use Rattle.key_parts.proofs.Steps.{Spelling, spelling_none, spelling_more, spelling_stop, spelling_all, inside_as}
+use Rattle.key_parts.proofs.Steps.{Spelling}
 use Rattle.key_parts.proofs.spelling.take_spellings.Given as goal
 
 abbrev pub invariant-loop-i : goal.invariant-loop-i

@@ -1,8 +1,6 @@
 -- A child is the first, or the next of the one before it.
 use native.Mathlib.Omega.{arith}
-use mathlib.Core.Path.{sym}
 use Rattle.key_parts.proofs.Walk.{linked_next, linked_first}
-use borrow.Author.Rules.{rules}
 use Rattle.key_parts.proofs.step.link_child.Goals as goal
 
 pub returns-then-s-used : goal.returns-then-s-used

@@ -2,7 +2,6 @@
 use Rattle.keys.specs.Bits.{bits_of_bytes}
 use lib.ListN.{length}
 use Rattle.key_parts.proofs.Walk.{after_none, after_some}
-use borrow.Author.Rules.{rules}
 use Rattle.key_parts.proofs.step.take_after.Goals as goal
 
 pub returns-then-w-eq0 : goal.returns-then-w-eq0

@@ -4,7 +4,6 @@ use lib.ListN.{length}
 use Rattle.keys.specs.Bits.{bits_of_bytes}
 use Rattle.keys.proofs.BitsLaws.{length_bytes}
 use Rattle.key_parts.proofs.Walk.{plain_words, plain_word, choice_fits, plain_choice, plain_never, nothing_else}
-use borrow.Author.Rules.{rules}
 use Rattle.key_parts.proofs.step.take_plain.Goals as goal
 
 pub take_choice-c-requires : goal.take_choice-c-requires

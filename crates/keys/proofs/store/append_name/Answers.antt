@@ -1,8 +1,6 @@
 -- A name behind those before it, where there is room.
 use native.Mathlib.Omega.{arith}
-use mathlib.Core.Path.{ap, ◌∙◌}
 use Rattle.keys.proofs.Cells.{name_stored, name_dropped, name_word}
-use borrow.Author.Rules.{rules}
 use Rattle.keys.proofs.store.append_name.Goals as goal
 
 pub returns-then-at-names : goal.returns-then-at-names

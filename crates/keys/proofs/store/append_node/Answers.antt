@@ -1,9 +1,7 @@
 -- A record of four words behind the nodes before it.
 use native.Mathlib.Omega.{arith}
-use mathlib.Core.Path.{ap₂, ◌∙◌}
 use lib.ListN.{length-set}
 use Rattle.keys.proofs.Cells.{four_stored, four_words}
-use borrow.Author.Rules.{rules}
 use Rattle.keys.proofs.store.append_node.Goals as goal
 
 pub bounds-nodes-to-2 : goal.bounds-nodes-to-2

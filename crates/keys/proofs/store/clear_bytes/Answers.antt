@@ -1,7 +1,6 @@
-use Prim.Native.Nat.{◌+◌, ◌-◌, ◌≤◌}
 use native.Mathlib.Omega.{arith}
-use lib.ListN.{length, length-set}
-use Rattle.keys.proofs.Cells.{Clearing, clearing_none, clearing_more, clearing_all}
+use lib.ListN.{length-set}
+use Rattle.keys.proofs.Cells.{clearing_none, clearing_more, clearing_all}
 use Rattle.keys.proofs.store.clear_bytes.Goals as goal
 
 pub loop-i-init : goal.loop-i-init

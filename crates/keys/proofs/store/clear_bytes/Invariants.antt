@@ -1,8 +1,7 @@
 -- Zeros from a byte on. The loop's invariant: what was passed is zeros.
 use Prim.Native.Nat.{◌+◌, ◌-◌, ◌≤◌}
-use native.Mathlib.Omega.{arith}
-use lib.ListN.{length, length-set}
-use Rattle.keys.proofs.Cells.{Clearing, clearing_none, clearing_more, clearing_all}
+use lib.ListN.{length}
+use Rattle.keys.proofs.Cells.{Clearing}
 use Rattle.keys.proofs.store.clear_bytes.Given as goal
 
 abbrev pub invariant-loop-i : goal.invariant-loop-i

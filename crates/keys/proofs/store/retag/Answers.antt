@@ -3,7 +3,6 @@ use native.Mathlib.Omega.{arith}
 use mathlib.Core.Path.{ap, ap₂}
 use Prim.Native.Nat.{ℕ, ◌+◌, ◌*◌}
 use lib.ListN.{set}
-use borrow.Author.Rules.{rules}
 use Rattle.keys.proofs.store.retag.Goals as goal
 
 pub returns : goal.returns

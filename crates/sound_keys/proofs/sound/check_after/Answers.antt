@@ -3,7 +3,6 @@ use native.Mathlib.Omega.{arith}
 use Rattle.keys.specs.Bits.{bits_of_bytes}
 use Rattle.keys.proofs.BitsLaws.{length_bytes}
 use Rattle.sound_keys.proofs.Checking.{after_none, after_word}
-use borrow.Author.Rules.{rules}
 use Rattle.sound_keys.proofs.sound.check_after.Goals as goal
 
 pub returns-then-w-eq0 : goal.returns-then-w-eq0

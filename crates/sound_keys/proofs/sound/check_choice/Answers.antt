@@ -9,7 +9,6 @@ use Rattle.keys.specs.Form.{is_never}
 use Rattle.fields.proofs.Chunks.{number_told}
 use Rattle.node_table.specs.Forms.{leads, form_of, entry_of}
 use Rattle.sound_keys.proofs.Checking.{chosen_short, chosen_never, chosen_to}
-use borrow.Author.Rules.{rules}
 use Rattle.sound_keys.proofs.sound.check_choice.Goals as goal
 
 pub returns-in_default : goal.returns-in_default

@@ -5,7 +5,6 @@ use Rattle.keys.specs.Bits.{bits_of_bytes}
 use Rattle.keys.proofs.BitsLaws.{length_bytes}
 use Rattle.sound_keys.proofs.Checking.{plain_choice, plain_words, plain_word, plain_never}
 use Rattle.sound_keys.proofs.Nodes.{placed_as}
-use borrow.Author.Rules.{rules}
 use Rattle.sound_keys.proofs.sound.check_plain.Goals as goal
 
 pub check_choice-requires : goal.check_choice-requires

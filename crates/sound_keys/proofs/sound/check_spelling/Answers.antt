@@ -3,7 +3,6 @@ use native.Mathlib.Omega.{arith}
 use mathlib.Core.Path.{sym, ap, ◌∙◌}
 use Rattle.fields.specs.declared.take.TakenField.TheVariants.{Number}
 use Rattle.sound_keys.proofs.Checking.{spell_short, spell_within, spell_zero, spell_cut, spell_done}
-use borrow.Author.Rules.{rules}
 use Rattle.sound_keys.proofs.sound.check_spelling.Goals as goal
 
 pub returns-in_default : goal.returns-in_default

@@ -1,9 +1,7 @@
-use borrow.Author.Rules.{rules}
 use native.Mathlib.Omega.{arith}
-use Prim.Native.Nat.{◌-◌}
 use Rattle.keys.specs.Bits.{bits_of_bytes}
 use Rattle.keys.proofs.BitsLaws.{length_bytes}
-use Rattle.sound_keys.proofs.Checking.{Spelling, spelling_none, spelling_more, spelling_stop, spelling_all}
+use Rattle.sound_keys.proofs.Checking.{spelling_none, spelling_more, spelling_stop, spelling_all}
 use Rattle.sound_keys.proofs.sound.check_spellings.Goals as goal
 
 pub loop-i-init : goal.loop-i-init

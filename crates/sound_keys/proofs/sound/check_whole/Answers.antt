@@ -5,7 +5,6 @@ use Rattle.keys.proofs.BitsLaws.{length_bytes}
 use Rattle.node_table.specs.Forms.{Narrow}
 use Rattle.node_table.proofs.FormsLaws.{words_narrow}
 use Rattle.sound_keys.proofs.Whole.{whole_long, whole_short, whole_four, whole_other, whole_stop, whole_left, whole_done}
-use borrow.Author.Rules.{rules}
 use Rattle.sound_keys.proofs.sound.check_whole.Goals as goal
 
 pub returns-then-key-gt-MOST : goal.returns-then-key-gt-MOST

@@ -1,6 +1,5 @@
 -- A check by our own table: its refusal, or zeros.
 use Rattle.sound_keys.proofs.Whole.{judged_bad, judged_good}
-use borrow.Author.Rules.{rules}
 use Rattle.sound_keys.proofs.sound.sound.Goals as goal
 
 pub returns-then-c-ne0 : goal.returns-then-c-ne0

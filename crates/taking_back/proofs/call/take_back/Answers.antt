@@ -1,6 +1,5 @@
 -- The answer of the crate `key_in`, in other words.
 use Rattle.taking_back.proofs.Taken.{seen_taken, seen_refused}
-use borrow.Author.Rules.{rules}
 use Rattle.taking_back.proofs.call.take_back.Goals as goal
 
 pub returns-in-Taken : goal.returns-in-Taken

@@ -2,7 +2,6 @@
 use mathlib.Core.Path.{sym, ap}
 use Rattle.comparing.specs.Call.{answer_of}
 use Rattle.told.specs.Answer.{told_difference}
-use borrow.Author.Rules.{rules}
 use Rattle.told.proofs.answer.tell_difference.Goals as goal
 
 pub returns-in-Found : goal.returns-in-Found

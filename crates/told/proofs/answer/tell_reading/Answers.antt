@@ -2,7 +2,6 @@
 use mathlib.Core.Path.{sym, ap}
 use Rattle.answers.specs.Reading.{answer_of}
 use Rattle.told.specs.Answer.{told}
-use borrow.Author.Rules.{rules}
 use Rattle.told.proofs.answer.tell_reading.Goals as goal
 
 pub returns-in-Read : goal.returns-in-Read

@@ -2,7 +2,6 @@
 use mathlib.Core.Path.{sym, ap}
 use Rattle.taking_back.specs.Call.{answer_of}
 use Rattle.told.specs.Answer.{told_back}
-use borrow.Author.Rules.{rules}
 use Rattle.told.proofs.answer.tell_taking.Goals as goal
 
 pub returns-in-Taken : goal.returns-in-Taken

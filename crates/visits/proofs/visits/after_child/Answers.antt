@@ -2,7 +2,6 @@ use lib.ListN.{length}
 use Rattle.node_table.proofs.MovesLaws.{after_plain, after_spelling, after_as}
 use Rattle.visits.specs.Visits.{visit_words, Named}
 use Rattle.visits.proofs.VisitsLaws.{visits_sound}
-use borrow.Author.Rules.{rules}
 use Rattle.visits.proofs.visits.after_child.Goals as goal
 
 pub returns-then-w-eq0 : goal.returns-then-w-eq0

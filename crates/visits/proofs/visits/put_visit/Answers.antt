@@ -1,5 +1,4 @@
 use Rattle.visits.proofs.VisitsLaws.{listed_visit}
-use borrow.Author.Rules.{rules}
 use Rattle.visits.proofs.visits.put_visit.Goals as goal
 
 pub returns : goal.returns

@@ -2,7 +2,6 @@ use lib.ListN.{length}
 use Rattle.node_table.proofs.MovesLaws.{own_choice}
 use Rattle.visits.specs.Visits.{visit_words, Named}
 use Rattle.visits.proofs.VisitsLaws.{visits_sound}
-use borrow.Author.Rules.{rules}
 use Rattle.visits.proofs.visits.visit_chosen.Goals as goal
 
 pub returns : goal.returns

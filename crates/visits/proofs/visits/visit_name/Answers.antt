@@ -1,6 +1,5 @@
 use native.Mathlib.Omega.{arith}
 use Rattle.visits.proofs.VisitsLaws.{named_past, named_put}
-use borrow.Author.Rules.{rules}
 use Rattle.visits.proofs.visits.visit_name.Goals as goal
 
 pub returns-then-names-name : goal.returns-then-names-name

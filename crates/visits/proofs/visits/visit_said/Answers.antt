@@ -2,7 +2,6 @@ use lib.ListN.{length}
 use Rattle.node_table.proofs.MovesLaws.{own_spelling, own_spellings, own_next, own_stop, own_as, no_other}
 use Rattle.visits.specs.Visits.{visit_words, Named}
 use Rattle.visits.proofs.VisitsLaws.{visits_sound}
-use borrow.Author.Rules.{rules}
 use Rattle.visits.proofs.visits.visit_said.Goals as goal
 
 pub returns-then-op-eq-SPELLING : goal.returns-then-op-eq-SPELLING

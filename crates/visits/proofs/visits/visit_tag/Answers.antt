@@ -5,7 +5,6 @@ use Rattle.node_table.specs.Forms.{Entry}
 use Rattle.node_table.proofs.MovesLaws.{begun}
 use Rattle.visits.specs.Visits.{visit_words, Named}
 use Rattle.visits.proofs.VisitsLaws.{visits_sound}
-use borrow.Author.Rules.{rules}
 use Rattle.visits.proofs.visits.visit_tag.Goals as goal
 
 pub choice_of-tag-requires : goal.choice_of-tag-requires

@@ -4,7 +4,6 @@ use mathlib.Core.Path.{refl, sym, subst}
 use Rattle.keys.specs.Bits.{bits_of_bytes}
 use Rattle.node_table.specs.Forms.{Narrow}
 use Rattle.walks.proofs.Rests.{parted}
-use borrow.Author.Rules.{rules}
 use Rattle.walks.proofs.walk.apart.Goals as goal
 
 pub check_rest-c-requires : goal.check_rest-c-requires

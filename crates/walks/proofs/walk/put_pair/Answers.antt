@@ -1,7 +1,6 @@
 -- A pair at its place, where there is room.
 use native.Mathlib.Omega.{arith}
 use Rattle.walks.proofs.Listed.{put_stored, put_dropped}
-use borrow.Author.Rules.{rules}
 use Rattle.walks.proofs.walk.put_pair.Goals as goal
 
 pub returns-then-to-list : goal.returns-then-to-list

@@ -1,9 +1,8 @@
 use native.Mathlib.Omega.{arith}
 use Rattle.keys.specs.Bits.{bits_of_bytes}
 use Rattle.keys.proofs.BitsLaws.{length_bytes}
-use Prim.Native.Nat.{◌-◌}
 use Rattle.fields.proofs.Chunks.{number_told}
-use Rattle.walks.proofs.Walking.{Comparing, comparing_none, comparing_not, comparing_more, comparing_all}
+use Rattle.walks.proofs.Walking.{comparing_none, comparing_not, comparing_more, comparing_all}
 use Rattle.walks.proofs.walk.same_bytes.Goals as goal
 
 pub loop-i-init : goal.loop-i-init

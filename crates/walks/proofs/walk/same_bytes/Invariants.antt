@@ -1,10 +1,7 @@
 -- Bytes compared one after the other.
-use native.Mathlib.Omega.{arith}
 use Rattle.keys.specs.Bits.{bits_of_bytes}
-use Rattle.keys.proofs.BitsLaws.{length_bytes}
 use Prim.Native.Nat.{◌-◌}
-use Rattle.fields.proofs.Chunks.{number_told}
-use Rattle.walks.proofs.Walking.{Comparing, comparing_none, comparing_not, comparing_more, comparing_all}
+use Rattle.walks.proofs.Walking.{Comparing}
 use Rattle.walks.proofs.walk.same_bytes.Given as goal
 
 abbrev pub invariant-loop-i : goal.invariant-loop-i

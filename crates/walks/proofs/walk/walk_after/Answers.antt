@@ -2,7 +2,6 @@
 use native.Mathlib.Omega.{arith}
 use Rattle.keys.specs.Bits.{bits_of_bytes}
 use Rattle.walks.proofs.Walking.{inside_bits, after_none, if_left, if_right, after_word}
-use borrow.Author.Rules.{rules}
 use Rattle.walks.proofs.walk.walk_after.Goals as goal
 
 pub returns-then-w-eq0 : goal.returns-then-w-eq0

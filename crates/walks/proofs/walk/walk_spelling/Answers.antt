@@ -1,7 +1,6 @@
 -- Two spellings: the same, or a pair.
 use native.Mathlib.Omega.{arith}
 use Rattle.walks.proofs.Walking.{word_within, word_ends, words_same, words_apart}
-use borrow.Author.Rules.{rules}
 use Rattle.walks.proofs.walk.walk_spelling.Goals as goal
 
 pub number_in-n-requires : goal.number_in-n-requires

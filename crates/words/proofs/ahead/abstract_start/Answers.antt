@@ -1,7 +1,6 @@
 -- `abstract` before `new`.
-use mathlib.Core.Path.{◌≡◌, sym, ◌∙◌}
+use mathlib.Core.Path.{sym, ◌∙◌}
 use borrow.Author.Tests.{eq-eqb, ne_eqb}
-use borrow.Author.Rules.{rules}
 use Rattle.words.proofs.ahead.abstract_start.Goals as goal
 
 pub returns-then-whole_kind-eq-NEW : goal.returns-then-whole_kind-eq-NEW

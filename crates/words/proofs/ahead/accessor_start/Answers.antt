@@ -9,7 +9,6 @@ use Rattle.words.specs.Word.{size}
 use Rattle.words.specs.Cursor.{word_at}
 use Rattle.words.specs.Check.{spelled}
 use Rattle.words.specs.Ahead.{key_follows, accessor_word}
-use borrow.Author.Rules.{rules}
 use Rattle.words.proofs.ahead.accessor_start.Goals as goal
 
 pub returns-then-kind-ne-WORD : goal.returns-then-kind-ne-WORD

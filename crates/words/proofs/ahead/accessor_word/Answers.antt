@@ -1,14 +1,13 @@
 -- Of three bytes the second and third are e and t, and the first decides.
 -- The token is three bytes of the text.
 use mathlib.Core.Path.{◌≡◌, refl, sym, ap, ap₂, ◌∙◌}
-use mathlib.Core.Bool.{Bool, true, false}
 use mathlib.Core.List.{List, [], ◌∷◌}
 use Prim.Native.Nat.{ℕ, ◌+◌, ◌≤◌}
 use native.Mathlib.Omega.{arith}
 use lib.Dec.{eqb}
 use lib.ListN.{length as long, get_or}
 use borrow.Author.Tests.{eq-eqb, ne_eqb}
-use Rattle.words.specs.Test.{◌and◌, ◌or◌, same}
+use Rattle.words.specs.Test.{◌or◌}
 use Rattle.words.specs.Word.{size, start as start_of}
 use Rattle.words.specs.Check.{part, spelled}
 use Rattle.words.specs.Spelling.{bytes}
@@ -16,7 +15,6 @@ use Rattle.words.specs.Ahead.{accessor_word}
 use Rattle.words.proofs.Tests.{and_true}
 use Rattle.words.proofs.Bytes.{part_inside, part_three, same_long}
 use Rattle.words.proofs.Looks.{accessor_is, no_second, no_third}
-use borrow.Author.Rules.{rules}
 use Rattle.words.proofs.ahead.accessor_word.Goals as goal
 
 inside : (text : List ℕ) (w : ℕ) {a n : ℕ} → a ≡ start_of w → n ≡ size w → long (spelled text w) ≡ size w → n ≡ 3 → a + 3 ≤ long text

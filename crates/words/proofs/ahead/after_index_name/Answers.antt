@@ -5,7 +5,6 @@ use borrow.Author.Tests.{eq-eqb, ne_eqb}
 use Rattle.words.specs.Kind.{Colon, Comma, RBrack}
 use Rattle.words.proofs.Tests.{among_first, among_next, among_last}
 use Rattle.words.proofs.Looks.{after_index_is}
-use borrow.Author.Rules.{rules}
 use Rattle.words.proofs.ahead.after_index_name.Goals as goal
 
 pub returns-then-kind-eq-COLON : goal.returns-then-kind-eq-COLON

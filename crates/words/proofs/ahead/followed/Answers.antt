@@ -1,8 +1,7 @@
 -- What follows the parameter's name decides.
-use mathlib.Core.Path.{◌≡◌, refl, ap, sym, ◌∙◌}
+use mathlib.Core.Path.{refl, sym, ◌∙◌}
 use borrow.Author.Tests.{eq-eqb, ne_eqb}
 use Rattle.words.proofs.Looks.{followed_is}
-use borrow.Author.Rules.{rules}
 use Rattle.words.proofs.ahead.followed.Goals as goal
 
 pub returns-then-after_parameter : goal.returns-then-after_parameter

@@ -1,10 +1,7 @@
 -- Each arm is one case of the definition, at the kind that the cursor has.
-use mathlib.Core.Path.{◌≡◌, refl, ap, sym, ◌∙◌}
-use borrow.Author.Tests.{eq-eqb, ne_eqb}
+use mathlib.Core.Path.{ap, sym, ◌∙◌}
 use Rattle.words.specs.Ahead as spec
-use Rattle.words.specs.Cursor as at
 use Rattle.words.proofs.Looks.{no_start}
-use borrow.Author.Rules.{rules}
 use Rattle.words.proofs.ahead.function_start.Goals as goal
 
 pub returns-in-22 : goal.returns-in-22

@@ -1,10 +1,9 @@
 -- `)`, `...`, or a parameter start.
-use mathlib.Core.Path.{◌≡◌, refl, ap, sym, ◌∙◌}
+use mathlib.Core.Path.{refl, ap, sym, ◌∙◌}
 use borrow.Author.Tests.{eq-eqb, ne_eqb}
 use Rattle.words.specs.Ahead as spec
 use Rattle.words.specs.Cursor as at
 use Rattle.words.proofs.Looks.{brackets_is}
-use borrow.Author.Rules.{rules}
 use Rattle.words.proofs.ahead.in_brackets.Goals as goal
 
 pub returns-then-kind-eq-R_PAREN : goal.returns-then-kind-eq-R_PAREN

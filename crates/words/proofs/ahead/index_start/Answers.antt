@@ -10,7 +10,6 @@ use Rattle.words.specs.Class.{binding_word}
 use Rattle.words.specs.Ahead.{after_index_name}
 use Rattle.words.proofs.Tests.{among_first, among_next}
 use Rattle.words.proofs.Looks.{index_is}
-use borrow.Author.Rules.{rules}
 use Rattle.words.proofs.ahead.index_start.Goals as goal
 
 pub returns-then-kind-eq-DOT3 : goal.returns-then-kind-eq-DOT3

@@ -7,7 +7,6 @@ use Rattle.words.specs.Test.{◌or◌}
 use Rattle.words.specs.Kind.{LBrack}
 use Rattle.words.specs.Cursor.{whole_kind}
 use Rattle.words.specs.Ahead as spec
-use borrow.Author.Rules.{rules}
 use Rattle.words.proofs.ahead.key_follows.Goals as goal
 
 pub returns-then-property_key : goal.returns-then-property_key

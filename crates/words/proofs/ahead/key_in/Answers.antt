@@ -1,5 +1,5 @@
 -- `[` and any token, or any token that is no name, and then `in`.
-use mathlib.Core.Path.{◌≡◌, refl, ap, sym, ◌∙◌}
+use mathlib.Core.Path.{refl, ap, sym, ◌∙◌}
 use borrow.Author.Tests.{eq-eqb, ne_eqb}
 use Prim.Native.Nat.{ℕ}
 use Rattle.words.specs.Ahead as spec
@@ -7,7 +7,6 @@ use Rattle.words.specs.Class as class
 use Rattle.words.specs.Kind.{In}
 use Rattle.words.specs.Cursor as at
 use Rattle.words.proofs.Looks.{key_is}
-use borrow.Author.Rules.{rules}
 use native.Mathlib.Omega.{arith}
 use Rattle.words.proofs.ahead.key_in.Goals as goal
 

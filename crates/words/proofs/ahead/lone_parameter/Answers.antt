@@ -1,7 +1,6 @@
 -- A `)` before `=>`.
-use mathlib.Core.Path.{◌≡◌, sym, ◌∙◌}
+use mathlib.Core.Path.{sym, ◌∙◌}
 use borrow.Author.Tests.{eq-eqb, ne_eqb}
-use borrow.Author.Rules.{rules}
 use Rattle.words.proofs.ahead.lone_parameter.Goals as goal
 
 pub returns-then-whole_kind-eq-ARROW : goal.returns-then-whole_kind-eq-ARROW

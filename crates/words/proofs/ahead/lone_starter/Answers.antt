@@ -1,13 +1,10 @@
 -- Each way out of `ahead::lone_starter` is one case of the definition.
-use mathlib.Core.Path.{◌≡◌, ap, sym, ◌∙◌}
-use mathlib.Core.Bool.{Bool}
+use mathlib.Core.Path.{sym, ◌∙◌}
 use mathlib.Core.List.{[], ◌∷◌}
 use borrow.Author.Tests.{eq-eqb, ne_eqb}
-use Rattle.words.specs.Test.{test, among}
 use Rattle.words.specs.Kind.{NumberLiteral, BigIntLiteral}
 use Rattle.words.proofs.Tests.{among_first, among_next, among_last}
 use Rattle.words.proofs.Looks.{lone_is}
-use borrow.Author.Rules.{rules}
 use Rattle.words.proofs.ahead.lone_starter.Goals as goal
 
 pub returns-then-kind-ne-MINUS : goal.returns-then-kind-ne-MINUS

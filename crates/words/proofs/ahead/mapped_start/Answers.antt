@@ -1,10 +1,8 @@
 -- Each way out is one case of the definition, at the kind after the `{`.
-use mathlib.Core.Path.{◌≡◌, refl, ap, ap₂, sym, ◌∙◌}
+use mathlib.Core.Path.{refl, ap, sym, ◌∙◌}
 use borrow.Author.Tests.{eq-eqb, ne_eqb}
-use Prim.Native.Nat.{ℕ}
 use Rattle.words.specs.Ahead as spec
 use Rattle.words.proofs.Looks.{mapped_is, mapped_moved}
-use borrow.Author.Rules.{rules}
 use Rattle.words.proofs.ahead.mapped_start.Goals as goal
 
 pub returns-then-kind-eq-PLUS : goal.returns-then-kind-eq-PLUS

@@ -1,7 +1,6 @@
 -- A modifier word by the table that is not readonly, and a key or a `[` behind it.
 use mathlib.Core.Path.{sym, ap, ap₂, ◌∙◌}
 use mathlib.Core.Bool.{Bool, not}
-use Prim.Native.Nat.{ℕ}
 use native.Mathlib.Omega.{arith}
 use lib.Dec.{eqb}
 use borrow.Author.Tests.{eq-eqb, ne_eqb, not-true, not-false}
@@ -11,7 +10,6 @@ use Rattle.words.specs.Class.{modifier}
 use Rattle.words.specs.Cursor.{kind_at}
 use Rattle.words.specs.Ahead.{key_follows}
 use Rattle.words.proofs.Looks.{kind_small}
-use borrow.Author.Rules.{rules}
 use Rattle.words.proofs.ahead.modifier_start.Goals as goal
 
 pub in_class-requires : goal.in_class-requires

@@ -1,10 +1,9 @@
 -- A modifier word, a parameter's name after it, no line break between.
-use mathlib.Core.Path.{◌≡◌, refl, sym, ◌∙◌}
+use mathlib.Core.Path.{refl, sym, ◌∙◌}
 use Prim.Native.Nat.{◌+◌}
 use borrow.Author.Tests.{not-true, not-false}
 use Rattle.words.specs.Cursor as spec
 use Rattle.words.proofs.Looks.{modifies_is}
-use borrow.Author.Rules.{rules}
 use Rattle.words.proofs.ahead.modifies.Goals as goal
 
 pub returns-then-not-in_class : goal.returns-then-not-in_class

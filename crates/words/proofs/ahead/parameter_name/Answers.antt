@@ -1,11 +1,10 @@
 -- A binding word by the table, or this.
 -- A binding word by the table, or this.
-use mathlib.Core.Path.{◌≡◌, ap, sym, ◌∙◌}
+use mathlib.Core.Path.{ap, sym, ◌∙◌}
 use mathlib.Core.Bool.{Bool}
 use lib.Dec.{eqb}
 use Rattle.words.specs.Test.{◌or◌}
 use Rattle.words.specs.Kind.{This}
-use borrow.Author.Rules.{rules}
 use Rattle.words.proofs.ahead.parameter_name.Goals as goal
 
 pub returns-then-in_class : goal.returns-then-in_class

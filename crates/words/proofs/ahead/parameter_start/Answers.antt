@@ -1,9 +1,8 @@
 -- A parameter's name, and what follows it.
-use mathlib.Core.Path.{◌≡◌, ap, sym, ◌∙◌}
+use mathlib.Core.Path.{ap, sym, ◌∙◌}
 use borrow.Author.Tests.{not-true, not-false}
 use Rattle.words.specs.Ahead as spec
 use Rattle.words.proofs.Looks.{start_not, start_followed}
-use borrow.Author.Rules.{rules}
 use native.Mathlib.Omega.{arith}
 use Rattle.words.proofs.ahead.parameter_start.Goals as goal
 

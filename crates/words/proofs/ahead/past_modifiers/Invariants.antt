@@ -1,11 +1,8 @@
 -- The invariant: the words left lead to the same index. Assumes nothing.
-use mathlib.Core.Path.{◌≡◌, refl, sym, ◌∙◌}
-use Prim.Native.Nat.{◌≤◌, ◌+◌, ◌-◌, ◌^◌, ◌<◌}
+use mathlib.Core.Path.{◌≡◌}
+use Prim.Native.Nat.{◌≤◌, ◌+◌, ◌-◌}
 use lib.ListN.{length, drop}
 use Rattle.words.specs.Ahead as spec
-use Rattle.words.proofs.Looks.{past_more, past_end, modifies_inside}
-use borrow.Author.Rules.{rules}
-use native.Mathlib.Omega.{arith}
 use Rattle.words.proofs.ahead.past_modifiers.Given as goal
 
 abbrev pub invariant-loop-j : goal.invariant-loop-j

@@ -5,7 +5,6 @@ use mathlib.Core.List.{[], ◌∷◌}
 use Rattle.words.specs.Test.{◌or◌, among}
 use Rattle.words.specs.Kind.{Str, NumberLiteral}
 use Rattle.words.proofs.Tests.{among_first, among_next, among_last}
-use borrow.Author.Rules.{rules}
 use Rattle.words.proofs.ahead.property_key.Goals as goal
 
 pub returns-then-in_class : goal.returns-then-in_class

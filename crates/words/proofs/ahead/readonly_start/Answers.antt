@@ -8,7 +8,6 @@ use Rattle.words.specs.Test.{◌and◌}
 use Rattle.words.specs.Word.{newline as newlineOf}
 use Rattle.words.specs.Cursor.{same_line}
 use Rattle.words.specs.Ahead.{key_follows}
-use borrow.Author.Rules.{rules}
 use Rattle.words.proofs.ahead.readonly_start.Goals as goal
 
 pub returns-then-kind-ne-READONLY : goal.returns-then-kind-ne-READONLY

@@ -1,7 +1,6 @@
 -- One token further, unless it is the end.
-use mathlib.Core.Path.{◌≡◌, sym, ◌∙◌}
+use mathlib.Core.Path.{sym, ◌∙◌}
 use borrow.Author.Tests.{eq-eqb, ne_eqb}
-use borrow.Author.Rules.{rules}
 use Rattle.words.proofs.ahead.skip.Goals as goal
 
 pub returns-then-whole_kind-eq-EOF : goal.returns-then-whole_kind-eq-EOF

@@ -1,6 +1,4 @@
-use mathlib.Core.Path.{◌≡◌, refl, ap₂, sym, ◌∙◌}
-use Prim.Native.Nat.{◌≤◌, ◌+◌, ◌-◌, ◌^◌, ◌<◌}
-use lib.ListN.{length, drop}
+use mathlib.Core.Path.{refl, ap₂, sym, ◌∙◌}
 use Rattle.words.specs.Ahead as spec
 use Rattle.words.proofs.Looks.{starts_closed, starts_open, starts_lone}
 use borrow.Author.Rules.{rules}

@@ -1,11 +1,8 @@
 -- The invariant: the test answers the same at j as at i. Assumes nothing.
-use mathlib.Core.Path.{◌≡◌, refl, ap₂, sym, ◌∙◌}
-use Prim.Native.Nat.{◌≤◌, ◌+◌, ◌-◌, ◌^◌, ◌<◌}
-use lib.ListN.{length, drop}
+use mathlib.Core.Path.{◌≡◌}
+use Prim.Native.Nat.{◌≤◌, ◌+◌, ◌-◌}
+use lib.ListN.{length}
 use Rattle.words.specs.Ahead as spec
-use Rattle.words.proofs.Looks.{starts_closed, starts_open, starts_lone}
-use borrow.Author.Rules.{rules}
-use native.Mathlib.Omega.{arith}
 use Rattle.words.proofs.ahead.starter.Given as goal
 
 abbrev pub invariant-loop-j : goal.invariant-loop-j

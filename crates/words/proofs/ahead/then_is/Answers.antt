@@ -1,9 +1,8 @@
 -- The kind of the token after the one at j.
-use mathlib.Core.Path.{◌≡◌, ap, sym, ◌∙◌}
+use mathlib.Core.Path.{ap, ◌∙◌}
 use Prim.Native.Nat.{ℕ}
 use lib.Dec.{eqb}
 use Rattle.words.specs.Cursor as spec
-use borrow.Author.Rules.{rules}
 use Rattle.words.proofs.ahead.then_is.Goals as goal
 
 pub returns : goal.returns

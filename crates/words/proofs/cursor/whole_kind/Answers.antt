@@ -2,7 +2,6 @@
 use mathlib.Core.Path.{ap, sym}
 use lib.ListN.{get_or-eq_default}
 use Rattle.words.specs.Word.{kind}
-use borrow.Author.Rules.{rules}
 use native.Mathlib.Omega.{arith}
 use Rattle.words.proofs.cursor.whole_kind.Goals as goal
 

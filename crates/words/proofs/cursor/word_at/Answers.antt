@@ -1,7 +1,6 @@
 -- Past the list the word is 0.
 use mathlib.Core.Path.{sym}
 use lib.ListN.{get_or-eq_default}
-use borrow.Author.Rules.{rules}
 use Rattle.words.proofs.cursor.word_at.Goals as goal
 
 pub returns-else-i-words : goal.returns-else-i-words

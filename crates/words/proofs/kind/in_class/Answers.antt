@@ -1,7 +1,5 @@
 -- A class is a bit of the kind's entry in the table.
-use mathlib.Core.Path.{sym}
 use Rattle.words.proofs.Tests.{class_read}
-use borrow.Author.Rules.{rules}
 use Rattle.words.proofs.kind.in_class.Goals as goal
 
 pub returns : goal.returns

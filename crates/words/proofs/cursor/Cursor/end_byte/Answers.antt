@@ -1,9 +1,8 @@
 -- The end of the token before, or the half that is used up.
 -- The end of the token before, or the half that is used up.
-use mathlib.Core.Path.{◌≡◌, ap, ap₂, sym, ◌∙◌}
+use mathlib.Core.Path.{ap, ◌∙◌}
 use Rattle.words.specs.Word as five
 use Rattle.words.proofs.Tests.{end_some, end_start, end_after}
-use borrow.Author.Rules.{rules}
 use Rattle.words.proofs.cursor.Cursor.end_byte.Goals as goal
 
 pub returns-then-self-ne0 : goal.returns-then-self-ne0

@@ -1,6 +1,6 @@
 -- A whole token's kind, or what is left of it.
 -- A whole token's kind, or what is left of it.
-use mathlib.Core.Path.{◌≡◌, ap, ap₂, sym, ◌∙◌}
+use mathlib.Core.Path.{ap, sym, ◌∙◌}
 use Prim.Native.Nat.{ℕ}
 use Rattle.words.specs.Cursor as spec
 use Rattle.words.proofs.Tests.{left_some}

@@ -1,12 +1,11 @@
 -- By the newline bit, or by the half that is used up.
 -- By the newline bit, or by the half that is used up.
-use mathlib.Core.Path.{◌≡◌, ap, ap₂, sym, ◌∙◌}
+use mathlib.Core.Path.{ap, sym, ◌∙◌}
 use Prim.Native.Nat.{ℕ}
 use lib.Dec.{eqb}
 use Rattle.words.specs.Cursor as spec
 use Rattle.words.specs.Word as five
 use Rattle.words.proofs.Tests.{line_some}
-use borrow.Author.Rules.{rules}
 use Rattle.words.proofs.cursor.Cursor.same_line.Goals as goal
 
 pub returns-then-self-eq0 : goal.returns-then-self-eq0
