@@ -23,8 +23,8 @@ work=$(mktemp -d); trap 'rm -rf "$work"' EXIT
 # A module as text, with nothing optimised.
 text_of() { "$clang" -w -Xclang -disable-llvm-passes -S -emit-llvm "$1" -o "$2"; }
 
-# The module of the proved archive, and what the kit passes clang. The kit is reached through links, but for rt itself, which looks beside
-# its own file; its clang first keeps a copy of the module that it is given.
+# The module of the proved archive, and what the kit passes clang: once all is proved, the archive is made again, by a kit of links, but for rt
+# itself, which looks beside its own file; its clang first keeps a copy of the module that it is given.
 proved_module() {
     bin=$work/kit/toolchain/bin
     mkdir -p "$bin" "$work/kit/bin"
@@ -38,7 +38,10 @@ cp module.bc "$work/kept.bc"; printf '%s\n' "\$@" >"$work/flags"
 exec "$clang" "\$@"
 END
     chmod +x "$bin/clang"
-    (cd "$root/crates/typekey_c" && "$work/kit/bin/rt" lib)
+    cd "$root/crates/typekey_c"
+    rt lib
+    "$work/kit/bin/rt" lib >"$work/say" 2>&1 || { cat "$work/say"; exit 1; }
+    cd "$root"
     text_of "$work/kept.bc" "$work/module.ll"
 }
 

@@ -1,13 +1,16 @@
 #!/bin/sh
 # try_bindings.sh: runs the tests and examples of C, Rust, Python and JavaScript over the library in target/lib, or in the
-# folder that TYPEKEY_LIB names; if it is not in target/lib, it is built there first, without proof. Then the cases of the tool.
+# folder that TYPEKEY_LIB names; if it is not in target/lib, or older than a source, it is built there first, without proof. Then the cases of the tool.
 # The parts run beside each other, C's fuzzer for a quarter of the cases that it tries alone. One line for each; one that can't be run here is skipped and says so; of one that fails
 # all that it printed is shown. Exit 1 if one fails.
 set -eu
 root=$(cd "$(dirname "$0")/.." && pwd -P)
 if [ -z "${TYPEKEY_LIB:-}" ]; then
     TYPEKEY_LIB=$root/target/lib
-    [ -f "$TYPEKEY_LIB/typekey.wasm" ] || sh "$root/tools/build_library.sh" --unproved
+    built=$TYPEKEY_LIB/typekey.wasm
+    if [ ! -f "$built" ] || [ -n "$(find "$root"/crates.txt "$root"/crates/*/src "$root"/tools -newer "$built" -type f ! -name '*.pyc' | head -n 1)" ]; then
+        sh "$root/tools/build_library.sh" --unproved
+    fi
 fi
 TYPEKEY_LIB=$(cd "$TYPEKEY_LIB" && pwd -P)
 export TYPEKEY_LIB
