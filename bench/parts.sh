@@ -1,19 +1,20 @@
 #!/bin/sh
 # parts.sh OUT: the read call in its parts, for C, in OUT/libparts.a: part_check checks a list; part_read checks it and reads it to the tree,
 # as crates/calls/src/reading.rt does, but writes no key; part_key writes the key of a tree. What they call is the library's own
-# code, and is proved; these three are written here, into OUT/parts, and are compiled without proof, as tools/build_library.sh --unproved does.
+# code, and is proved; these three are written here, and are compiled without proof, as tools/build_library.sh --unproved does.
 # Each is compiled by itself: so what it calls has one caller, as in the library, and is inlined as it is there.
 set -eu
 root=$(cd "$(dirname "$0")/.." && pwd -P)
 out=$1/parts
-home=${RATTLE_HOME:-$(cd "$(dirname "$(readlink -f "$(command -v rt)")")/.." && pwd -P)}
 machine=$(uname -m)
-clang=$home/on/$machine/toolchain/bin/clang
+clang=$(dirname "$(readlink -f "$(command -v rt)")")/../toolchain/bin/clang
 rm -rf "$out" "$1/libparts.a"
-mkdir -p "$out/crates/parts_try/src"; out=$(cd "$out" && pwd -P)
-for d in "$root"/crates/*; do ln -s "$d" "$out/crates/"; done
-{ cat "$root/crates.txt"; sed -n 's/^calls:/parts_try:/p' "$root/crates.txt"; } >"$out/crates.txt"
-cat >"$out/crates/parts_try/src/main.rt" <<'END'
+mkdir -p "$out"; out=$(cd "$out" && pwd -P)
+work=$(mktemp -d); trap 'rm -rf "$work"' EXIT
+mkdir -p "$work/crates/parts_try/src"
+for d in "$root"/crates/*; do ln -s "$d" "$work/crates/"; done
+{ cat "$root/crates.txt"; sed -n 's/^calls:/parts_try:/p' "$root/crates.txt"; } >"$work/crates.txt"
+cat >"$work/crates/parts_try/src/main.rt" <<'END'
 use checks::check::Checked;
 use checks::check::check;
 use key_out::out::put_key;
@@ -85,15 +86,14 @@ fn main() {
     part_key(&nodes, &names, &text, 0, &mut key, &mut answer);
 }
 END
-(cd "$out" && sh "$root/tools/unproved.sh" parts_try "$out" >"$out/say") || { cat "$out/say" >&2; exit 1; }
-"$clang" -w -Xclang -disable-llvm-passes -S -emit-llvm "$out/parts_try.bc" -o "$out/program.ll"
+(cd "$work" && sh "$root/tools/unproved.sh" parts_try "$out" >"$out/say") || { cat "$out/say" >&2; exit 1; }
 part() { # NAME PARAMETERS, as tools/exports.py has them
     python3 -c 'import sys; sys.path.insert(0, sys.argv[1]); import exports; exports.EXPORTS = {sys.argv[2]: sys.argv[3]}
-sys.argv[1:] = sys.argv[4:]; exports.main()' "$root/tools" "$1" "$2" "$out/program.ll" "$out/$1.written" parts_try
+sys.argv[1:] = sys.argv[4:]; exports.main()' "$root/tools" "$1" "$2" "$out/parts_try.ll" "$out/$1.written" parts_try
     python3 "$root/tools/constants.py" "$out/$1.written" "$out/$1.all" >/dev/null
     { "$clang" --target="$machine-unknown-linux-gnu" -S -emit-llvm -x c /dev/null -o - | grep '^target '
       sed -e '/^target /d' -e 's/"target-cpu"="[^"]*"//; s/"probe-stack"="[^"]*"//' "$out/$1.all"; } >"$out/$1.ll"
-    set -- "$1" -Werror --target="$machine-unknown-linux-gnu" -O3 -mllvm -inline-threshold=1000 -mllvm -jump-threading-threshold=20 -fPIC -ffunction-sections
+    set -- "$1" $(grep -A 1 -xe -mllvm "$out/parts_try.flags" | grep -vxe --) -Werror --target="$machine-unknown-linux-gnu" -O3 -mllvm -inline-threshold=1000 -mllvm -jump-threading-threshold=20 -fPIC -ffunction-sections
     name=$1; shift
     "$clang" "$@" -S -emit-llvm -x ir "$out/$name.ll" -o "$out/$name.once.ll"
     "$clang" "$@" -c -x ir "$out/$name.once.ll" -o "$out/$name.o"

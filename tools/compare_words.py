@@ -4,8 +4,7 @@
     compare_words.py [COUNT [SEED [BUILD]]]     COUNT lists (120000), SEED (1), BUILD (O3, or O0, or checked)
 
 It runs in the folder that holds crates.txt, on target/unproved/words_run.BUILD, which tools/unproved.sh words_run leaves
-there: on x86-64 as it is, elsewhere under the emulator that the kit of the `rt` command has. Each list goes through the
-check, and the other ops run at random places of it. The lists at and past each limit run too, a run of 16,383 `(`
+there. Each list goes through the check, and the other ops run at random places of it. The lists at and past each limit run too, a run of 16,383 `(`
 before the starter test among them, with a stack of 512 KiB (the program's own arrays take 384 of it; a build that is not
 optimized holds them twice, and gets 1 MiB).
 """

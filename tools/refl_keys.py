@@ -26,14 +26,14 @@ def keyed(k): return '(record { which = %d; spelling = %s })' % (k[0], spl(k[1])
 def member(f):
     sign = lambda this: ' '.join([opt(f['params'], trees)] + [opt(f['this'], lambda p: opt(p[0], term))] * this + [trees(f['list']), opt(f['ret'], term)])
     return (lambda: 'property 0 0 %s %s %s %s' % (boo(f['readonly']), keyed(f['key']), boo(f['q']), opt(f['t'], term)),
-            lambda: 'method 0 0 %s %s %s' % (keyed(f['key']), boo(f['q']), sign(1)), lambda: 'callSignature 0 0 ' + sign(1), lambda: 'constructSignature 0 0 ' + sign(0),
-            lambda: 'indexSignature 0 0 %s %s %s' % (boo(f['readonly']), opt(f['par'], lambda p: '(%s, %s)' % (spl(p[0]), term(p[1]))), term(f['t'])))[f['sort']]()
+            lambda: 'method 0 0 %s %s %s' % (keyed(f['key']), boo(f['q']), sign(1)), lambda: 'call_signature 0 0 ' + sign(1), lambda: 'construct_signature 0 0 ' + sign(0),
+            lambda: 'index_signature 0 0 %s %s %s' % (boo(f['readonly']), opt(f['par'], lambda p: '(%s, %s)' % (spl(p[0]), term(p[1]))), term(f['t'])))[f['sort']]()
 def term(n):
     f, t = n.f, n.tag
     body = {
         'member': lambda: member(f),
         25: lambda: 'object 0 0 ' + trees(f['list']),
-        'type parameter': lambda: 'typeParameter 0 0 %s %s %s' % (spl(f['name']), opt(f['x'], term), opt(f['d'], term)),
+        'type parameter': lambda: 'type_parameter 0 0 %s %s %s' % (spl(f['name']), opt(f['x'], term), opt(f['d'], term)),
         'parameter': lambda: 'parameter 0 0 %s %s %s %s' % (boo(f['rest']), spl(f['name']), boo(f['q']), opt(f['t'], term)),
         1: lambda: 'reference 0 0 %s %s' % (many(f['names'], spl), opt(f['args'], trees)),
         2: lambda: 'keyword 0 0 %d' % f['which'],
@@ -52,12 +52,12 @@ def term(n):
         15: lambda: 'template 0 0 %s %s' % (spl(f['ss'][0]), lst(['(%s, %s)' % (term(a), spl(s)) for a, s in zip(f['ts'], f['ss'][1:])])),
         16: lambda: 'predicate 0 0 %s %s %s' % (boo(f['asserts']), opt(f['name'], spl), opt(f['t'], term)),
         17: lambda: 'typeof 0 0 %s %s' % (many(f['names'], spl), opt(f['args'], trees)),
-        18: lambda: 'importType 0 0 %s %s %s %s' % (boo(f['typeof']), spl(f['s']), many(f['names'], spl), opt(f['args'], trees)),
+        18: lambda: 'import_type 0 0 %s %s %s %s' % (boo(f['typeof']), spl(f['s']), many(f['names'], spl), opt(f['args'], trees)),
         19: lambda: 'tuple 0 0 ' + trees(f['list']),
         20: lambda: 'optional 0 0 ' + term(f['t']),
         21: lambda: 'rest 0 0 ' + term(f['t']),
         22: lambda: 'named 0 0 %s %s %s' % (spl(f['name']), boo(f['q']), term(f['t'])),
-        23: lambda: 'nonNull 0 0 ' + term(f['t']),
+        23: lambda: 'non_null 0 0 ' + term(f['t']),
         24: lambda: 'asked 0 0 ' + term(f['t']),
     }[t]()
     return '(' + body + ')'
@@ -143,11 +143,11 @@ for kind, key, n, k, m in cases:
     x = take_back(key, n, k, m)
     right = 'refused %d %d' % x[1:] if x[0] == 'refused' else 'taken (bare %s)' % term(x[1])
     answers[x[0] if x[0] == 'taken' else x[1]] = answers.get(x[0] if x[0] == 'taken' else x[1], 0) + 1
-    lemmas.append('takeKey %d %d %d %s ≡ %s' % (n, k, m, bts(key), right))
+    lemmas.append('take_key %d %d %d %s ≡ %s' % (n, k, m, bts(key), right))
 for n, k in good:
     assert ''.join(model.bits(i[2], i[1]) if i[0] == 'c' else model.spell(i[1]) if i[0] == 's' else model.out(i[1]) for i in items(n)) == model.out(n)
-    lemmas.append('keyOf (bare %s) ≡ %s' % (term(n), bts(k))); key_n += 1
-lemmas.append('takeKey 1 1 1 (16 ∷ replicate 262144 0) ≡ refused 10 0')   # a byte too long
+    lemmas.append('key_of (bare %s) ≡ %s' % (term(n), bts(k))); key_n += 1
+lemmas.append('take_key 1 1 1 (16 ∷ replicate 262144 0) ≡ refused 10 0')   # a byte too long
 nums = lambda l: lst([str(w) for w in l])
 for kind, key, n, k, m in [c for c in cases if len(c[1]) < 60][::6]:
     a, bn, c = n % 64 * 4 + R.randrange(4), k % 48, m % 96
@@ -155,19 +155,15 @@ for kind, key, n, k, m in [c for c in cases if len(c[1]) < 60][::6]:
     if x[0] == 'refused': ans, ns, nm, tx = 'no %d %d' % x[1:], [], [], []
     else: ns, nm, tx = store(x[1]); ans = 'back %d %d %d' % (x[3], x[4], len(x[2])); assert bytes(tx) == x[2]; left_n += 1
     fill = lambda l, size: nums(l + [0] * (size - len(l)))
-    lemmas.append('takeBack %s %d %d %d ≡ record { answer = %s; nodeWords = %s; nameWords = %s; text = %s }' % (bts(key), a, bn, c, ans, fill(ns, a), fill(nm, bn), fill(tx, c))); store_n += 1
+    lemmas.append('take_back %s %d %d %d ≡ record { answer = %s; node_words = %s; name_words = %s; text = %s }' % (bts(key), a, bn, c, ans, fill(ns, a), fill(nm, bn), fill(tx, c))); store_n += 1
 visit_n = 0
 for n, k in [g for g in good if len(g[1]) < 60]:
-    lemmas.append('visitsOf %s ≡ %s' % (term(n), nums(visits(n)))); visit_n += 1
+    lemmas.append('visits_of %s ≡ %s' % (term(n), nums(visits(n)))); visit_n += 1
 
-HEAD = '''use mathlib.Core.Path.{_≡_, refl}
-use mathlib.Core.List.{List, [], _∷_}
-use mathlib.Core.Bool.{Bool, true, false}
-use Prim.Native.Nat.{ℕ}
-use lib.ListN.{replicate}
-use Rattle·keys·specs.specs.Placed.{Placed, bare, absent, present, object, property, method, callSignature, constructSignature, indexSignature, reference, keyword, literal, parens, union, intersection, array, indexed, conditional, infer, operator, function, constructor, mapped, template, predicate, typeof, importType, tuple, optional, rest, named, nonNull, asked, typeParameter, parameter}
-use Rattle·keys·specs.specs.Key.{keyOf, takeKey, taken, refused}
-use Rattle·keys·specs.specs.Store.{takeBack, back, no, visitsOf}
+HEAD = '''use Rattle.std.specs.Prelude.{true, false, List, [], ◌∷◌, ◌≡◌, refl, replicate}
+use Rattle.keys.specs.Placed.{Placed, bare, absent, present, object, property, method, call_signature, construct_signature, index_signature, reference, keyword, literal, parens, union, intersection, array, indexed, conditional, infer, operator, function, constructor, mapped, template, predicate, typeof, import_type, tuple, optional, rest, named, non_null, asked, type_parameter, parameter}
+use Rattle.keys.specs.Key.{key_of, take_key, taken, refused}
+use Rattle.keys.specs.Store.{take_back, back, no, visits_of}
 '''
 tmp = tempfile.mkdtemp(prefix='refl_keys')
 os.makedirs(tmp + '/crates/keys/specs')
@@ -175,9 +171,9 @@ FILES = 'Bits Limits Form Table Placed Key Store'.split()
 for name in FILES: shutil.copy(os.path.join(HERE, '..', 'crates', 'keys', 'specs', name + '.antt'), tmp + '/crates/keys/specs/')
 open(tmp + '/crates/keys/specs/Lib.antt', 'w').write(''.join('pub mod %s\n' % name for name in FILES))
 os.makedirs(tmp + '/crates/keys/src')
-open(tmp + '/crates/keys/src/lib.rt', 'w').write('// Lemmas by computation.\n')
+open(tmp + '/crates/keys/src/lib.rt', 'w').write('// Lemmas by computation.\n#![tactic(auto)]\n')
 os.makedirs(tmp + '/crates/words/src'); os.makedirs(tmp + '/crates/words/specs')
-open(tmp + '/crates/words/src/lib.rt', 'w').write('// The limits alone.\n')
+open(tmp + '/crates/words/src/lib.rt', 'w').write('// The limits alone.\n#![tactic(auto)]\n')
 open(tmp + '/crates/words/specs/Lib.antt', 'w').write('pub mod Limits\n')
 shutil.copy(os.path.join(HERE, '..', 'crates', 'words', 'specs', 'Limits.antt'), tmp + '/crates/words/specs/')
 open(tmp + '/crates.txt', 'w').write('words:\nkeys: words\n')
@@ -190,7 +186,7 @@ with open(tmp + '/crates/keys/specs/Lib.antt', 'a') as lib:
             f.write(HEAD)
             for j, l in enumerate(lemmas[i:i + size]): f.write('\nt%d : %s\nt%d = refl\n' % (i + j, l, i + j))
 start = time.time()
-p = subprocess.run(['rt', 'check'], cwd=tmp, capture_output=True, text=True)
+p = subprocess.run(['rt', 'check', '--jobs', '1'], cwd=tmp + '/crates/keys', capture_output=True, text=True)
 out = p.stdout + p.stderr
 bad = [l for l in out.split('\n') if 'error' in l]
 for l in bad[:10]: print(l[:600])

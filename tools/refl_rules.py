@@ -19,7 +19,6 @@ ap.add_argument('--only', help='a file of texts, one to a line, instead of the s
 ap.add_argument('--crates', default=os.path.join(here, '..', 'crates'))
 ap.add_argument('--model', default=here)
 ap.add_argument('--objects', type=int, metavar='N', help='only object types: the rows of W1, and N generated and damaged texts')
-ap.add_argument('--target', help='a folder target with proved libraries to begin from')
 args = ap.parse_args()
 sys.setrecursionlimit(20000)
 sys.path.insert(0, args.model)
@@ -277,7 +276,7 @@ def lemma(n, c):
     a = ' '.join(map(str, x[0]))
     return '''
 l%d : read %s %s %d %s (lend %d %d %d %d)
-    ≡ record { answer = %s; nodeWords = %s; nameWords = %s; noteWords = %s; key = %s }
+    ≡ record { answer = %s; node_words = %s; name_words = %s; note_words = %s; key = %s }
 unfolding rules read
 l%d = refl
 ''' % ((n, said(t), '(' + ' ∷ '.join('0x%x' % v for v in w) + ' ∷ [])' if w else '[]', start, 'true' if p else 'false') + lent
@@ -286,18 +285,15 @@ l%d = refl
 root = args.keep or tempfile.mkdtemp(prefix='refl_rules_')
 shutil.rmtree(root, ignore_errors=True)
 os.makedirs(root + '/crates')
-for c in ('words', 'keys', 'rules'): shutil.copytree(os.path.join(args.crates, c), root + '/crates/' + c)
-shutil.rmtree(root + '/crates/rules/must-fail', ignore_errors=True)
+for c in ('words', 'keys', 'rules'): shutil.copytree(os.path.join(args.crates, c), root + '/crates/' + c, ignore=shutil.ignore_patterns('out', 'must-fail'))
 os.makedirs(root + '/crates/probe/src'); os.makedirs(root + '/crates/probe/specs')
 open(root + '/crates.txt', 'w').write('words:\nkeys: words\nrules: words keys\nprobe: words keys rules\n')
-open(root + '/crates/probe/src/lib.rt', 'w').write('// Lemmas for comparing.\n')
+open(root + '/crates/probe/src/lib.rt', 'w').write('// Lemmas for comparing.\n#![tactic(auto)]\n')
 head = '''-- Readings, each by computation.
-use mathlib.Core.Bool.{Bool, true, false}
-use mathlib.Core.List.{List, [], _∷_}
-use mathlib.Core.Path.{_≡_, refl}
-use Rattle·words.specs.Spelling.{bytes}
-use Rattle·rules.specs.Read.{lend, reads, refuses, read}
-use Rattle·rules.specs.Rules.{rules}
+use Rattle.std.specs.Prelude.{true, false, List, [], ◌∷◌, ◌≡◌, refl}
+use Rattle.words.specs.Spelling.{bytes}
+use Rattle.rules.specs.Read.{lend, reads, refuses, read}
+use Rattle.rules.specs.Rules.{rules}
 '''
 files = []
 for i in range(0, len(cases), args.batch):
@@ -307,31 +303,27 @@ for i in range(0, len(cases), args.batch):
 open(root + '/crates/probe/specs/Lib.antt', 'w').write(''.join('pub mod %s\n' % f for f in files))
 open(root + '/crates/probe/specs/Lib.antt', 'a').write('pub mod Edges\n')
 open(root + '/crates/probe/specs/Edges.antt', 'w').write('''-- Limits that are met by lengths alone, and the order of the checks of a node.
-use Prim.Native.Nat.{ℕ, zero, suc}
-use mathlib.Core.Bool.{Bool, true, false}
-use mathlib.Core.List.{List, [], _∷_}
-use mathlib.Core.Path.{_≡_, refl}
-use lib.ListN.{replicate}
-use Rattle·keys.specs.Placed.{Placed, void, tree}
-use Rattle·rules.specs.State.{Given, State, Result, read, refuse, make}
-use Rattle·rules.specs.Read.{lend, denied, outcome}
-use Rattle·rules.specs.Rules.{rules}
+use Rattle.std.specs.Prelude.{ℕ, zero, suc, false, List, [], ◌∷◌, ◌≡◌, refl, replicate}
+use Rattle.keys.specs.Placed.{Placed, void, tree}
+use Rattle.rules.specs.State.{Given, State, read, refuse, make}
+use Rattle.rules.specs.Read.{lend, denied, outcome}
+use Rattle.rules.specs.Rules.{rules}
 
-text-over : outcome (replicate 65536 65) (0 ∷ []) 0 false (lend 4 4 4 4) ≡ denied 1 0 0 0
+text_over : outcome (replicate 65536 65) (0 ∷ []) 0 false (lend 4 4 4 4) ≡ denied 1 0 0 0
 unfolding rules
-text-over = refl
+text_over = refl
 
-text-at : outcome (replicate 65535 65) (0 ∷ []) 0 false (lend 4 4 4 4) ≡ denied 3 0 0 0
+text_at : outcome (replicate 65535 65) (0 ∷ []) 0 false (lend 4 4 4 4) ≡ denied 3 0 0 0
 unfolding rules
-text-at = refl
+text_at = refl
 
-tokens-over : outcome (65 ∷ []) (replicate 16385 0) 0 false (lend 4 4 4 4) ≡ denied 1 0 0 0
+tokens_over : outcome (65 ∷ []) (replicate 16385 0) 0 false (lend 4 4 4 4) ≡ denied 1 0 0 0
 unfolding rules
-tokens-over = refl
+tokens_over = refl
 
-tokens-at : outcome (65 ∷ []) (replicate 16384 0) 0 false (lend 4 4 4 4) ≡ denied 2 0 0 0
+tokens_at : outcome (65 ∷ []) (replicate 16384 0) 0 false (lend 4 4 4 4) ≡ denied 2 0 0 0
 unfolding rules
-tokens-at = refl
+tokens_at = refl
 
 tower : ℕ → Placed
 tower zero = void
@@ -343,27 +335,24 @@ g n = record { text = []; words = []; parens = false; room = n; records = 0 }
 s : State
 s = record { at = 5; half = 0; nodes = 3; notes = []; tally = record { entered = 0; trials = 0 } }
 
-long-first : make (g 3) (1 ∷ 4096 ∷ []) (tower 257) s ≡ refuse 7 5 0
+long_first : make (g 3) (1 ∷ 4096 ∷ []) (tower 257) s ≡ refuse 7 5 0
 unfolding rules tower g s
-long-first = refl
+long_first = refl
 
-tall-second : make (g 3) (4095 ∷ 4095 ∷ []) (tower 257) s ≡ refuse 6 5 0
+tall_second : make (g 3) (4095 ∷ 4095 ∷ []) (tower 257) s ≡ refuse 6 5 0
 unfolding rules tower g s
-tall-second = refl
+tall_second = refl
 
-room-last : make (g 3) (4095 ∷ []) (tower 256) s ≡ refuse 8 5 0
+room_last : make (g 3) (4095 ∷ []) (tower 256) s ≡ refuse 8 5 0
 unfolding rules tower g s
-room-last = refl
+room_last = refl
 
 made : make (g 4) (4095 ∷ []) (tower 256) s ≡ read (tower 256) (record { at = 5; half = 0; nodes = 4; notes = []; tally = record { entered = 0; trials = 0 } })
 unfolding rules tower g s
 made = refl
 ''')
-if args.target:
-    os.makedirs(root + '/target')
-    for d in ('rlib', 'stamp'): shutil.copytree(os.path.join(args.target, d), root + '/target/' + d, copy_function=shutil.copy2)
 begun = time.time()
-done = subprocess.run(['rt', 'check', 'probe'], cwd=root, capture_output=True, text=True, env=dict(os.environ, RT_JOBS='1', RT_CUT='0'))
+done = subprocess.run(['rt', 'check', '--jobs', '1'], cwd=root + '/crates/probe', capture_output=True, text=True)
 log = done.stdout + done.stderr
 wrong = sorted({int(x) for x in re.findall(r'(?:error|in):? `l(\d+)`', log)})
 count = collections.Counter(c[0] for c in cases)
