@@ -1,6 +1,5 @@
 -- `records` is safe and ends: the place stays within the buffer, and the records left fall. Assumes nothing.
 use Prim.Native.Nat.{◌<◌}
-use borrow.Author.Rules.{rules}
 use Rattle.words_run.proofs.records.Given as goal
 
 abbrev pub invariant-loop-left : goal.invariant-loop-left

@@ -1,8 +1,7 @@
 -- `sum::dirty_places` is safe and ends: the words left fall, and their number stays. Assumes nothing.
 use Prim.Native.Nat.{◌≤◌, ◌-◌, ◌+◌}
 use mathlib.Core.Path.{◌≡◌}
-use native.Mathlib.Omega.{arith}
-use lib.ListN.{length, length-set}
+use lib.ListN.{length}
 use Rattle.keys_run.proofs.sum.dirty_places.Given as goal
 
 abbrev pub invariant-loop-i : goal.invariant-loop-i

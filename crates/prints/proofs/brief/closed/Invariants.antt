@@ -1,5 +1,5 @@
 -- `brief::closed` is safe and ends: the place stays within the buffer, and the depths that are left fall. Assumes nothing.
-use Rattle.std.proofs.Common.{◌-◌, ◌<◌, rules}
+use Rattle.std.proofs.Common.{◌-◌, ◌<◌}
 use Rattle.prints.proofs.brief.closed.Given as goal
 
 abbrev pub invariant-loop-d : goal.invariant-loop-d

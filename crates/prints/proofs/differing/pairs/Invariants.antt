@@ -1,5 +1,5 @@
 -- `differing::pairs` is safe and ends: the place stays within the buffer, and the visits that are left fall. Assumes nothing.
-use Rattle.std.proofs.Common.{◌-◌, ◌<◌, rules}
+use Rattle.std.proofs.Common.{◌-◌, ◌<◌}
 use Rattle.prints.proofs.differing.pairs.Given as goal
 
 abbrev pub invariant-loop-i : goal.invariant-loop-i

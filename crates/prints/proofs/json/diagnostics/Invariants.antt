@@ -1,5 +1,5 @@
 -- `json::diagnostics` is safe and ends: the place stays within the buffer, and the diagnostics that are left fall. Assumes nothing.
-use Rattle.std.proofs.Common.{◌-◌, ◌<◌, rules}
+use Rattle.std.proofs.Common.{◌-◌, ◌<◌}
 use Rattle.prints.proofs.json.diagnostics.Given as goal
 
 abbrev pub invariant-loop-i : goal.invariant-loop-i

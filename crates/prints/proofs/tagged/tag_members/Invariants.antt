@@ -1,5 +1,5 @@
 -- `tagged::tag_members` is safe and ends: the visits that are left fall. Assumes nothing.
-use Rattle.std.proofs.Common.{◌≡◌, ◌-◌, length, rules}
+use Rattle.std.proofs.Common.{◌≡◌, ◌-◌, length}
 use Rattle.prints.proofs.tagged.tag_members.Given as goal
 
 abbrev pub invariant-loop-i : goal.invariant-loop-i

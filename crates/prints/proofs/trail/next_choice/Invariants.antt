@@ -1,5 +1,5 @@
 -- `trail::next_choice` is safe and ends: the visits that are left fall. Assumes nothing.
-use Rattle.std.proofs.Common.{◌-◌, ◌<◌, length, rules}
+use Rattle.std.proofs.Common.{◌-◌, length}
 use Rattle.prints.proofs.trail.next_choice.Given as goal
 
 abbrev pub invariant-loop-i : goal.invariant-loop-i

@@ -1,5 +1,5 @@
 -- `trail::path` is safe and ends: the place stays within the buffer, and the steps that are left fall. Assumes nothing.
-use Rattle.std.proofs.Common.{◌-◌, ◌<◌, rules}
+use Rattle.std.proofs.Common.{◌-◌, ◌<◌}
 use Rattle.prints.proofs.trail.path.Given as goal
 
 abbrev pub invariant-loop-d : goal.invariant-loop-d

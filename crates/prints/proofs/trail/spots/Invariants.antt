@@ -1,5 +1,5 @@
 -- `trail::spots` is safe and ends: the visits that are left fall. Assumes nothing.
-use Rattle.std.proofs.Common.{◌-◌, rules}
+use Rattle.std.proofs.Common.{◌-◌}
 use Rattle.prints.proofs.trail.spots.Given as goal
 
 abbrev pub invariant-loop-i : goal.invariant-loop-i

@@ -1,5 +1,5 @@
 -- `tree::all` is safe and ends: the place stays within the buffer, the open nodes keep their number of words, and the visits that are left fall. Assumes nothing.
-use Rattle.std.proofs.Common.{◌-◌, ◌<◌, rules}
+use Rattle.std.proofs.Common.{◌-◌, ◌<◌}
 use Rattle.prints.proofs.tree.all.Given as goal
 
 abbrev pub invariant-loop-i : goal.invariant-loop-i

@@ -1,7 +1,5 @@
 -- `answer::all_fields` is safe and ends: the place stays within the buffer, and the words left fall. Assumes nothing.
 use Prim.Native.Nat.{◌<◌, ◌≤◌, ◌-◌}
-use mathlib.Core.Path.{◌≡◌}
-use borrow.Author.Rules.{rules}
 use lib.ListN.{length}
 use Rattle.words_run.proofs.answer.all_fields.Given as goal
 

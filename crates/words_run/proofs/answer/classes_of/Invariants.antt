@@ -1,8 +1,5 @@
 -- `answer::classes_of` is safe and ends: the place stays within the buffer, and the classes left fall. Assumes nothing.
 use Prim.Native.Nat.{◌<◌, ◌≤◌, ◌-◌}
-use mathlib.Core.Path.{◌≡◌}
-use borrow.Author.Rules.{rules}
-use lib.ListN.{length}
 use Rattle.words_run.proofs.answer.classes_of.Given as goal
 
 abbrev pub invariant-loop-class : goal.invariant-loop-class
