@@ -14,7 +14,7 @@ import os, re, subprocess, sys
 
 ROOT = os.path.join(os.path.dirname(os.path.abspath(__file__)), '..')
 DOCS = ['README.md', 'CONTRIBUTING.md'] + ['docs/' + f for f in sorted(os.listdir(os.path.join(ROOT, 'docs'))) if f.endswith('.md')]
-END = r'(?![\w·-])'
+END = r'(?![\w-])'
 
 
 def path(*parts): return os.path.join(ROOT, *parts)
@@ -35,6 +35,7 @@ def sources():
     """Every file that may name a module: definitions, proofs, code, edits, and the programs that write such text."""
     for top in ('crates', 'tools'):
         for folder, dirs, files in os.walk(path(top)):
+            if 'out' in dirs: dirs.remove('out')
             for f in files:
                 if f.endswith(('.antt', '.rt', '.edit', '.py')) and f != 'laws_home.py': yield os.path.join(folder, f)
 
@@ -54,10 +55,7 @@ def lib_lines(crate, part):
     return text_of(f).splitlines() if os.path.exists(f) else []
 
 
-def own(crate, part, module): return r'Rattle·%s·%s\.%s\.%s%s' % (crate, part, part, module, END)
-
-
-def above(crate, part, module): return r'Rattle·%s\.%s\.%s%s' % (crate, part, module, END)
+def named(crate, part, module): return r'Rattle\.%s\.%s\.%s%s' % (crate, part, module, END)
 
 
 def git_mv(a, b):
@@ -72,17 +70,14 @@ def move(crate, modules):
         have = os.listdir(path('crates', crate, 'proofs')) if os.path.isdir(path('crates', crate, 'proofs')) else []
         for f in have:
             if f.split('.')[0].lower() == m.lower(): fail('%s/proofs has %s already' % (crate, f))
-    goes = re.compile('|'.join(own(crate, 'specs', m) for m in modules))
+    goes = re.compile('|'.join(named(crate, 'specs', m) for m in modules))
     stays = [path('crates', crate, 'specs', m + '.antt') for m in listed if m not in modules]
     for folder, dirs, files in os.walk(path('crates', crate, 'src')): stays += [os.path.join(folder, f) for f in files if f.endswith('.rt')]
     bad = ['%s imports %s' % (os.path.relpath(f, path('crates', crate)), x.split('.')[-1]) for f in stays for x in sorted(set(goes.findall(text_of(f))))]
     if bad: fail('stays behind, and would cite what goes: ' + '; '.join(bad))
 
     for m in modules: git_mv(path('crates', crate, 'specs', m + '.antt'), path('crates', crate, 'proofs', m + '.antt'))
-    rules = []
-    for m in modules:
-        rules.append((own(crate, 'specs', m), 'Rattle·%s·proofs.proofs.%s' % (crate, m)))
-        rules.append((above(crate, 'specs', m), 'Rattle·%s.proofs.%s' % (crate, m)))
+    rules = [(named(crate, 'specs', m), 'Rattle.%s.proofs.%s' % (crate, m)) for m in modules]
     changed = sum(change(f, rules) for f in list(sources()))
 
     specs = lib_lines(crate, 'specs')
@@ -107,8 +102,7 @@ def mend(crates):
         for f in sorted(os.listdir(here)) if os.path.isdir(here) else []:
             m = f[:-5]
             if not f.endswith('.antt') or m == 'Lib' or os.path.exists(path('crates', c, 'specs', f)): continue
-            rules.append((own(c, 'specs', m), 'Rattle·%s·proofs.proofs.%s' % (c, m)))
-            rules.append((above(c, 'specs', m), 'Rattle·%s.proofs.%s' % (c, m)))
+            rules.append((named(c, 'specs', m), 'Rattle.%s.proofs.%s' % (c, m)))
     print('%d files changed' % sum(change(f, rules) for f in list(sources())))
 
 
@@ -119,9 +113,8 @@ def name(crate, source, target, names):
     changed = 0
     for f in list(sources()):
         old = text = text_of(f)
-        for inside, part in ((True, 'specs'), (True, 'proofs'), (False, 'specs'), (False, 'proofs')):
-            a = 'Rattle·%s·%s.%s.%s' % (crate, part, part, source) if inside else 'Rattle·%s.%s.%s' % (crate, part, source)
-            b = 'Rattle·%s·specs.specs.%s' % (crate, target) if inside else 'Rattle·%s.specs.%s' % (crate, target)
+        for part in ('specs', 'proofs'):
+            a, b = 'Rattle.%s.%s.%s' % (crate, part, source), 'Rattle.%s.specs.%s' % (crate, target)
             take = []
 
             def less(m):
@@ -164,8 +157,7 @@ def rename(crate, old, new):
     for f in os.listdir(path('crates', crate, part)):
         if f.split('.')[0].lower() == new.lower(): fail('%s/%s has %s already' % (crate, part, f))
     git_mv(path('crates', crate, part, old + '.antt'), path('crates', crate, part, new + '.antt'))
-    rules = [(own(crate, part, old), 'Rattle·%s·%s.%s.%s' % (crate, part, part, new)), (above(crate, part, old), 'Rattle·%s.%s.%s' % (crate, part, new))]
-    changed = sum(change(f, rules) for f in list(sources()))
+    changed = sum(change(f, [(named(crate, part, old), 'Rattle.%s.%s.%s' % (crate, part, new))]) for f in list(sources()))
     change(lib(crate, part), [(r'(?m)^pub mod %s$' % old, 'pub mod %s' % new)])
     told = sum(change(path(f), [(r'%s/%s/%s%s' % (crate, part, old, END), '%s/%s/%s' % (crate, part, new))]) for f in DOCS)
     print('%s: %s is %s now, %d files and %d documents changed' % (crate, old, new, changed, told))

@@ -1,7 +1,7 @@
 #!/usr/bin/env python3
 """Writes the constant tables: class words in crates/words/src/tables.rt; letters, places and guesses of spellings in crates/checks/src/tables.rt.
 
-    tools/tables.py          write them (then rt fmt)
+    tools/tables.py          write them (then rt fmt in the two folders)
     tools/tables.py --check  say whether they are as they would be written
 
 The tables are proved to be what the definitions say; this script only spares typing them.
