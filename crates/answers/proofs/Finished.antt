@@ -1,5 +1,5 @@
 -- What is left of a tree that was read: with its key and diagnostics, or zeros for want of space.
-use mathlib.Core.Path.{◌≡◌, refl, sym, ap, ap₂, ◌∙◌, subst}
+use mathlib.Core.Path.{◌≡◌, refl, sym, ap, ◌∙◌}
 use mathlib.Core.Bool.{Bool, true, false}
 use mathlib.Core.List.{List}
 use Prim.Native.Nat.{ℕ, ◌+◌, ◌*◌, ◌^◌, ◌≤◌, ◌<◌, min}
@@ -18,7 +18,7 @@ use Rattle.keys.proofs.StoreLaws.{length_records, under_plant}
 use Rattle.keys.specs.Holds.{Stands}
 use Rattle.rules.specs.Notes.{note_words}
 use Rattle.rules.specs.State.{State}
-use Rattle.rules.specs.Read.{Lent, lend, Answer, Called, reads, denied, fits, with_key, written}
+use Rattle.rules.specs.Read.{Lent, lend, Answer, Called, denied, fits, with_key, written}
 use Rattle.marks.specs.State.{notes_of, tally_of, view}
 use Rattle.marks.proofs.LaidLaws.{length_notes}
 use Rattle.marks.specs.declared.state.Mark.{Mark}

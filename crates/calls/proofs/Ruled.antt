@@ -1,18 +1,18 @@
 -- From the ring of readers to the call: what it read stands in the slices as the rules' tree, and what the call is to leave is told by the rules.
-use mathlib.Core.Path.{◌≡◌, refl, sym, ap, ◌∙◌}
+use mathlib.Core.Path.{◌≡◌, refl, ap, ◌∙◌}
 use mathlib.Core.Bool.{Bool, true}
-use mathlib.Core.List.{List, ◌++◌}
-use Prim.Native.Nat.{ℕ, ◌+◌, ◌*◌, ◌/◌, ◌^◌, ◌≤◌, ◌<◌}
+use mathlib.Core.List.{List}
+use Prim.Native.Nat.{ℕ, ◌*◌, ◌^◌, ◌≤◌, ◌<◌}
 use native.Mathlib.Omega.{arith}
 use lib.ListN.{length, take}
 use lib.Seq.{take_all}
 use Rattle.words.specs.Limits.{most_open, most_notes}
 use Rattle.words.specs.Check.{sound, refused, check}
 use Rattle.words.specs.Cursor.{first_byte}
-use Rattle.keys.specs.Form.{Bytes, nodes}
+use Rattle.keys.specs.Form.{Bytes}
 use Rattle.keys.specs.Limits.{record_words}
-use Rattle.keys.specs.Placed.{Placed, bare}
-use Rattle.keys.specs.Store.{run_of, nodes_of, names_of}
+use Rattle.keys.specs.Placed.{Placed}
+use Rattle.keys.specs.Store.{run_of, names_of}
 use Rattle.keys.proofs.StoreLaws.{length_names_in}
 use Rattle.keys.specs.Words.{first_nodes, first_names}
 use Rattle.rules.specs.State as rule

@@ -13,7 +13,7 @@ use Rattle.words.specs.Test.{◌and◌, same}
 use Rattle.words.proofs.Bytes.{same_eq}
 use Rattle.keys.specs.Bits.{bits_of, bits_of_bytes}
 use Rattle.keys.proofs.BitsLaws.{clash, length_bits, length_bytes}
-use Rattle.keys.specs.Form.{Value, nothing, spelt, choice, pair, node, Form, word, choose, both, Grammar, write, Fits, fits_one, fits_word, fits_choose, fits_both, fits_child}
+use Rattle.keys.specs.Form.{Value, spelt, choice, pair, node, Form, word, choose, both, Grammar, write, Fits, fits_one, fits_word, fits_choose, fits_both, fits_child}
 use Rattle.keys.proofs.FormLaws.{some}
 use Rattle.keys.specs.Limits.{edition_width}
 use Rattle.keys.specs.Table.{type}

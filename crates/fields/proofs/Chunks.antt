@@ -1,18 +1,16 @@
 -- The bits of a row of bytes, what the answer for a field tells, and the bytes of a spelling, one at a time.
 use mathlib.Core.Path.{◌≡◌, refl, sym, ap, ap₂, ◌∙◌, subst}
-use mathlib.Core.Bool.{Bool, true, false}
+use mathlib.Core.Bool.{Bool}
 use mathlib.Core.List.{List, [], ◌∷◌, ◌++◌, append_assoc, append-nil}
-use Prim.Native.Nat.{ℕ, zero, suc, ◌+◌, ◌-◌, ◌*◌, ◌/◌, ◌%◌, ◌^◌, ◌≤◌, ◌<◌}
-use native.Mathlib.Nat.{suc-add, div-div-eq-div-mul, mod-lt, pow-suc, mul_comm, add-zero, mod-one, mul-one}
+use Prim.Native.Nat.{ℕ, zero, suc, ◌+◌, ◌-◌, ◌*◌, ◌/◌, ◌^◌, ◌≤◌, ◌<◌}
+use native.Mathlib.Nat.{suc-add, div-div-eq-div-mul}
 use native.Mathlib.Omega.{arith}
-use lib.Arith.{digits_lt}
-use lib.Pow.{pow_pos, pow-add, pow_mono}
+use lib.Pow.{pow-add}
 use lib.ListN.{length, get_or, take, drop, set, length-drop, length-append, length-set}
-use lib.Seq.{drop_at, drop-append-add, drop-drop, drop-nil, take-suc-set}
+use lib.Seq.{drop_at, drop-append-add, drop-nil, take-suc-set}
 use Rattle.keys.specs.Bits.{Bits, odd, unit, bits_of, Field, short, field, take_on, take_field, bits_of_bytes, Row, cut, row, ahead, after_byte, take_bytes}
-use Rattle.keys.proofs.BitsLaws.{clash, length_bits, digit_taken, take_back_lem, take_whole_lem, take_short, length_bytes}
+use Rattle.keys.proofs.BitsLaws.{clash, length_bits, take_back_lem, take_whole_lem, take_short, length_bytes}
 use Rattle.fields.specs.Take.{answered, Copied}
-use Rattle.fields.specs.declared.take.TakenField.{TakenField}
 use Rattle.fields.specs.declared.take.TakenField.TheVariants.{Number, Short}
 
 -- ---- A part of a byte

@@ -1,6 +1,6 @@
 -- What taking a field and a spelling's bytes from a key answers in code (01, The key).
 use Rattle.std.specs.Prelude.{◌≡◌, List, ◌++◌, ℕ, ◌+◌, ◌*◌, ◌<◌, length, take, drop, get_or}
-use Rattle.keys.specs.Bits.{Bits, Field, short, field, Row, row, take_bytes}
+use Rattle.keys.specs.Bits.{Bits, Field, short, field, row, take_bytes}
 use Rattle.fields.specs.declared.take.TakenField.{TakenField}
 use Rattle.fields.specs.declared.take.TakenField.TheVariants.{Number, Short}
 

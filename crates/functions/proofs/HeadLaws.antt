@@ -4,11 +4,10 @@ use mathlib.Core.Bool.{Bool, true, false}
 use mathlib.Core.List.{List}
 use Prim.Native.Nat.{ℕ, ◌+◌, ◌*◌}
 use native.Mathlib.Omega.{arith}
-use lib.Dec.{eqb}
-use Rattle.words.specs.Kind.{Question, Dot3, Const, In, Out, Is, This}
+use Rattle.words.specs.Kind.{Question, Dot3, Const, In, Out, This}
 use Rattle.words.specs.Test.{◌and◌, ◌or◌, test}
 use Rattle.words.specs.Class as class
-use Rattle.words.specs.Cursor.{whole_kind, kind_at, same_line}
+use Rattle.words.specs.Cursor.{whole_kind}
 use Rattle.keys.specs.Bits.{unit}
 use Rattle.keys.specs.Placed.{Spelling}
 use Rattle.rules.specs.Refusal.{misplaced_this, type_parameter_modifier}
@@ -16,7 +15,6 @@ use Rattle.rules.specs.State as rule
 use Rattle.rules.specs.State.{State, Result, read, refuse, then, past}
 use Rattle.rules.specs.Names.{bound}
 use Rattle.rules.specs.TypeParameters as types
-use Rattle.rules.specs.Function as function
 use Rattle.marks.specs.State.{view, given_of, past_mark, Moved}
 use Rattle.marks.specs.Says.{SaysNames, SaysBound, Any, one}
 use Rattle.marks.specs.Names.{one_name}

@@ -11,7 +11,7 @@ use Rattle.keys.specs.Table.{opt}
 use Rattle.keys.specs.Placed.{Placed, join, Spelling, Opt, absent, present, spell, bit, maybe}
 use Rattle.keys.specs.Store.{Run, done, name, plant, ◌⊕◌}
 use Rattle.keys.proofs.StoreLaws.{join_done}
-use Rattle.marks.specs.Laid.{skeleton, run_in, run_opt, names_run, IsOpt, Shape, opt_bit}
+use Rattle.marks.specs.Laid.{skeleton, run_opt, names_run, IsOpt, Shape, opt_bit}
 use Rattle.functions.specs.Function.{type_bits}
 use Rattle.marks.proofs.RunLaws.{skeleton_join}
 use Rattle.marks.proofs.ShapeLaws.{skeleton_maybe, packed_maybe}

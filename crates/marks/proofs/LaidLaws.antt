@@ -5,13 +5,13 @@ use Prim.Native.Nat.{ℕ, zero, suc, ◌+◌, ◌*◌, ◌≤◌, ◌<◌}
 use native.Mathlib.Nat.{add-zero}
 use native.Mathlib.Omega.{arith}
 use native.Mathlib.Decide.{dec_lt}
-use lib.ListN.{length, take, set, get_or, length-append, length-set}
+use lib.ListN.{length, take, set, length-append, length-set}
 use lib.Seq.{length-take-le, take-take, take_at, take_all, take-append-le, take-append_seam, get_or-set_same, get_or-set_other}
 use Rattle.keys.specs.Placed.{Spelling}
 use Rattle.keys.specs.Store.{Run, done, name, under, called, first_kid, records, name_of, names_in, ◌⊕◌}
 use Rattle.keys.proofs.StoreLaws.{under_join, called_join, records_join, names_in_join}
 use Rattle.keys.specs.Words.{first_nodes, first_names}
-use Rattle.rules.specs.Notes.{Note, note_both}
+use Rattle.rules.specs.Notes.{Note}
 use Rattle.marks.specs.State.{tallies, note_at, note_from, notes_of, tally_of}
 use Rattle.marks.specs.Laid.{skeleton, names_run, Was, was_at, Laid}
 use Rattle.marks.proofs.RunLaws.{under_skeleton, called_skeleton, records_skeleton, names_in_skeleton, under_names, records_names}

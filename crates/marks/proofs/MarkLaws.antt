@@ -9,10 +9,10 @@ use lib.Dec.{eqb}
 use lib.ListN.{length, get_or, get_or-eq_default}
 use borrow.Author.Tests.{eq-eqb, ne_eqb}
 use Rattle.words.specs.Limits.{most_text}
-use Rattle.words.specs.Test.{◌or◌, test}
+use Rattle.words.specs.Test.{◌or◌}
 use Rattle.words.specs.Class.{in_class}
 use Rattle.words.specs.Word.{kind, start}
-use Rattle.words.specs.Cursor.{word_at, whole_kind, second_half, left, kind_at, taken_end, end_byte}
+use Rattle.words.specs.Cursor.{word_at, left, kind_at, taken_end, end_byte}
 use Rattle.marks.specs.State.{Sound, Inside, Fine, Reached, place_of, Moved, Along, next_mark, named_mark, past_mark}
 use Rattle.marks.specs.Notes.{refused_at, Noted}
 use Rattle.marks.specs.Node.{Put}

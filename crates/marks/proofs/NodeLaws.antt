@@ -9,18 +9,16 @@ use Rattle.words.specs.Limits.{tallest, longest}
 use Rattle.keys.specs.Form.{height}
 use Rattle.keys.specs.Key.{node_table}
 use Rattle.keys.specs.Limits.{too_tall, no_room, tags}
-use Rattle.keys.specs.Placed.{Placed, tree, bare, absent, present}
-use Rattle.keys.specs.Store.{Run, done, plant, first_kid}
+use Rattle.keys.specs.Placed.{Placed, tree, bare}
+use Rattle.keys.specs.Store.{Run, done, plant}
 use Rattle.rules.specs.Refusal.{too_long}
 use Rattle.rules.specs.State.{Given, State, read, refuse, make, end}
-use Rattle.keys.proofs.StoreLaws.{join_done}
-use Rattle.marks.specs.Laid.{heights, Was, Laid, Built, Shape}
+use Rattle.marks.specs.Laid.{heights, Was, Built, Shape}
 use Rattle.marks.specs.Node.{Put, Makes, MakesList, Links}
 use Rattle.marks.specs.Notes.{refused_at}
 use Rattle.keys.specs.Words.{first_nodes}
 use Rattle.words.specs.Cursor.{end_byte}
-use Rattle.marks.proofs.RunLaws.{heights_plant, heights_skeleton, node_high}
-use Rattle.marks.proofs.LaidLaws.{laid_back}
+use Rattle.marks.proofs.RunLaws.{heights_plant, heights_skeleton}
 use Rattle.marks.proofs.BuiltLaws.{built_first, built_next, stands_node}
 use Rattle.marks.proofs.Answers.{says_read, says_same, says_as, says_refused}
 use Rattle.marks.specs.State.{view, given_of, used_mark}

@@ -1,13 +1,12 @@
 -- Members up to their first type: what the rules come to by what their tests answer, and what the code found of it.
 use mathlib.Core.Path.{◌≡◌, refl, sym, ap, ap₂, ◌∙◌, subst}
-use mathlib.Core.Bool.{Bool, true, false, not}
+use mathlib.Core.Bool.{Bool, true, false}
 use mathlib.Core.List.{List, [], ◌∷◌}
 use Prim.Native.Nat.{ℕ, ◌+◌, ◌*◌, ◌≤◌, ◌<◌}
 use native.Mathlib.Omega.{arith}
 use borrow.Author.Tests.{ne_eqb}
 use lib.Dec.{eqb}
 use Rattle.words.specs.Kind.{LParen, LAngle, LBrack, Question}
-use Rattle.words.specs.Test.{◌and◌}
 use Rattle.words.specs.Cursor.{kind_at}
 use Rattle.words.specs.Ahead.{property_key, index_start}
 use Rattle.keys.specs.Bits.{unit}

@@ -4,11 +4,9 @@ use mathlib.Core.Bool.{Bool}
 use mathlib.Core.List.{List}
 use Prim.Native.Nat.{ℕ, ◌+◌}
 use native.Mathlib.Omega.{arith}
-use Rattle.keys.specs.Store.{Run}
 use Rattle.rules.specs.Notes.{Note}
 use Rattle.rules.specs.State.{State, Result, refuse, report_if}
 use Rattle.marks.specs.State.{view, given_of, place_of, Fine, Moved, Reached}
-use Rattle.marks.specs.Laid.{Was, Laid}
 use Rattle.marks.specs.Notes.{taken_at, refused_at, Reports, Noted}
 use Rattle.marks.proofs.StepLaws.{laid_at, fine_moved}
 use Rattle.marks.proofs.ReportLaws.{reports_done, reports_refused, laid_reported}

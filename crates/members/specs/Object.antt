@@ -1,5 +1,5 @@
 -- Members of object types before, between and after their types.
-use Rattle.std.specs.Prelude.{◌≡◌, Bool, true, false, not, List, [], ◌∷◌, ℕ, ◌+◌, ◌-◌, ◌*◌, ◌≤◌, ◌<◌, eqb, length}
+use Rattle.std.specs.Prelude.{◌≡◌, Bool, not, List, [], ◌∷◌, ℕ, ◌+◌, ◌-◌, ◌*◌, ◌≤◌, ◌<◌, eqb, length}
 use Rattle.words.specs.Test.{◌and◌, ◌or◌, test, among}
 use Rattle.words.specs.Kind.{RBrack, Question, Colon, Comma}
 use Rattle.words.specs.Cursor.{kind_at, first_byte, end_byte}

@@ -7,7 +7,7 @@ use lib.ListN.{length}
 use Rattle.keys.specs.Limits.{half_word}
 use Rattle.keys.specs.Form.{Form, never, one, word, choose, both, child, Grammar}
 use Rattle.keys.specs.Table.{one_of}
-use Rattle.keys.specs.Store.{Run, name, called}
+use Rattle.keys.specs.Store.{Run, called}
 use Rattle.keys.specs.Holds.{word_at, child_at, next_at, Cursor, cursor, HoldsBy}
 use Rattle.keys.specs.Lines.{tagged, Of, of_one, of_word, of_choose, of_child, levels}
 use Rattle.fields.specs.Put.{far}

@@ -1,7 +1,7 @@
 -- Walking a node by its form in line: what a walk puts out, its steps, and what its functions answer, whatever the output is.
 use Rattle.std.specs.Prelude.{◌≡◌, List, [], ◌++◌, ℕ, ◌+◌, ◌-◌, ◌*◌, ◌/◌, ◌^◌, ◌≤◌, ◌<◌, length}
 use Rattle.keys.specs.Limits.{half_word}
-use Rattle.keys.specs.Form.{Form, one, word, child, Grammar, width, branch, left, right, class}
+use Rattle.keys.specs.Form.{Form, Grammar, width, branch, left, right, class}
 use Rattle.keys.specs.Store.{Run, done, chose, name, kid, called}
 use Rattle.keys.specs.Lines.{tagged, Of, levels}
 use Rattle.keys.specs.Holds.{word_at, child_at, next_at, Cursor, cursor, HoldsBy}

@@ -2,7 +2,7 @@
 use mathlib.Core.Path.{◌≡◌, refl, sym, ap, ◌∙◌}
 use mathlib.Core.Bool.{Bool, true, false}
 use mathlib.Core.List.{[]}
-use Prim.Native.Nat.{ℕ, suc, ◌+◌}
+use Prim.Native.Nat.{ℕ}
 use native.Mathlib.Omega.{arith}
 use lib.Dec.{leb}
 use Rattle.words.specs.Limits.{most_trials}
@@ -15,7 +15,7 @@ use Rattle.rules.specs.State.{Given, State, Result, read, refuse, Reader, then, 
 use Rattle.rules.specs.Refusal.{many_trials}
 use Rattle.rules.specs.Names.{bound}
 use Rattle.rules.specs.Infer.{constraint_of, kept, dropped, opened, trial, infer}
-use Rattle.marks.specs.Laid.{name_run, run_in, IsNode, node, Shape}
+use Rattle.marks.specs.Laid.{name_run, run_in, IsNode, Shape}
 use Rattle.marks.proofs.Answers.{then_read_lem, then_refused}
 use Rattle.marks.proofs.ShapeLaws.{packed_node}
 

@@ -1,19 +1,17 @@
 -- Postfix marks step by step: what the rules come to by what their tests answer, and the shapes of their nodes.
-use mathlib.Core.Path.{◌≡◌, refl, sym, ap, ◌∙◌}
-use mathlib.Core.Bool.{Bool, true, false}
+use mathlib.Core.Path.{◌≡◌, refl}
+use mathlib.Core.Bool.{true, false}
 use mathlib.Core.List.{[]}
 use Prim.Native.Nat.{ℕ, suc, ◌+◌}
 use native.Mathlib.Omega.{arith}
-use lib.Dec.{leb}
-use Rattle.words.specs.Test.{◌and◌, test}
 use Rattle.words.specs.Ahead.{starter}
 use Rattle.words.specs.Kind.{Bang, Question}
 use Rattle.keys.specs.Placed as node
 use Rattle.keys.specs.Placed.{Placed, Spelling, Opt, spell, join, maybe, absent, present}
 use Rattle.keys.specs.Store.{done, ◌⊕◌}
-use Rattle.rules.specs.State.{Given, State, Result, read, refuse, Reader, then, next, stands, first, end, make, tallied}
+use Rattle.rules.specs.State.{Given, State, read, Reader, then, next, stands, end, make}
 use Rattle.rules.specs.Postfix as rule
-use Rattle.marks.specs.Laid.{name_run, run_in, IsNode, node, Shape}
+use Rattle.marks.specs.Laid.{run_in, IsNode, node, Shape}
 use Rattle.parts.specs.Mapped.{close_square}
 use Rattle.marks.proofs.ShapeLaws.{packed_node}
 

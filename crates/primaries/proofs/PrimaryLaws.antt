@@ -27,7 +27,7 @@ use Rattle.rules.specs.Tuple.{tuple}
 use Rattle.rules.specs.Template.{pieces, template}
 use Rattle.rules.specs.Primary as rule
 use Rattle.rules.proofs.TokenLaws.{both_true}
-use Rattle.marks.specs.Laid.{name_run, run_in, IsNode, node, Shape}
+use Rattle.marks.specs.Laid.{name_run, run_in, IsNode, Shape}
 use Rattle.primaries.specs.Primary.{is_literal, close_parens, literal_choices}
 use Rattle.primaries.specs.Onward.{predicate, name_at, literal_at, StartAs}
 use Rattle.marks.specs.State.{AnyGiven, view, given_of}

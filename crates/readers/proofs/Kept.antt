@@ -1,7 +1,7 @@
 -- What a loop of the ring keeps of slices and mark.
 use mathlib.Core.Path.{◌≡◌}
 use mathlib.Core.List.{List}
-use Prim.Native.Nat.{ℕ, ◌+◌, ◌*◌, ◌≤◌}
+use Prim.Native.Nat.{ℕ, ◌≤◌}
 use lib.ListN.{length}
 use Rattle.marks.specs.State.{Fine, place_of}
 use Rattle.marks.specs.declared.state.Given.{Given}

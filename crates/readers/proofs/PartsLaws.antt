@@ -8,7 +8,7 @@ use lib.Dec.{T, eqb, eqb-suc-zero}
 use lib.ListN.{length, length-append}
 use Rattle.words.specs.Test.{◌and◌, ◌or◌, test}
 use Rattle.keys.specs.Placed.{Placed, tree, listed}
-use Rattle.keys.specs.Store.{Run, done}
+use Rattle.keys.specs.Store.{done}
 use Rattle.rules.specs.State as rule
 use Rattle.rules.specs.State.{State, Result, Reader, read, refuse, then, next, stands, first, end, past, make}
 use Rattle.rules.specs.List.{no_entry}

@@ -1,18 +1,17 @@
 -- Types, conditionals, optional types and brackets, as their readers take them.
-use mathlib.Core.Path.{◌≡◌, refl, sym, ap, ◌∙◌, subst}
+use mathlib.Core.Path.{◌≡◌, sym, ap, ◌∙◌}
 use mathlib.Core.Bool.{Bool, true, false}
-use mathlib.Core.List.{List}
 use Prim.Native.Nat.{ℕ}
 use Rattle.words.specs.Kind.{Question, Colon, Extends}
 use Rattle.keys.specs.Placed.{Placed}
 use Rattle.rules.specs.Refusal.{unexpected}
-use Rattle.rules.specs.State.{Given, State, Result, Reader, read, refused, next, stands, on_line, first}
+use Rattle.rules.specs.State.{Given, State, Reader, read, refused, next, stands, on_line, first}
 use Rattle.rules.specs.TypeRule as type
 use Rattle.rules.specs.Union as union
 use Rattle.rules.specs.Primary as primary
 use Rattle.primaries.specs.Onward.{behind_colon, behind_question}
 use Rattle.primaries.specs.Primary.{close_parens}
-use Rattle.marks.proofs.Answers.{then_read_lem, then_refused}
+use Rattle.marks.proofs.Answers.{then_read_lem}
 use Rattle.parts.proofs.RingLaws.{expect_yes, expect_no, or_conditional, union_or, conditional_is, question_is}
 use Rattle.primaries.proofs.PrimaryLaws.{brackets_is}
 

@@ -13,7 +13,6 @@ use Rattle.words.specs.Check.{Verdict, sound, refused, none, good_word, judged, 
 use Rattle.keys.specs.Limits.{no_space}
 use Rattle.keys.specs.Table.{type}
 use Rattle.words.specs.Word.{end}
-use Rattle.words.specs.Cursor.{first_byte}
 use Rattle.keys.specs.Form.{nodes, Bytes}
 use Rattle.keys.specs.Placed.{Placed, bare}
 use Rattle.keys.specs.Key.{node_table, key_of}

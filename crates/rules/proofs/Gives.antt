@@ -9,7 +9,7 @@ use borrow.Author.Tests.{ltb-false, leb-false}
 use lib.Dec.{T, leb, ltb, eqb}
 use lib.ListN.{length, length-append}
 use Rattle.words.specs.Limits.{longest, tallest, most_notes}
-use Rattle.words.specs.Test.{◌or◌, between, test}
+use Rattle.words.specs.Test.{◌or◌, test}
 use Rattle.words.specs.Word.{size, end as wordEnd}
 use Rattle.words.specs.Kind.{Eof}
 use Rattle.words.specs.Cursor.{word_at, end_byte}

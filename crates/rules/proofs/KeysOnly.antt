@@ -17,7 +17,7 @@ use Rattle.keys.specs.Placed as node
 use Rattle.keys.specs.Placed.{Placed, bare, absent}
 use Rattle.keys.proofs.Fitting.{Each}
 use Rattle.keys.proofs.BitsLaws.{clash}
-use Rattle.rules.specs.State.{Given, State, Result, Reader, read, then, first, end, turns, overlong, make}
+use Rattle.rules.specs.State.{Given, State, Result, Reader, read, then, first, end, overlong, make}
 use Rattle.rules.specs.Object.{Signature, of_method, of_call, of_construct, key_here, signs, constructs, is_readonly, unsupported_here, member_end, signature, property, with_key, behind_readonly, member, members_from}
 use Rattle.rules.proofs.TokenLaws.{both_true, among_each}
 use Rattle.rules.proofs.Balance.{Keeps, Ends, ends, stops}

@@ -1,5 +1,5 @@
 -- One law for each rule: two readings of like lists, from the same cursor on, read alike.
-use mathlib.Core.Path.{◌≡◌, refl, ap, ap₂, ◌∙◌}
+use mathlib.Core.Path.{◌≡◌, refl, ap, ap₂}
 use mathlib.Core.Bool.{Bool, true, false, not}
 use mathlib.Core.List.{List, [], ◌∷◌}
 use Prim.Native.Nat.{ℕ, zero, suc, ◌+◌, ◌≤◌}
@@ -21,7 +21,7 @@ use Rattle.rules.specs.Names.{name, binding_word, reserved, bound, dots_from, do
 use Rattle.rules.specs.List.{list_from, list}
 use Rattle.rules.specs.Arguments.{opens, opened, arguments, named, import_from, import_type}
 use Rattle.rules.specs.TypeParameters.{varies, type_parameter, type_parameters}
-use Rattle.rules.specs.Function.{ThisParameter, modified, predicates, subject, freed, separated, report_this, parameter, parameters_from, this_first, parameters, return_type, function_node, function}
+use Rattle.rules.specs.Function.{ThisParameter, predicates, subject, freed, separated, report_this, parameter, parameters_from, this_first, parameters, return_type, function_node, function}
 use Rattle.rules.specs.Union.{parts_from, joined, intersection, union}
 use Rattle.rules.specs.Operator.{operators, operand, operator_from, operator}
 use Rattle.rules.specs.Infer.{none, kept as keptTrial, dropped, opened as openedTrial, trial, infer}

@@ -27,9 +27,9 @@ use Rattle.rules.specs.TypeParameters.{varies, type_parameter, type_parameters}
 use Rattle.rules.specs.Function.{ThisParameter, Parameters, parameters_of, this_type, modified, predicates, subject, freed, separated, report_this, parameter, parameters_from, this_first, parameters, return_type, function_node, function}
 use Rattle.rules.specs.Union.{parts_from, joined, intersection, union}
 use Rattle.rules.specs.Operator.{operators, operand, operator_from, operator}
-use Rattle.rules.specs.Infer.{Trial, none, constraint_of, opened as openedTrial, trial, infer}
+use Rattle.rules.specs.Infer.{Trial, constraint_of, opened as openedTrial, trial, infer}
 use Rattle.rules.specs.Postfix.{suffixed, bracketed, suffix, postfix_from, postfix}
-use Rattle.rules.specs.Primary.{keywords, literals, negated, is_keyword, is_negative, is_assertion, keyword, literal, negative, this, assertion, query, curly, brackets, reference, enclosed, worded, primary}
+use Rattle.rules.specs.Primary.{keywords, literals, is_keyword, is_negative, is_assertion, keyword, literal, negative, this, assertion, query, curly, brackets, reference, enclosed, worded, primary}
 use Rattle.rules.specs.Mapped.{modifier, mapped}
 use Rattle.rules.specs.Object.{Signature, of_method, of_call, of_construct, is_construct, signature_node, IndexParameter, IndexParameters, no_index, one_index, several_index, with_one, has_one, kept, key_here, signs, constructs, is_readonly, unsupported_here, member_end, this_noted, report_index, signature, index_type, index_parameter, index_from, index, property, with_key, behind_readonly, member as objectMember, members_from, object}
 use Rattle.rules.specs.Tuple.{latest_from, latest_optional, report_required, is_optional_element, labelled, member_node, member as namedMember, rest_of, labelled_element, element as elementRule, checked_element, tuple}
@@ -45,7 +45,7 @@ use Rattle.rules.specs.Told.{Told}
 use Rattle.rules.specs.Weight.{weight}
 use Rattle.rules.proofs.ToldLaws.{told_here, told_subject, told_literal, told_names, told_element}
 use Rattle.rules.proofs.PlaceLaws.{Spans, spans_le, spans_up, spans_flat, spans_element, spans_node}
-use Rattle.rules.proofs.Gives.{Gives, gives, stops, At, cursor, Has, Got, Good, Enough, Step, Past, size_of, weight_of, worth, itself, Reads, ReadsNames, ReadsOn, ReadsTree, ReadsBehind, ReadsIf, ReadsAbout, ReadsTypes, gives_then, gives_test, gives_must, gives_mark, gives_or, refusal, step, past_mark_lem, past_more, past_whole, counted, weight_more, flat_has, front_has, join_has, ◌&◌, regroup, drop_void, has_le, has_down, pick_has, has_on, has_next, has_more, gives_down, made_by, made, reported, reported_if, enough_more, list_is, names_are, if_list_is, tallied_at}
+use Rattle.rules.proofs.Gives.{Gives, gives, stops, At, cursor, Has, Got, Good, Enough, Step, Past, size_of, weight_of, worth, itself, ReadsNames, ReadsOn, ReadsTree, ReadsBehind, ReadsIf, ReadsAbout, ReadsTypes, gives_then, gives_test, gives_must, gives_mark, gives_or, refusal, step, past_mark_lem, past_more, past_whole, counted, weight_more, flat_has, front_has, join_has, ◌&◌, regroup, drop_void, has_le, has_down, pick_has, has_on, has_next, has_more, gives_down, made_by, made, reported, reported_if, enough_more, list_is, names_are, if_list_is, tallied_at}
 use Rattle.rules.proofs.PartLaws.{key_sort_lem, names_size, names_weight, subject_size, subject_weight, element_size, as_under_name, pieces_more, keyword_below, literal_size, literal_weight, literal_fits, negative_fits, asserted}
 
 -- How parameters stand as values, where a constructor gave the nodes of its `this` back.

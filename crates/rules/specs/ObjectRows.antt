@@ -1,5 +1,5 @@
 -- Readings of object types, in a table of their own (02, W1).
-use Rattle.std.specs.Prelude.{ℕ, true, false, List, [], ◌∷◌, ◌≡◌, refl}
+use Rattle.std.specs.Prelude.{ℕ, true, false, List, [], ◌∷◌, refl}
 use Rattle.keys.specs.Placed.{Spelling, PropertyKey, absent, present, call_signature, construct_signature, index_signature, keyword, literal, method, object, parameter, predicate, property, reference, type_parameter}
 use Rattle.rules.specs.Notes.{note}
 use Rattle.rules.specs.Read.{granted, denied}

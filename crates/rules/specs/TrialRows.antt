@@ -1,6 +1,6 @@
 -- Readings with trials, in a table of their own (02, W4).
-use Rattle.std.specs.Prelude.{List, [], ◌∷◌, ◌≡◌, refl}
-use Rattle.keys.specs.Placed.{absent, present, reference, conditional, infer, tuple}
+use Rattle.std.specs.Prelude.{List, [], ◌∷◌, refl}
+use Rattle.keys.specs.Placed.{absent, present, conditional, infer, tuple}
 use Rattle.rules.specs.Read.{granted, denied}
 use Rattle.rules.specs.Rules.{rules}
 use Rattle.rules.specs.Rows.{Row, row, read_row, Holds, Every, at, ref}

@@ -1,5 +1,5 @@
 -- Tuples and their elements (01, "Reading rules": tuple element, Diagnostics 4 to 7; 02, W6; types.rs, parse_tuple_element).
-use Rattle.std.specs.Prelude.{Bool, true, false, not, List, [], ◌∷◌, eqb, length}
+use Rattle.std.specs.Prelude.{Bool, true, not, List, [], ◌∷◌, eqb, length}
 use Rattle.words.specs.Test.{◌and◌, ◌or◌, test}
 use Rattle.words.specs.Kind.{LBrack, RBrack, Question, Colon, Dot3}
 use Rattle.words.specs.Class as class

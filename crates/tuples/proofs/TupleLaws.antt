@@ -1,6 +1,6 @@
 -- The rules of tuples by the steps in which they are read: an element is what stands before its type, the type, and what it comes to.
 use mathlib.Core.Path.{◌≡◌, refl, sym, ap, ◌∙◌}
-use mathlib.Core.Bool.{Bool, true, false, not}
+use mathlib.Core.Bool.{Bool, true, false}
 use mathlib.Core.List.{List, [], ◌∷◌, ◌++◌}
 use Prim.Native.Nat.{ℕ, ◌+◌, ◌*◌}
 use native.Mathlib.Omega.{arith}
@@ -15,7 +15,7 @@ use Rattle.words.specs.Cursor.{whole_kind}
 use Rattle.keys.specs.Placed as node
 use Rattle.keys.specs.Placed.{Placed, Opt, present, listed}
 use Rattle.rules.specs.Refusal.{unexpected}
-use Rattle.rules.specs.State.{Given, State, Result, Reader, read, refuse, refused, then, next, kind, kind_after, stands, first, end, past, make, report_if, turns}
+use Rattle.rules.specs.State.{Given, State, Result, Reader, read, refuse, refused, then, next, kind, kind_after, stands, first, end, past, make, turns}
 use Rattle.rules.specs.List.{list_from}
 use Rattle.rules.specs.List as rule
 use Rattle.rules.specs.Tuple as tuple

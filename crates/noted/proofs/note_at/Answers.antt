@@ -1,6 +1,5 @@
 -- The five words of a record; past the words all are 0.
 use mathlib.Core.Path.{◌∙◌}
-use borrow.Author.Rules.{rules}
 use Rattle.noted.proofs.StructLaws.{struct_is, struct_past}
 use Rattle.noted.proofs.note_at.Goals as goal
 

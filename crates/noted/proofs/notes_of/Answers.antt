@@ -1,7 +1,6 @@
 -- What is stored in an array of zeros are the structs that are asked for.
 use mathlib.Core.Path.{◌∙◌}
 use native.Mathlib.Omega.{arith}
-use borrow.Author.Rules.{rules}
 use Rattle.words.specs.Limits.{most_notes}
 use Rattle.noted.proofs.StructLaws.{store_asked}
 use Rattle.noted.proofs.notes_of.Goals as goal

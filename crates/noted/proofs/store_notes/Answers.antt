@@ -1,4 +1,4 @@
-use Rattle.std.proofs.Common.{rules, arith, ◌≡◌, ◌∙◌, sym, ap, ℕ, suc, ◌+◌, ◌-◌, ◌<◌, ◌≤◌, List}
+use Rattle.std.proofs.Common.{arith, ◌≡◌, ◌∙◌, sym, ap, ℕ, suc, ◌+◌, ◌-◌, ◌<◌, ◌≤◌, List}
 use native.Mathlib.Nat.{sub-zero}
 use Rattle.noted.specs.declared.Note.{Note}
 use Rattle.noted.specs.Structs.{struct_at, store_at, place_after, store_from}

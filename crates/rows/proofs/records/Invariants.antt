@@ -1,6 +1,5 @@
 -- `records` is safe and ends: the place stays within the buffer, and the records left fall. Assumes nothing.
 use Prim.Native.Nat.{◌<◌, ◌≤◌, ◌-◌}
-use borrow.Author.Rules.{rules}
 use Rattle.rows.proofs.records.Given as goal
 
 abbrev pub invariant-loop-run : goal.invariant-loop-run

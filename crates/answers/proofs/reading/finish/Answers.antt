@@ -4,7 +4,6 @@ use native.Mathlib.Omega.{arith}
 use lib.ListN.{length}
 use Rattle.marks.specs.State.{view}
 use Rattle.answers.proofs.Finished.{same_key_lent, comes_none, no_names_lem, no_bytes, finished}
-use borrow.Author.Rules.{rules}
 use Rattle.answers.proofs.reading.finish.Goals as goal
 
 pub returns-then-names-q : goal.returns-then-names-q

@@ -5,7 +5,6 @@ use lib.ListN.{take}
 use lib.Seq.{length-take-le}
 use Rattle.keys.proofs.StoreLaws.{zeros}
 use Rattle.answers.proofs.Fronts.{wrote_all, wrote_front, short_front}
-use borrow.Author.Rules.{rules}
 use Rattle.answers.proofs.reading.put.Goals as goal
 
 pub returns-then-key-le-MOST : goal.returns-then-key-le-MOST

@@ -1,7 +1,6 @@
 -- Every slice is cleared.
 use mathlib.Core.Path.{refl}
 use Rattle.answers.proofs.Finished.{called_is}
-use borrow.Author.Rules.{rules}
 use Rattle.answers.proofs.reading.refuse.Goals as goal
 
 pub returns : goal.returns

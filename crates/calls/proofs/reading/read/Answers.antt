@@ -2,7 +2,6 @@
 use mathlib.Core.Path.{sym, ap, ◌∙◌}
 use Rattle.checks.specs.Verdict.{verdict}
 use Rattle.calls.proofs.Ruled.{reads_bad}
-use borrow.Author.Rules.{rules}
 use Rattle.calls.proofs.reading.read.Goals as goal
 
 pub read_sound-requires : goal.read_sound-requires

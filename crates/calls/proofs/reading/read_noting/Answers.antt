@@ -6,7 +6,6 @@ use Rattle.key_out.proofs.KeyedLaws.{bytes_of_lem}
 use Rattle.rules.specs.Read.{lend}
 use Rattle.rules.proofs.TokenLaws.{start_there}
 use Rattle.calls.proofs.Ruled.{sound_list, spelt_list, reading_from, same_lent, few_used, few_noted, held, reads_read, reads_refused}
-use borrow.Author.Rules.{rules}
 use Rattle.calls.proofs.reading.read_noting.Goals as goal
 
 pub ty-a-requires : goal.ty-a-requires

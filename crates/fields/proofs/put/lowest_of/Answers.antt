@@ -1,6 +1,5 @@
 use native.Mathlib.Omega.{arith}
 use Rattle.fields.proofs.PutLaws.{lowest_fits, lowest_is}
-use borrow.Author.Rules.{rules}
 use Rattle.fields.proofs.put.lowest_of.Goals as goal
 
 pub overflow_sub-result : goal.overflow_sub-result

@@ -1,10 +1,9 @@
 use native.Mathlib.Omega.{arith}
 use mathlib.Core.Path.{sym, ap, subst, ◌∙◌}
-use Prim.Native.Nat.{ℕ, ◌-◌, ◌/◌, ◌^◌, ◌≤◌, ◌<◌}
+use Prim.Native.Nat.{ℕ, ◌-◌, ◌/◌, ◌^◌, ◌<◌}
 use native.Mathlib.Nat.{mod-lt}
 use lib.Pow.{pow_pos, shr_le}
-use Rattle.fields.proofs.Windows.{Across, across_none, across_more, across_all}
-use borrow.Author.Rules.{rules}
+use Rattle.fields.proofs.Windows.{across_none, across_more, across_all}
 use Rattle.fields.proofs.put.put_across.Goals as goal
 
 pub bounds-key-at : goal.bounds-key-at

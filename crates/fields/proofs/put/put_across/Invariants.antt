@@ -1,10 +1,5 @@
-use native.Mathlib.Omega.{arith}
-use mathlib.Core.Path.{sym, ap, subst, ◌∙◌}
-use Prim.Native.Nat.{ℕ, ◌-◌, ◌/◌, ◌^◌, ◌≤◌, ◌<◌}
-use native.Mathlib.Nat.{mod-lt}
-use lib.Pow.{pow_pos, shr_le}
-use Rattle.fields.proofs.Windows.{Across, across_none, across_more, across_all}
-use borrow.Author.Rules.{rules}
+use Prim.Native.Nat.{◌-◌, ◌≤◌}
+use Rattle.fields.proofs.Windows.{Across}
 use Rattle.fields.proofs.put.put_across.Given as goal
 
 abbrev pub invariant-loop-i : goal.invariant-loop-i

@@ -1,9 +1,5 @@
 use borrow.Author.Rules.{rules}
 use native.Mathlib.Omega.{arith}
-use Prim.Native.Nat.{◌-◌, ◌≤◌}
-use Rattle.keys.specs.Bits.{bits_of_bytes}
-use Rattle.keys.specs.Store.{part}
-use Rattle.fields.specs.Put.{Put}
 use Rattle.fields.proofs.PutLaws.{put_none, text_more, text_all}
 use Rattle.fields.proofs.put.put_bytes.Goals as goal
 

@@ -3,7 +3,6 @@ use Prim.Native.Nat.{◌+◌}
 use lib.ListN.{set}
 use lib.Seq.{lt-length-set}
 use Rattle.fields.proofs.Windows.{four_put}
-use borrow.Author.Rules.{rules}
 use Rattle.fields.proofs.put.put_four.Goals as goal
 
 pub bounds-key-at-2 : goal.bounds-key-at-2

@@ -1,5 +1,4 @@
 use Rattle.fields.proofs.PutLaws.{number_put}
-use borrow.Author.Rules.{rules}
 use Rattle.fields.proofs.put.put_number.Goals as goal
 
 pub returns-then-bit-key : goal.returns-then-bit-key

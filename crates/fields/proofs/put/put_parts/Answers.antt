@@ -1,12 +1,10 @@
 use native.Mathlib.Omega.{arith}
 use borrow.Author.Rules.{rules}
 use native.Mathlib.Nat.{mod-lt}
-use mathlib.Core.Path.{◌≡◌, sym, subst, refl, ◌∙◌}
+use mathlib.Core.Path.{sym, subst, refl, ◌∙◌}
 use Prim.Native.Nat.{ℕ, ◌^◌, ◌<◌}
 use lib.Pow.{pow_pos}
-use lib.ListN.{length}
-use Rattle.keys.specs.Bits.{bits_of_bytes}
-use Rattle.fields.proofs.PutLaws.{Putting, putting_none, putting_more, putting_all}
+use Rattle.fields.proofs.PutLaws.{putting_none, putting_more, putting_all}
 use Rattle.fields.proofs.put.put_parts.Goals as goal
 
 pub loop-left-init : goal.loop-left-init

@@ -1,6 +1,5 @@
 use native.Mathlib.Omega.{arith}
 use Rattle.fields.proofs.Windows.{part_length}
-use borrow.Author.Rules.{rules}
 use Rattle.fields.proofs.put.put_text.Goals as goal
 
 pub returns-then-bit-key : goal.returns-then-bit-key

@@ -1,11 +1,9 @@
-use native.Mathlib.Omega.{arith}
-use mathlib.Core.Path.{◌≡◌, refl, ap, ◌∙◌}
-use Prim.Native.Nat.{ℕ, ◌+◌, ◌-◌, ◌*◌, ◌≤◌}
-use lib.ListN.{length, length-set}
+use mathlib.Core.Path.{◌≡◌}
+use Prim.Native.Nat.{◌-◌, ◌*◌, ◌≤◌}
+use lib.ListN.{length}
 use lib.Seq.{sets}
 use Rattle.keys.specs.Bits.{bits_of_bytes}
 use Rattle.keys.specs.Store.{part}
-use Rattle.fields.proofs.Windows.{whole_more}
 use Rattle.fields.proofs.put.put_whole.Given as goal
 
 abbrev pub invariant-loop-i : goal.invariant-loop-i

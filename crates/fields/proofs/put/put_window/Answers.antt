@@ -4,7 +4,6 @@ use Prim.Native.Nat.{ℕ, ◌^◌, ◌<◌}
 use native.Mathlib.Nat.{mod-lt}
 use lib.Pow.{pow_pos}
 use Rattle.fields.proofs.Windows.{four_small, window_put}
-use borrow.Author.Rules.{rules}
 use Rattle.fields.proofs.put.put_window.Goals as goal
 
 pub replaced-new-requires : goal.replaced-new-requires

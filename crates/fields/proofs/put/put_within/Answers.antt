@@ -4,7 +4,6 @@ use Prim.Native.Nat.{ℕ, ◌+◌, ◌*◌, ◌/◌, ◌%◌}
 use Rattle.keys.specs.Bits.{bits_of_bytes}
 use lib.Seq.{sets}
 use Rattle.keys.specs.Store.{part}
-use borrow.Author.Rules.{rules}
 use Rattle.fields.proofs.put.put_within.Goals as goal
 
 pub returns-then-bit-eq0 : goal.returns-then-bit-eq0

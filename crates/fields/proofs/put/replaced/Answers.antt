@@ -1,6 +1,5 @@
 use native.Mathlib.Omega.{arith}
 use Rattle.fields.proofs.Windows.{replaced_below, replaced_fits, replaced_is}
-use borrow.Author.Rules.{rules}
 use Rattle.fields.proofs.put.replaced.Goals as goal
 
 pub overflow_sub-result : goal.overflow_sub-result

@@ -1,5 +1,4 @@
 -- The field that was taken, with a bit: each arm knows which it is.
-use borrow.Author.Rules.{rules}
 use Rattle.fields.proofs.reader.with_bit.Goals as goal
 
 pub returns-in-Number : goal.returns-in-Number

@@ -1,7 +1,6 @@
 use native.Mathlib.Omega.{arith}
 use mathlib.Core.Path.{sym}
 use lib.ListN.{get_or-eq_default}
-use borrow.Author.Rules.{rules}
 use Rattle.fields.proofs.take.byte_or_none.Goals as goal
 
 pub returns-else-at-key : goal.returns-else-at-key

@@ -1,7 +1,6 @@
 use native.Mathlib.Omega.{arith}
 use Prim.Native.Nat.{ℕ, ◌+◌, ◌-◌, ◌*◌, ◌/◌, ◌%◌, ◌^◌}
-use Rattle.keys.specs.Bits.{bits_of_bytes}
-use Rattle.fields.proofs.Chunks.{Copying, copying_none, copying_more, copying_all}
+use Rattle.fields.proofs.Chunks.{copying_none, copying_more, copying_all}
 use mathlib.Core.Path.{ap₂, ◌∙◌}
 use Rattle.fields.proofs.Windows.{byte_across}
 use Rattle.fields.proofs.take.copy_across.Goals as goal

@@ -3,7 +3,6 @@ use mathlib.Core.Path.{◌≡◌, subst}
 use Prim.Native.Nat.{ℕ, ◌+◌, ◌*◌, ◌/◌, ◌%◌}
 use Rattle.keys.specs.Bits.{bits_of_bytes}
 use Rattle.fields.specs.Take.{Copied}
-use borrow.Author.Rules.{rules}
 use Rattle.fields.proofs.take.copy_bytes.Goals as goal
 
 pub returns-then-bit-eq0 : goal.returns-then-bit-eq0

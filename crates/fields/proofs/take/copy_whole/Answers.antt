@@ -1,7 +1,6 @@
 use native.Mathlib.Omega.{arith}
-use Prim.Native.Nat.{◌+◌, ◌-◌, ◌*◌}
-use Rattle.keys.specs.Bits.{bits_of_bytes}
-use Rattle.fields.proofs.Chunks.{Copying, copying_none, copying_more, copying_all}
+use Prim.Native.Nat.{◌+◌, ◌*◌}
+use Rattle.fields.proofs.Chunks.{copying_none, copying_more, copying_all}
 use mathlib.Core.Path.{refl}
 use Rattle.fields.proofs.Windows.{byte_whole}
 use Rattle.fields.proofs.take.copy_whole.Goals as goal

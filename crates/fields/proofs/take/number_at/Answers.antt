@@ -4,7 +4,6 @@ use mathlib.Core.Path.{sym, ◌∙◌}
 use Rattle.keys.specs.Bits.{bits_of_bytes}
 use Rattle.keys.proofs.BitsLaws.{length_bytes}
 use Rattle.fields.proofs.Chunks.{not_short}
-use borrow.Author.Rules.{rules}
 use Rattle.fields.proofs.take.number_at.Goals as goal
 
 pub returns-in_default : goal.returns-in_default

@@ -3,7 +3,6 @@ use mathlib.Core.Path.{ap, ◌∙◌}
 use Rattle.fields.specs.declared.take.TakenField.TheVariants.{Number}
 use Rattle.fields.proofs.Chunks.{taking_short}
 use Rattle.fields.proofs.Windows.{field_of}
-use borrow.Author.Rules.{rules}
 use Rattle.fields.proofs.take.take_field.Goals as goal
 
 pub returns-then-key-bit : goal.returns-then-key-bit

@@ -1,7 +1,6 @@
 -- By whether it is a constructor's.
-use mathlib.Core.Path.{refl, ap, ◌∙◌, sym}
+use mathlib.Core.Path.{refl, ap}
 use native.Mathlib.Omega.{arith}
-use borrow.Author.Rules.{rules}
 use Rattle.marks.specs.declared.state.Kids.{Kids}
 use Rattle.functions.proofs.function.before_this.Goals as goal
 

@@ -1,7 +1,6 @@
 -- By the case of the function start.
 use mathlib.Core.Path.{sym, ap, ◌∙◌}
 use Rattle.rules.specs.TypeRule.{begins}
-use borrow.Author.Rules.{rules}
 use Rattle.functions.proofs.function.begins.Goals as goal
 
 pub returns-in-TypeParameters : goal.returns-in-TypeParameters

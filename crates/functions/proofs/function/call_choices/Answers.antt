@@ -4,7 +4,6 @@ use Prim.Native.Nat.{ℕ, ◌+◌, ◌*◌, ◌≤◌}
 use native.Mathlib.Nat.{mul-le-mul}
 use native.Mathlib.Omega.{arith}
 use Rattle.functions.specs.Function.{new_choices}
-use borrow.Author.Rules.{rules}
 use Rattle.functions.proofs.function.call_choices.Goals as goal
 
 pub overflow_mul-this_scale : goal.overflow_mul-this_scale

@@ -3,7 +3,6 @@ use mathlib.Core.Path.{refl, sym, ◌∙◌}
 use native.Mathlib.Omega.{arith}
 use Rattle.functions.proofs.FunctionLaws.{constructor_stops, constructor_long, constructor_put, both_fit, reached_reported}
 use Rattle.marks.proofs.MarkLaws.{fine_noted, reached_refused, reached_put}
-use borrow.Author.Rules.{rules}
 use Rattle.functions.proofs.function.constructor_node.Goals as goal
 
 pub returns-then-a-ne0 : goal.returns-then-a-ne0

@@ -1,6 +1,5 @@
 -- After a constructor's `this` nodes and names are as before.
 use mathlib.Core.Path.{refl}
-use borrow.Author.Rules.{rules}
 use Rattle.functions.proofs.function.freed.Goals as goal
 
 pub returns-then-is_new : goal.returns-then-is_new

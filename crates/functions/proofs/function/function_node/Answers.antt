@@ -3,7 +3,6 @@ use mathlib.Core.Path.{refl, sym, ◌∙◌}
 use native.Mathlib.Omega.{arith}
 use Rattle.functions.proofs.FunctionLaws.{function_long, function_put, both_fit}
 use Rattle.marks.proofs.MarkLaws.{reached_refused, reached_put}
-use borrow.Author.Rules.{rules}
 use Rattle.functions.proofs.function.function_node.Goals as goal
 
 pub returns-then-h : goal.returns-then-h

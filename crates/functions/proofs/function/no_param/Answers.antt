@@ -5,7 +5,6 @@ use Rattle.words.specs.Kind.{This}
 use Rattle.functions.specs.Function.{why_none}
 use Rattle.marks.proofs.MarkLaws.{is_here, is_not_here}
 use Rattle.marks.specs.List.{here}
-use borrow.Author.Rules.{rules}
 use Rattle.functions.proofs.function.no_param.Goals as goal
 
 pub returns-then-modifies : goal.returns-then-modifies

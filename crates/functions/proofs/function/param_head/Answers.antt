@@ -11,7 +11,6 @@ use Rattle.marks.proofs.MarkLaws.{along_then, along_moved}
 use Rattle.functions.proofs.HeadLaws.{head_this, parameter_head_refused, parameter_head_read}
 use Rattle.marks.specs.List.{here}
 use Rattle.marks.proofs.StepLaws.{names_refused}
-use borrow.Author.Rules.{rules}
 use Rattle.functions.proofs.function.param_head.Goals as goal
 
 pub returns-then-this_after : goal.returns-then-this_after

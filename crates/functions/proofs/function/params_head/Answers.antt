@@ -11,7 +11,6 @@ use Rattle.marks.specs.declared.state.Head.{Head}
 use Rattle.functions.specs.Function.{stops, plain, this}
 use lib.ListN.{length}
 use Rattle.marks.specs.List.{here}
-use borrow.Author.Rules.{rules}
 use Rattle.functions.proofs.function.params_head.Goals as goal
 
 moved_twice : {len : ℕ} {m : Mark} → Inside len m → m.at + 1 < len → Moved len m (next_mark (next_mark m))

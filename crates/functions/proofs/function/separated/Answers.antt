@@ -4,7 +4,6 @@ use native.Mathlib.Omega.{arith}
 use Rattle.marks.specs.Notes.{taken_at}
 use Rattle.marks.proofs.MarkLaws.{moved_same, moved_next, is_here, is_not_here}
 use Rattle.marks.specs.List.{default, closes, behind_rest, goes, stops}
-use borrow.Author.Rules.{rules}
 use Rattle.functions.proofs.function.separated.Goals as goal
 
 pub returns-then-kind-eq-EQ : goal.returns-then-kind-eq-EQ

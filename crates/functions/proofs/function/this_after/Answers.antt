@@ -6,7 +6,6 @@ use lib.Dec.{eqb}
 use Rattle.words.specs.Kind.{This}
 use Rattle.words.specs.Test.{◌and◌}
 use Rattle.marks.specs.List.{here}
-use borrow.Author.Rules.{rules}
 use Rattle.functions.proofs.function.this_after.Goals as goal
 
 pub returns-then-rest : goal.returns-then-rest

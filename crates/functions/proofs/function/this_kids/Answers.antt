@@ -1,5 +1,4 @@
 -- By whether it is a constructor's.
-use borrow.Author.Rules.{rules}
 use mathlib.Core.Path.{refl}
 use Rattle.functions.proofs.function.this_kids.Goals as goal
 

@@ -3,7 +3,6 @@ use mathlib.Core.Path.{◌≡◌, refl}
 use Prim.Native.Nat.{ℕ, zero, suc}
 use native.Mathlib.Omega.{arith}
 use Rattle.functions.specs.Function.{this_scale}
-use borrow.Author.Rules.{rules}
 use Rattle.functions.proofs.function.this_scale.Goals as goal
 
 some_scale : (bits : ℕ) → (bits ≡ 0 → ⊥) → 4 ≡ this_scale bits

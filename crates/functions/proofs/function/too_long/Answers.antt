@@ -6,7 +6,6 @@ use lib.Dec.{ltb}
 use borrow.Author.Tests.{lt-ltb, le-ltb}
 use Rattle.words.specs.Test.{◌or◌}
 use Rattle.words.specs.Limits.{longest}
-use Rattle.functions.proofs.function.too_long.Statement.{statement}
 use Rattle.functions.proofs.function.too_long.Goals as goal
 
 pub returns-then-count-gt-LONGEST : goal.returns-then-count-gt-LONGEST

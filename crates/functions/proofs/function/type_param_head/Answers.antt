@@ -3,7 +3,6 @@ use native.Mathlib.Omega.{arith}
 use Rattle.marks.proofs.MarkLaws.{moved_same}
 use Rattle.marks.proofs.StepLaws.{stepped_moved}
 use Rattle.functions.proofs.HeadLaws.{type_head_stops, type_head_says}
-use borrow.Author.Rules.{rules}
 use Rattle.functions.proofs.function.type_param_head.Goals as goal
 
 pub returns-then-why-ne0 : goal.returns-then-why-ne0

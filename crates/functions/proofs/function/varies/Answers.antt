@@ -6,7 +6,6 @@ use Rattle.rules.specs.Refusal.{type_parameter_modifier}
 use Rattle.functions.specs.Function.{why_if}
 use Rattle.marks.proofs.MarkLaws.{is_here, is_not_here}
 use Rattle.functions.proofs.HeadLaws.{varies_is}
-use borrow.Author.Rules.{rules}
 use Rattle.functions.proofs.function.varies.Goals as goal
 
 pub returns-then-kind-eq-CONST : goal.returns-then-kind-eq-CONST

@@ -7,7 +7,6 @@ use Rattle.marks.specs.List.{EndsAt}
 use Rattle.marks.proofs.ListLaws.{ends_refused, ends_done, ends_at}
 use Rattle.marks.specs.declared.state.Mark.{Mark}
 use Rattle.marks.specs.declared.state.Listed.{Listed}
-use borrow.Author.Rules.{rules}
 use Rattle.marks.proofs.list.list_end.Goals as goal
 
 pub end_byte-requires : goal.end_byte-requires

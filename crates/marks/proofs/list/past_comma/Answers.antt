@@ -8,7 +8,6 @@ use Rattle.marks.specs.List.{closes, goes, stops}
 use Rattle.marks.proofs.MarkLaws.{moved_same, moved_next, is_here, is_not_here}
 use Rattle.marks.specs.declared.state.Mark.{Mark}
 use Rattle.marks.specs.declared.state.Answer.{Answer}
-use borrow.Author.Rules.{rules}
 use Rattle.marks.proofs.list.past_comma.Goals as goal
 
 pub returns-then-kind-close : goal.returns-then-kind-close

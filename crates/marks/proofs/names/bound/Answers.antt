@@ -5,7 +5,6 @@ use Rattle.rules.specs.Names.{reserved as isReserved}
 use Rattle.marks.proofs.BoundLaws.{bound_unnamed, bound_named}
 use Rattle.marks.proofs.ReportLaws.{reports_as}
 use Rattle.marks.proofs.StepLaws.{fine_along, stepped_along, stepped_noted}
-use borrow.Author.Rules.{rules}
 use Rattle.marks.proofs.names.bound.Goals as goal
 
 pub returns-then-a-ne0 : goal.returns-then-a-ne0

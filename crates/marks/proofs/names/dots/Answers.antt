@@ -1,16 +1,12 @@
-use mathlib.Core.Path.{◌≡◌, refl, sym, ap, ◌∙◌, subst}
-use mathlib.Core.List.{List}
-use Prim.Native.Nat.{ℕ, ◌-◌, ◌≤◌, ◌<◌}
+use mathlib.Core.Path.{refl, sym, ap, ◌∙◌, subst}
+use Prim.Native.Nat.{◌≤◌, ◌<◌}
 use native.Mathlib.Omega.{arith}
 use lib.ListN.{length}
-use Rattle.rules.specs.State.{turns}
-use Rattle.keys.specs.Placed.{Spelling}
-use Rattle.marks.specs.State.{AnyGiven, view, given_of, Spelt, Inside, Along, next_mark}
+use Rattle.marks.specs.State.{given_of, Inside, Along, next_mark}
 use Rattle.marks.proofs.MarkLaws.{is_here, is_not_here, moved_next, along_same, along_moved, along_then, inside_along, inside_next}
-use Rattle.marks.proofs.NameLaws.{Dotting, dotting_none, dotting_step, dotting_stop, dotting_taken}
+use Rattle.marks.proofs.NameLaws.{dotting_none, dotting_step, dotting_stop, dotting_taken}
 use Rattle.marks.specs.declared.state.Mark.{Mark}
 use Rattle.marks.specs.declared.state.Answer.{Answer}
-use borrow.Author.Rules.{rules}
 use Rattle.marks.proofs.names.dots.Goals as goal
 
 pub loop-names-init : goal.loop-names-init

@@ -1,18 +1,13 @@
 -- Each turn reads a dot and a name; as many turns are left as tokens.
-use mathlib.Core.Path.{◌≡◌, refl, sym, ap, ◌∙◌, subst}
+use mathlib.Core.Path.{◌≡◌}
 use mathlib.Core.List.{List}
-use Prim.Native.Nat.{ℕ, ◌-◌, ◌≤◌, ◌<◌}
-use native.Mathlib.Omega.{arith}
+use Prim.Native.Nat.{ℕ, ◌-◌}
 use lib.ListN.{length}
 use Rattle.rules.specs.Names as rule
 use Rattle.rules.specs.State.{turns}
 use Rattle.keys.specs.Placed.{Spelling}
-use Rattle.marks.specs.State.{AnyGiven, view, given_of, Spelt, Inside, Along, next_mark}
-use Rattle.marks.proofs.MarkLaws.{is_here, is_not_here, moved_next, along_same, along_moved, along_then, inside_along, inside_next}
-use Rattle.marks.proofs.NameLaws.{Dotting, dotting_none, dotting_step, dotting_stop, dotting_taken}
-use Rattle.marks.specs.declared.state.Mark.{Mark}
-use Rattle.marks.specs.declared.state.Answer.{Answer}
-use borrow.Author.Rules.{rules}
+use Rattle.marks.specs.State.{AnyGiven, view, given_of, Spelt, Along}
+use Rattle.marks.proofs.NameLaws.{Dotting}
 use Rattle.marks.proofs.names.dots.Given as goal
 
 abbrev pub invariant-loop-names : goal.invariant-loop-names

@@ -4,7 +4,6 @@ use native.Mathlib.Omega.{arith}
 use Rattle.marks.specs.State.{given_of, view}
 use Rattle.marks.proofs.MarkLaws.{along_then}
 use Rattle.marks.proofs.NameLaws.{dotted_refused, says_dotted}
-use borrow.Author.Rules.{rules}
 use Rattle.marks.proofs.names.dotted_name.Goals as goal
 
 pub returns-then-a-ne0 : goal.returns-then-a-ne0

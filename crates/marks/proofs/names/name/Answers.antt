@@ -12,7 +12,6 @@ use Rattle.marks.proofs.MarkLaws.{class_some, along_same, along_named}
 use Rattle.marks.proofs.NameLaws.{says_unnamed, says_named}
 use Rattle.marks.specs.declared.state.Mark.{Mark}
 use Rattle.marks.specs.declared.state.Answer.{Answer}
-use borrow.Author.Rules.{rules}
 use Rattle.marks.proofs.names.name.Goals as goal
 
 pub in_class-requires : goal.in_class-requires

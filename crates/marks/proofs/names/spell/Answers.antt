@@ -4,7 +4,6 @@ use native.Mathlib.Omega.{arith}
 use Rattle.words.specs.Word as five
 use Rattle.marks.proofs.MarkLaws.{start_small}
 use Rattle.marks.proofs.NameLaws.{speaks_word}
-use borrow.Author.Rules.{rules}
 use Rattle.marks.proofs.names.spell.Goals as goal
 
 pub append_name-requires : goal.append_name-requires

@@ -2,7 +2,6 @@
 use mathlib.Core.Path.{sym, ap}
 use native.Mathlib.Omega.{arith}
 use Rattle.keys.specs.Bits.{unit}
-use borrow.Author.Rules.{rules}
 use Rattle.marks.proofs.node.opt_bit.Goals as goal
 
 pub returns-then-there : goal.returns-then-there

@@ -3,7 +3,6 @@ use mathlib.Core.Path.{sym, ap}
 use mathlib.Core.Bool.{Bool}
 use native.Mathlib.Omega.{arith}
 use Rattle.marks.specs.Node.{opt_list}
-use borrow.Author.Rules.{rules}
 use Rattle.marks.proofs.node.opt_list.Goals as goal
 
 pub returns-then-there : goal.returns-then-there

@@ -4,7 +4,6 @@ use native.Mathlib.Omega.{arith}
 use Rattle.marks.specs.State.{Under}
 use Rattle.marks.specs.Node.{Makes}
 use Rattle.marks.specs.declared.state.Kids.{Kids}
-use borrow.Author.Rules.{rules}
 use Rattle.marks.proofs.node.put_about.Goals as goal
 
 pub put-requires : goal.put-requires

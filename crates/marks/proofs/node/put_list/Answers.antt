@@ -1,7 +1,6 @@
 -- The list's length first, then as any node.
 use native.Mathlib.Omega.{arith}
 use Rattle.marks.proofs.NodeLaws.{makes_long, makes_short, put_refused}
-use borrow.Author.Rules.{rules}
 use Rattle.marks.proofs.node.put_list.Goals as goal
 
 pub returns-then-k-gt-LONGEST : goal.returns-then-k-gt-LONGEST

@@ -3,7 +3,6 @@ use native.Mathlib.Omega.{arith}
 use lib.ListN.{length-set}
 use Rattle.rules.specs.Notes.{note_both}
 use Rattle.marks.proofs.LaidLaws.{notes_recorded, tally_recorded}
-use borrow.Author.Rules.{rules}
 use Rattle.marks.proofs.notes.append_note.Goals as goal
 
 pub bounds-notes-to-2 : goal.bounds-notes-to-2

@@ -1,7 +1,6 @@
-use Prim.Native.Nat.{◌-◌, ◌≤◌}
 use mathlib.Core.Path.{◌∙◌}
 use native.Mathlib.Omega.{arith}
-use Rattle.marks.proofs.RecordLaws.{Copying, copying_none, copying_more, copying_all}
+use Rattle.marks.proofs.RecordLaws.{copying_none, copying_more, copying_all}
 use Rattle.marks.proofs.notes.copy_notes.Goals as goal
 
 pub overflow_mul-words : goal.overflow_mul-words

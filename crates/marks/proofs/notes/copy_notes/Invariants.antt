@@ -1,8 +1,6 @@
 -- Word by word, then zeros. The loop's invariant: what was passed is copied.
 use Prim.Native.Nat.{◌-◌, ◌≤◌}
-use mathlib.Core.Path.{◌∙◌}
-use native.Mathlib.Omega.{arith}
-use Rattle.marks.proofs.RecordLaws.{Copying, copying_none, copying_more, copying_all}
+use Rattle.marks.proofs.RecordLaws.{Copying}
 use Rattle.marks.proofs.notes.copy_notes.Given as goal
 
 abbrev pub invariant-loop-i : goal.invariant-loop-i

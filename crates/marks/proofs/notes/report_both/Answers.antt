@@ -3,7 +3,6 @@ use mathlib.Core.Path.{refl}
 use native.Mathlib.Omega.{arith}
 use Rattle.marks.specs.Notes.{full, noted}
 use Rattle.marks.proofs.ReportLaws.{full_most, full_records, full_not, noted_same, noted_one}
-use borrow.Author.Rules.{rules}
 use Rattle.marks.proofs.notes.report_both.Goals as goal
 
 pub returns-then-m-ge-MOST : goal.returns-then-m-ge-MOST

@@ -2,7 +2,6 @@
 use mathlib.Core.Path.{refl}
 use Rattle.marks.specs.Notes.{silent}
 use Rattle.marks.proofs.ReportLaws.{reports_when, noted_same}
-use borrow.Author.Rules.{rules}
 use Rattle.marks.proofs.notes.report_if.Goals as goal
 
 pub returns-then-holds : goal.returns-then-holds

@@ -1,6 +1,5 @@
 -- The words' answer, and how far on it can be.
 use Rattle.marks.proofs.MarkLaws.{end_small}
-use borrow.Author.Rules.{rules}
 use Rattle.marks.proofs.state.end_byte.Goals as goal
 
 pub returns : goal.returns

@@ -1,7 +1,6 @@
 -- The words' answer, and how far on it can be.
 use native.Mathlib.Omega.{arith}
 use Rattle.marks.proofs.MarkLaws.{start_small}
-use borrow.Author.Rules.{rules}
 use Rattle.marks.proofs.state.first_byte.Goals as goal
 
 pub returns : goal.returns

@@ -3,7 +3,6 @@ use mathlib.Core.Path.{ap, ◌∙◌}
 use Prim.Native.Nat.{ℕ}
 use lib.Dec.{eqb}
 use Rattle.words.specs.Word as five
-use borrow.Author.Rules.{rules}
 use Rattle.marks.proofs.state.next_on_line.Goals as goal
 
 pub returns : goal.returns

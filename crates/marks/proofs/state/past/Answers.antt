@@ -5,7 +5,6 @@ use lib.ListN.{length}
 use Rattle.marks.specs.State.{Moved}
 use Rattle.marks.proofs.MarkLaws.{moved_same, moved_next, past_here, past_none, is_here, is_not_here}
 use Rattle.marks.specs.declared.state.Mark.{Mark}
-use borrow.Author.Rules.{rules}
 use Rattle.marks.proofs.state.past.Goals as goal
 
 pub returns-then-kind_at-kind : goal.returns-then-kind_at-kind

@@ -1,6 +1,5 @@
 -- One more, or the limit.
 use Rattle.marks.proofs.TallyLaws.{tallied_more, tallied_most}
-use borrow.Author.Rules.{rules}
 use Rattle.marks.proofs.tally.enter.Goals as goal
 
 pub returns-then-n-lt-MOST : goal.returns-then-n-lt-MOST

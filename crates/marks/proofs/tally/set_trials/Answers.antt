@@ -1,6 +1,5 @@
 -- The word of the trials.
 use Rattle.marks.proofs.TallyLaws.{tallied_open}
-use borrow.Author.Rules.{rules}
 use Rattle.marks.proofs.tally.set_trials.Goals as goal
 
 pub returns : goal.returns

@@ -5,7 +5,6 @@ use Rattle.rules.specs.Refusal.{member_form}
 use Rattle.marks.specs.State.{view, given_of}
 use Rattle.marks.proofs.MarkLaws.{is_here, is_not_here, along_same}
 use Rattle.members.proofs.HeadLaws.{behind_unsupported, behind_key, behind_computed, finds_refused, finds_got, finds_from, has_refused, got_index}
-use borrow.Author.Rules.{rules}
 use Rattle.members.proofs.object.behind_readonly.Goals as goal
 
 pub returns-then-unsupported_here : goal.returns-then-unsupported_here

@@ -2,7 +2,6 @@
 use mathlib.Core.Path.{ap, ◌∙◌}
 use Rattle.rules.specs.Object as object
 use Rattle.marks.proofs.MarkLaws.{is_here, is_not_here}
-use borrow.Author.Rules.{rules}
 use Rattle.members.proofs.object.constructs.Goals as goal
 
 pub returns-then-kind_at-ne-NEW : goal.returns-then-kind_at-ne-NEW

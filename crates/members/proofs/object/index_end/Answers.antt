@@ -12,7 +12,6 @@ use Rattle.marks.proofs.StepLaws.{moved_taken, stepped_noted, stepped_then}
 use Rattle.marks.proofs.LeafLaws.{fine_next}
 use Rattle.members.proofs.IndexLaws.{end_full, end_no_colon, end_colon}
 use Rattle.marks.specs.declared.state.Mark.{Mark}
-use borrow.Author.Rules.{rules}
 use Rattle.members.proofs.object.index_end.Goals as goal
 
 pub end_byte-requires : goal.end_byte-requires

@@ -11,7 +11,6 @@ use Rattle.marks.proofs.StepLaws.{moved_then, moved_taken, inside_moved, fine_al
 use Rattle.marks.proofs.ReportLaws.{reports_as}
 use Rattle.members.proofs.IndexLaws.{index_unnamed, index_full, index_no_colon, index_colon}
 use Rattle.marks.specs.declared.state.Mark.{Mark}
-use borrow.Author.Rules.{rules}
 use Rattle.members.proofs.object.index_head.Goals as goal
 
 pub returns-then-n-ne0 : goal.returns-then-n-ne0

@@ -12,7 +12,6 @@ use Rattle.marks.proofs.StepLaws.{stepped_moved, stepped_noted}
 use Rattle.marks.proofs.ReportLaws.{reports_as}
 use Rattle.members.proofs.IndexLaws.{next_closes, next_stops, next_goes}
 use Rattle.marks.specs.declared.state.Mark.{Mark}
-use borrow.Author.Rules.{rules}
 use Rattle.members.proofs.object.index_next.Goals as goal
 
 pub returns-then-kind-eq-R_BRACK : goal.returns-then-kind-eq-R_BRACK

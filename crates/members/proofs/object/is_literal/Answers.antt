@@ -3,7 +3,6 @@ use mathlib.Core.Path.{ap}
 use Prim.Native.Nat.{ℕ}
 use lib.Dec.{eqb}
 use Rattle.primaries.proofs.PrimaryLaws.{eq_at, ne_at}
-use borrow.Author.Rules.{rules}
 use Rattle.members.proofs.object.is_literal.Goals as goal
 
 pub returns-then-tag-eq-LITERAL : goal.returns-then-tag-eq-LITERAL

@@ -2,7 +2,6 @@
 use mathlib.Core.Path.{sym, ◌∙◌}
 use Rattle.primaries.proofs.PrimaryLaws.{eq_at, ne_at}
 use Rattle.members.proofs.IndexLaws.{no_five}
-use borrow.Author.Rules.{rules}
 use Rattle.members.proofs.object.is_no_index.Goals as goal
 
 pub returns-then-tag_at-ne-KEYWORD : goal.returns-then-tag_at-ne-KEYWORD

@@ -2,7 +2,6 @@
 use native.Mathlib.Omega.{arith}
 use borrow.Author.Tests.{ne_eqb}
 use Rattle.words.specs.Kind.{Str, NumberLiteral}
-use borrow.Author.Rules.{rules}
 use Rattle.members.proofs.object.key_choices.Goals as goal
 
 pub returns-then-kind-eq-STR : goal.returns-then-kind-eq-STR

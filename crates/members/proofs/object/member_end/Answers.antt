@@ -8,7 +8,6 @@ use Rattle.marks.proofs.StepLaws.{moved_taken}
 use Rattle.members.proofs.StepLaws.{step_taken, step_refused}
 use Rattle.members.proofs.EndLaws.{end_comma, end_semicolon, end_curly, end_break, end_none}
 use Rattle.marks.specs.declared.state.Mark.{Mark}
-use borrow.Author.Rules.{rules}
 use Rattle.members.proofs.object.member_end.Goals as goal
 
 pub returns-then-kind-eq-COMMA : goal.returns-then-kind-eq-COMMA

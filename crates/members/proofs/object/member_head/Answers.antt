@@ -18,7 +18,6 @@ use Rattle.marks.proofs.StepLaws.{moved_taken, inside_taken}
 use Rattle.primaries.proofs.PrimaryLaws.{no_given}
 use Rattle.members.proofs.HeadLaws.{finds_got, finds_from, has_from, got_call, got_construct, member_readonly, member_plain}
 use Rattle.marks.specs.declared.state.Mark.{Mark}
-use borrow.Author.Rules.{rules}
 use Rattle.members.proofs.object.member_head.Goals as goal
 
 pub returns-then-signs : goal.returns-then-signs

@@ -5,7 +5,6 @@ use Rattle.marks.proofs.MarkLaws.{reached_put}
 use Rattle.marks.proofs.StepLaws.{fine_moved}
 use Rattle.members.proofs.StepLaws.{reached_stop}
 use Rattle.members.proofs.EndLaws.{member_stops, member_puts}
-use borrow.Author.Rules.{rules}
 use Rattle.members.proofs.object.member_node.Goals as goal
 
 pub returns-then-e-ne0 : goal.returns-then-e-ne0

@@ -1,7 +1,6 @@
 -- Not one parameter; one of a literal type; one of another.
 use mathlib.Core.Path.{sym, ◌∙◌}
 use Rattle.members.proofs.IndexLaws.{notes_other, notes_literal, notes_keyword}
-use borrow.Author.Rules.{rules}
 use Rattle.members.proofs.object.note_index.Goals as goal
 
 pub returns-then-ps-ne1 : goal.returns-then-ps-ne1

@@ -2,7 +2,6 @@
 use borrow.Author.Tests.{not-true, not-false}
 use Rattle.marks.proofs.ReportLaws.{noted_same}
 use Rattle.members.proofs.SignatureLaws.{this_silent, this_noted_lem}
-use borrow.Author.Rules.{rules}
 use Rattle.members.proofs.object.note_this.Goals as goal
 
 pub returns-then-not-is_new : goal.returns-then-not-is_new

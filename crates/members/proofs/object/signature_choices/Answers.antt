@@ -3,7 +3,6 @@ use mathlib.Core.Path.{ap, ◌∙◌}
 use Prim.Native.Nat.{ℕ, ◌+◌, ◌*◌}
 use borrow.Author.Tests.{eq-eqb, ne_eqb}
 use Rattle.functions.specs.Function.{new_choices, call_choices}
-use borrow.Author.Rules.{rules}
 use Rattle.members.proofs.object.signature_choices.Goals as goal
 
 pub returns-then-head-eq-CONSTRUCT : goal.returns-then-head-eq-CONSTRUCT

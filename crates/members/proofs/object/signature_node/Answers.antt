@@ -6,7 +6,6 @@ use Rattle.marks.proofs.StepLaws.{fine_moved}
 use Rattle.functions.proofs.FunctionLaws.{both_fit}
 use Rattle.members.proofs.StepLaws.{reached_stop}
 use Rattle.members.proofs.SignatureLaws.{signature_stops, signature_long, signature_put}
-use borrow.Author.Rules.{rules}
 use Rattle.members.proofs.object.signature_node.Goals as goal
 
 pub returns-then-e-ne0 : goal.returns-then-e-ne0

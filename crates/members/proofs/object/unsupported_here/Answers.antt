@@ -1,6 +1,5 @@
 -- By the two look-aheads.
 use mathlib.Core.Path.{sym, ◌∙◌}
-use borrow.Author.Rules.{rules}
 use Rattle.members.proofs.object.unsupported_here.Goals as goal
 
 pub returns-then-modifier_start : goal.returns-then-modifier_start

@@ -16,7 +16,6 @@ use Rattle.marks.specs.State.{view, given_of, Inside}
 use Rattle.marks.proofs.MarkLaws.{kind_inside, along_same, along_named, inside_along}
 use Rattle.members.proofs.HeadLaws.{key_none, finds_refused, finds_got, has_refused, along_key, got_method, got_property}
 use Rattle.marks.specs.declared.state.Mark.{Mark}
-use borrow.Author.Rules.{rules}
 use Rattle.members.proofs.object.with_key.Goals as goal
 
 pub property_key-requires : goal.property_key-requires

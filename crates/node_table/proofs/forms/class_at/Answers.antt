@@ -1,7 +1,6 @@
 use native.Mathlib.Omega.{arith}
 use Rattle.node_table.proofs.FormsLaws.{class_in, class_out}
 use mathlib.Core.Path.{refl}
-use borrow.Author.Rules.{rules}
 use Rattle.node_table.proofs.forms.class_at.Goals as goal
 
 pub returns-then-class-word_at : goal.returns-then-class-word_at

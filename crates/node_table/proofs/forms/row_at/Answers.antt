@@ -1,7 +1,6 @@
 use native.Mathlib.Omega.{arith}
 use Rattle.node_table.proofs.FormsLaws.{row_in, row_out}
 use mathlib.Core.Path.{refl}
-use borrow.Author.Rules.{rules}
 use Rattle.node_table.proofs.forms.row_at.Goals as goal
 
 pub returns-then-form-word_at : goal.returns-then-form-word_at

@@ -1,6 +1,5 @@
 use native.Mathlib.Omega.{arith}
 use mathlib.Core.Path.{refl}
-use borrow.Author.Rules.{rules}
 use Rattle.node_table.proofs.moves.past_last.Goals as goal
 
 pub returns-then-s-gt0 : goal.returns-then-s-gt0

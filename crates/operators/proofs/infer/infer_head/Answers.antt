@@ -5,7 +5,6 @@ use Rattle.marks.specs.State.{given_of, Stepped}
 use Rattle.marks.proofs.BoundLaws.{bound_next}
 use Rattle.marks.proofs.LeafLaws.{fine_next}
 use Rattle.marks.specs.declared.state.Mark.{Mark}
-use borrow.Author.Rules.{rules}
 use Rattle.operators.proofs.infer.infer_head.Goals as goal
 
 pub bound-requires : goal.bound-requires

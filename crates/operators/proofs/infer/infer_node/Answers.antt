@@ -11,7 +11,6 @@ use Rattle.operators.proofs.InferLaws.{shape_infer, shape_constrained}
 use Rattle.operators.specs.Infer.{Infers}
 use Rattle.marks.proofs.LeafLaws.{under_none, makes_at}
 use Rattle.marks.proofs.MarkLaws.{reached_put}
-use borrow.Author.Rules.{rules}
 use Rattle.operators.proofs.infer.infer_node.Goals as goal
 
 pub put-requires : goal.put-requires

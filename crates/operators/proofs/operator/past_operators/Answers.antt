@@ -1,20 +1,17 @@
 use mathlib.Core.Path.{◌≡◌, sym, ap, ◌∙◌}
-use mathlib.Core.Bool.{Bool, true}
-use mathlib.Core.List.{List}
-use Prim.Native.Nat.{ℕ, suc, ◌-◌, ◌<◌}
+use mathlib.Core.Bool.{true}
+use Prim.Native.Nat.{suc, ◌-◌, ◌<◌}
 use native.Mathlib.Omega.{arith}
 use lib.ListN.{length}
 use Rattle.words.specs.Test.{among}
 use Rattle.words.specs.Cursor.{kind_at}
-use Rattle.rules.specs.State.{Reader}
 use Rattle.rules.specs.Operator as rule
-use Rattle.marks.specs.State.{AnyGiven, view, given_of, Moved}
+use Rattle.marks.specs.State.{view, given_of}
 use Rattle.operators.specs.Operator.{operators_about}
 use Rattle.marks.proofs.MarkLaws.{moved_same}
 use Rattle.marks.proofs.StepLaws.{moved_taken, moved_then, inside_moved}
 use Rattle.operators.proofs.OperatorLaws.{operator_some, operators_begin, operators_past, operator_end}
 use Rattle.marks.specs.declared.state.Mark.{Mark}
-use borrow.Author.Rules.{rules}
 use Rattle.operators.proofs.operator.past_operators.Goals as goal
 
 pub loop-s-init : goal.loop-s-init

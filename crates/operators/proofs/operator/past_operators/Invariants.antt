@@ -1,21 +1,13 @@
 -- The prefixes that were passed stand about what is still to be read.
-use mathlib.Core.Path.{◌≡◌, sym, ap, ◌∙◌}
-use mathlib.Core.Bool.{Bool, true}
+use mathlib.Core.Path.{◌≡◌}
+use mathlib.Core.Bool.{Bool}
 use mathlib.Core.List.{List}
-use Prim.Native.Nat.{ℕ, suc, ◌-◌, ◌<◌}
-use native.Mathlib.Omega.{arith}
+use Prim.Native.Nat.{ℕ, suc, ◌-◌}
 use lib.ListN.{length}
-use Rattle.words.specs.Test.{among}
-use Rattle.words.specs.Cursor.{kind_at}
 use Rattle.rules.specs.State.{Reader}
 use Rattle.rules.specs.Operator as rule
 use Rattle.marks.specs.State.{AnyGiven, view, given_of, Moved}
 use Rattle.operators.specs.Operator.{operators_about}
-use Rattle.marks.proofs.MarkLaws.{moved_same}
-use Rattle.marks.proofs.StepLaws.{moved_taken, moved_then, inside_moved}
-use Rattle.operators.proofs.OperatorLaws.{operator_some, operators_begin, operators_past, operator_end}
-use Rattle.marks.specs.declared.state.Mark.{Mark}
-use borrow.Author.Rules.{rules}
 use Rattle.operators.proofs.operator.past_operators.Given as goal
 
 abbrev pub invariant-loop-s : goal.invariant-loop-s

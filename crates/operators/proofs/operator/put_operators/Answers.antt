@@ -1,17 +1,10 @@
-use mathlib.Core.Path.{◌≡◌, refl, ap, ◌∙◌}
-use mathlib.Core.List.{List}
-use Prim.Native.Nat.{ℕ, ◌+◌, ◌-◌, ◌*◌, ◌≤◌}
+use mathlib.Core.Path.{refl, ap, ◌∙◌}
+use Prim.Native.Nat.{ℕ, ◌+◌, ◌-◌, ◌*◌}
 use native.Mathlib.Omega.{arith}
-use lib.ListN.{length}
-use Rattle.words.specs.Limits.{tallest}
 use Rattle.words.specs.Word as word
-use Rattle.keys.specs.Placed.{Placed}
-use Rattle.rules.specs.State.{read}
 use Rattle.rules.specs.List.{position}
 use Rattle.rules.specs.Operator.{operators}
-use Rattle.marks.specs.State.{view, given_of}
-use Rattle.marks.specs.Laid.{Was, Stands}
-use Rattle.operators.proofs.OperatorLaws.{operator_made, start_low, Left, left_none, left_refused, left_put}
+use Rattle.operators.proofs.OperatorLaws.{operator_made, start_low, left_none, left_refused, left_put}
 use borrow.Author.Rules.{rules}
 use Rattle.operators.proofs.operator.put_operators.Goals as goal
 

@@ -1,18 +1,14 @@
 -- The prefixes that are still to be put stand about the tree that stands.
-use mathlib.Core.Path.{◌≡◌, refl, ap, ◌∙◌}
+use mathlib.Core.Path.{◌≡◌}
 use mathlib.Core.List.{List}
-use Prim.Native.Nat.{ℕ, ◌+◌, ◌-◌, ◌*◌, ◌≤◌}
-use native.Mathlib.Omega.{arith}
+use Prim.Native.Nat.{ℕ, ◌-◌, ◌≤◌}
 use lib.ListN.{length}
 use Rattle.words.specs.Limits.{tallest}
 use Rattle.keys.specs.Placed.{Placed}
 use Rattle.rules.specs.State.{read}
-use Rattle.rules.specs.List.{position}
-use Rattle.rules.specs.Operator.{operators}
 use Rattle.marks.specs.State.{view, given_of}
 use Rattle.marks.specs.Laid.{Was, Stands}
-use Rattle.operators.proofs.OperatorLaws.{operator_made, start_low, Left, left_none, left_refused, left_put}
-use borrow.Author.Rules.{rules}
+use Rattle.operators.proofs.OperatorLaws.{Left}
 use Rattle.operators.proofs.operator.put_operators.Given as goal
 
 abbrev pub invariant-loop-i : goal.invariant-loop-i

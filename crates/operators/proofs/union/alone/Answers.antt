@@ -6,7 +6,6 @@ use lib.Dec.{eqb}
 use Rattle.words.specs.Test.{◌and◌}
 use Rattle.marks.specs.List.{here}
 use borrow.Author.Tests.{eq-eqb, ne_eqb}
-use borrow.Author.Rules.{rules}
 use Rattle.operators.proofs.union.alone.Goals as goal
 
 pub returns-then-k-eq0 : goal.returns-then-k-eq0

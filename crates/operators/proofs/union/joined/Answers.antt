@@ -2,7 +2,6 @@
 use mathlib.Core.Path.{refl, sym, ◌∙◌}
 use native.Mathlib.Omega.{arith}
 use Rattle.operators.specs.Union as union
-use borrow.Author.Rules.{rules}
 use Rattle.operators.proofs.union.joined.Goals as goal
 
 pub returns-then-alone : goal.returns-then-alone

@@ -9,7 +9,6 @@ use Rattle.parts.specs.Arguments.{NamedSmall}
 use Rattle.marks.proofs.MarkLaws.{along_then}
 use Rattle.parts.proofs.ArgumentLaws.{named_refused, import_refused, import_dots, import_read}
 use Rattle.parts.specs.declared.arguments.Named.{Named}
-use borrow.Author.Rules.{rules}
 use Rattle.parts.proofs.arguments.import.Goals as goal
 
 pub returns-then-s-ne0 : goal.returns-then-s-ne0

@@ -14,7 +14,6 @@ use Rattle.marks.proofs.StepLaws.{is_at, not_at, answer_refused, answer_read}
 use Rattle.parts.proofs.ArgumentLaws.{source_none, source_other, source_comma, source_open, source_read, source_spoken, along_source}
 use Rattle.marks.specs.declared.state.Answer.{Answer}
 use Rattle.marks.specs.declared.state.Mark.{Mark}
-use borrow.Author.Rules.{rules}
 use Rattle.parts.proofs.arguments.import_source.Goals as goal
 
 pub returns-then-kind_at-ne-L_PAREN : goal.returns-then-kind_at-ne-L_PAREN

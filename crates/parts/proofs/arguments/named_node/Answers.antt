@@ -8,7 +8,6 @@ use Rattle.parts.specs.Arguments.{name_count, named_node}
 use Rattle.marks.proofs.Answers.{says_as, says_refused}
 use Rattle.parts.proofs.ArgumentLaws.{lists_long, lists_longer, product_small, named_made}
 use Rattle.marks.proofs.NodeLaws.{put_refused}
-use borrow.Author.Rules.{rules}
 use Rattle.parts.proofs.arguments.named_node.Goals as goal
 
 pub returns-then-n-gt-LONGEST : goal.returns-then-n-gt-LONGEST

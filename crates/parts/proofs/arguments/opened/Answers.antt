@@ -8,7 +8,6 @@ use Rattle.parts.specs.Arguments.{OpenedAt}
 use Rattle.marks.proofs.MarkLaws.{is_here, is_not_here}
 use Rattle.parts.proofs.ArgumentLaws.{opened_by}
 use Rattle.marks.specs.declared.state.Mark.{Mark}
-use borrow.Author.Rules.{rules}
 use Rattle.parts.proofs.arguments.opened.Goals as goal
 
 pub returns-then-kind_at-eq-L_ANGLE : goal.returns-then-kind_at-eq-L_ANGLE

@@ -5,7 +5,6 @@ use borrow.Author.Tests.{not-true, not-false}
 use Rattle.words.specs.Test.{among}
 use Rattle.keys.proofs.BitsLaws.{clash}
 use Rattle.parts.proofs.ArgumentLaws.{openers, no_opener, opens_off, opens_half, opens_by}
-use borrow.Author.Rules.{rules}
 use Rattle.parts.proofs.arguments.opens.Goals as goal
 
 pub returns-then-not-on_line : goal.returns-then-not-on_line

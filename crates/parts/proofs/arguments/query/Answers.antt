@@ -9,7 +9,6 @@ use Rattle.marks.proofs.MarkLaws.{is_here, is_not_here, along_then, along_moved}
 use Rattle.marks.proofs.StepLaws.{names_behind, names_same, moved_taken, inside_taken}
 use Rattle.parts.proofs.ArgumentLaws.{query_import, query_name, of_typeof}
 use Rattle.marks.specs.declared.state.Mark.{Mark}
-use borrow.Author.Rules.{rules}
 use Rattle.parts.proofs.arguments.query.Goals as goal
 
 pub import-requires : goal.import-requires

@@ -7,7 +7,6 @@ use Rattle.marks.specs.State.{view, given_of, Along}
 use Rattle.parts.specs.Arguments.{NamedSmall}
 use Rattle.parts.proofs.ArgumentLaws.{named_refused, reference_refused, reference_read}
 use Rattle.parts.specs.declared.arguments.Named.{Named}
-use borrow.Author.Rules.{rules}
 use Rattle.parts.proofs.arguments.reference.Goals as goal
 
 pub returns-then-a-ne0 : goal.returns-then-a-ne0

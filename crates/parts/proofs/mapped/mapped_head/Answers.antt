@@ -14,7 +14,6 @@ use Rattle.marks.proofs.StepLaws.{names_refused, head_refused, names_read, moved
 use Rattle.parts.proofs.MappingLaws.{head_modifier, head_bracket, head_name, head_in, head_read}
 use Rattle.marks.specs.declared.state.Head.{Head}
 use Rattle.marks.specs.declared.state.Mark.{Mark}
-use borrow.Author.Rules.{rules}
 use Rattle.parts.proofs.mapped.mapped_head.Goals as goal
 
 pub modifier-r-requires : goal.modifier-r-requires

@@ -11,7 +11,6 @@ use Rattle.marks.proofs.StepLaws.{number_refused, number_same, moved_taken, move
 use Rattle.parts.proofs.RingLaws.{expect_yes, expect_no}
 use Rattle.marks.specs.declared.state.Head.{Head}
 use Rattle.marks.specs.declared.state.Mark.{Mark}
-use borrow.Author.Rules.{rules}
 use Rattle.parts.proofs.mapped.mapped_middle.Goals as goal
 
 pub returns-then-kind_at-ne-R_BRACK : goal.returns-then-kind_at-ne-R_BRACK

@@ -11,7 +11,6 @@ use Rattle.marks.proofs.Answers.{says_same, says_as, says_refused}
 use Rattle.marks.proofs.MarkLaws.{is_here, is_not_here, reached_refused, reached_put}
 use Rattle.marks.proofs.StepLaws.{built_at, moved_taken, moved_then, inside_moved, fine_moved}
 use Rattle.parts.proofs.MappingLaws.{curly_refused, curly_taken}
-use borrow.Author.Rules.{rules}
 use Rattle.parts.proofs.mapped.mapped_node.Goals as goal
 
 pub returns-then-kind_at-ne-R_CURLY : goal.returns-then-kind_at-ne-R_CURLY

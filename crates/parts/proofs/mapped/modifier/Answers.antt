@@ -7,7 +7,6 @@ use Rattle.marks.proofs.MarkLaws.{is_here, is_not_here, moved_same}
 use Rattle.marks.proofs.StepLaws.{number_read, number_same, moved_taken, moved_then, inside_taken}
 use Rattle.parts.proofs.MappingLaws.{modifier_here, modifier_plus, modifier_minus, modifier_none}
 use Rattle.marks.specs.declared.state.Mark.{Mark}
-use borrow.Author.Rules.{rules}
 use Rattle.parts.proofs.mapped.modifier.Goals as goal
 
 pub returns-then-here-kind : goal.returns-then-here-kind

@@ -9,7 +9,6 @@ use Rattle.marks.proofs.MarkLaws.{is_here, is_not_here, moved_same}
 use Rattle.marks.proofs.StepLaws.{number_read, number_refused, moved_taken}
 use Rattle.parts.proofs.RingLaws.{expect_yes, expect_no}
 use Rattle.marks.specs.declared.state.Head.{Head}
-use borrow.Author.Rules.{rules}
 use Rattle.parts.proofs.mapped.signed.Goals as goal
 
 pub returns-then-kind_at-kind : goal.returns-then-kind_at-kind

@@ -4,7 +4,6 @@ use Rattle.marks.specs.Laid.{run_in}
 use Rattle.marks.proofs.BuiltLaws.{built_one}
 use Rattle.parts.proofs.PostfixLaws.{shape_array}
 use Rattle.marks.proofs.LeafLaws.{under_one}
-use borrow.Author.Rules.{rules}
 use Rattle.parts.proofs.postfix.array.Goals as goal
 
 pub bracketed-requires : goal.bracketed-requires

@@ -10,7 +10,6 @@ use Rattle.primaries.proofs.PrimaryLaws.{eq_at, ne_at}
 use Rattle.marks.proofs.LeafLaws.{fine_next, makes_at}
 use Rattle.marks.proofs.MarkLaws.{reached_put, reached_refused}
 use Rattle.parts.proofs.RingLaws.{expect_yes}
-use borrow.Author.Rules.{rules}
 use Rattle.parts.proofs.postfix.bracketed.Goals as goal
 
 pub returns-then-kind_at-ne-R_BRACK : goal.returns-then-kind_at-ne-R_BRACK

@@ -7,7 +7,6 @@ use borrow.Author.Tests.{not-true, not-false}
 use Rattle.primaries.proofs.PrimaryLaws.{eq_at, ne_at}
 use Rattle.marks.proofs.MarkLaws.{or_false}
 use Rattle.words.specs.Ahead as ahead
-use borrow.Author.Rules.{rules}
 use Rattle.parts.proofs.postfix.suffixed.Goals as goal
 
 pub returns-then-not-on_line : goal.returns-then-not-on_line

@@ -2,7 +2,6 @@
 use mathlib.Core.Path.{sym}
 use Rattle.primaries.specs.Lone.{onward_kinds}
 use Rattle.primaries.proofs.LoneLaws.{none_of}
-use Rattle.primaries.proofs.lone.goes_on.Statement.{statement}
 use Rattle.primaries.proofs.lone.goes_on.Goals as goal
 
 pub returns-in-18 : goal.returns-in-18

@@ -2,7 +2,6 @@
 use mathlib.Core.Path.{sym, ap, ◌∙◌}
 use mathlib.Core.Bool.{not}
 use borrow.Author.Tests.{not-true, not-false}
-use borrow.Author.Rules.{rules}
 use Rattle.primaries.proofs.lone.is_lone.Goals as goal
 
 pub returns-then-not-is_whole : goal.returns-then-not-is_whole

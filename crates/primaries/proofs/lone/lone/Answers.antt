@@ -3,7 +3,6 @@ use mathlib.Core.Path.{◌≡◌, sym, ap, ◌∙◌}
 use mathlib.Core.Bool.{false}
 use mathlib.Core.List.{[], ◌∷◌}
 use Prim.Native.Nat.{ℕ, ◌+◌}
-use borrow.Author.Rules.{rules}
 use Rattle.words.specs.Test.{among}
 use Rattle.words.specs.Cursor.{kind_at, whole_kind}
 use Rattle.keys.specs.Placed.{absent, tree, join, listed_names, maybe_list}

@@ -2,7 +2,6 @@
 use mathlib.Core.Path.{sym, ◌∙◌}
 use Rattle.marks.specs.State.{given_of, view}
 use Rattle.primaries.proofs.PrimaryLaws.{enclosed_mapped, enclosed_curly}
-use borrow.Author.Rules.{rules}
 use Rattle.primaries.proofs.primary.curly.Goals as goal
 
 pub returns-then-mapped_start : goal.returns-then-mapped_start

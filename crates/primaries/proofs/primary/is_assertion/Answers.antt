@@ -6,7 +6,6 @@ use borrow.Author.Tests.{not-true, not-false}
 use Rattle.primaries.proofs.PrimaryLaws.{eq_at, ne_at}
 use Rattle.words.proofs.Looks.{kind_small}
 use Rattle.words.specs.Class as class
-use borrow.Author.Rules.{rules}
 use Rattle.primaries.proofs.primary.is_assertion.Goals as goal
 
 pub returns-then-kind_at-ne-ASSERTS : goal.returns-then-kind_at-ne-ASSERTS

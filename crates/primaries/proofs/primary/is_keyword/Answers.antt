@@ -5,7 +5,6 @@ use Prim.Native.Nat.{ℕ, ◌+◌}
 use lib.Dec.{eqb}
 use Rattle.words.specs.Cursor.{whole_kind}
 use Rattle.primaries.proofs.PrimaryLaws.{keyword_null, keyword_void, keyword_low, keyword_high, keyword_word}
-use borrow.Author.Rules.{rules}
 use Rattle.primaries.proofs.primary.is_keyword.Goals as goal
 
 pub returns-then-kind-eq-NULL : goal.returns-then-kind-eq-NULL

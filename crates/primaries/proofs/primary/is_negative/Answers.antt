@@ -5,7 +5,6 @@ use lib.Dec.{eqb}
 use Rattle.words.specs.Cursor.{whole_kind}
 use Rattle.primaries.proofs.PrimaryLaws.{eq_at, ne_at}
 use Rattle.marks.proofs.MarkLaws.{or_false}
-use borrow.Author.Rules.{rules}
 use Rattle.primaries.proofs.primary.is_negative.Goals as goal
 
 pub returns-then-kind_at-ne-MINUS : goal.returns-then-kind_at-ne-MINUS

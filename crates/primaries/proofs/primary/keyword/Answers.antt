@@ -12,7 +12,6 @@ use Rattle.primaries.proofs.PrimaryLaws.{shape_keyword, keyword_is}
 use Rattle.marks.proofs.LeafLaws.{fine_next, under_none, plain_says}
 use Rattle.marks.proofs.MarkLaws.{reached_put}
 use Rattle.rules.specs.Primary as rule
-use borrow.Author.Rules.{rules}
 use Rattle.primaries.proofs.primary.keyword.Goals as goal
 
 pub put-requires : goal.put-requires

@@ -15,7 +15,6 @@ use Rattle.marks.proofs.MarkLaws.{reached_put, reached_less}
 use Rattle.rules.specs.Primary as rule
 use Rattle.rules.specs.State as state
 use Rattle.marks.specs.declared.state.Mark.{Mark}
-use borrow.Author.Rules.{rules}
 use Rattle.primaries.proofs.primary.literal.Goals as goal
 
 pub put-requires : goal.put-requires

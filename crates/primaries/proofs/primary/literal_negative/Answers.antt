@@ -6,7 +6,6 @@ use Rattle.marks.specs.State.{given_of, view}
 use Rattle.primaries.proofs.PrimaryLaws.{shape_literal, other_number}
 use Rattle.rules.specs.Primary as rule
 use Rattle.rules.specs.State as state
-use borrow.Author.Rules.{rules}
 use Rattle.primaries.proofs.primary.literal_negative.Goals as goal
 
 pub returns-then-kind_at-eq-NUMBER_LITERAL : goal.returns-then-kind_at-eq-NUMBER_LITERAL

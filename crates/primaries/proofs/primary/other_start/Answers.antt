@@ -6,7 +6,6 @@ use Rattle.words.specs.Test.{among}
 use Rattle.primaries.proofs.PrimaryLaws.{no_mark, reference_name, reference_marked, reference_none}
 use Rattle.marks.proofs.MarkLaws.{kind_inside}
 use Rattle.words.specs.Class as class
-use borrow.Author.Rules.{rules}
 use Rattle.primaries.proofs.primary.other_start.Goals as goal
 
 pub returns-then-in_class : goal.returns-then-in_class

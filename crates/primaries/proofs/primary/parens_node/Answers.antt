@@ -9,7 +9,6 @@ use Rattle.primaries.proofs.PrimaryLaws.{eq_at, ne_at, shape_parens, parens_kept
 use Rattle.marks.proofs.LeafLaws.{fine_next, one_kid, about_says, stands_on}
 use Rattle.marks.proofs.MarkLaws.{reached_put, reached_refused}
 use Rattle.marks.specs.declared.state.Mark.{Mark}
-use borrow.Author.Rules.{rules}
 use Rattle.primaries.proofs.primary.parens_node.Goals as goal
 
 pub returns-then-kind_at-ne-R_PAREN : goal.returns-then-kind_at-ne-R_PAREN

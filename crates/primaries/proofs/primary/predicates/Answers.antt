@@ -8,7 +8,6 @@ use Rattle.words.specs.Kind.{Is}
 use Rattle.words.specs.Class.{in_class}
 use Rattle.words.proofs.Looks.{kind_small}
 use Rattle.primaries.proofs.PrimaryLaws.{predicates_is}
-use borrow.Author.Rules.{rules}
 use Rattle.primaries.proofs.primary.predicates.Goals as goal
 
 pub in_class-requires : goal.in_class-requires

@@ -7,7 +7,6 @@ use Rattle.marks.specs.State.{given_of, view}
 use Rattle.primaries.proofs.PrimaryLaws.{eq_at, ne_at, keyword_inside, negative_inside, minus_off, no_given, start_from, primary_keyword, primary_this, primary_literal, primary_negative, primary_worded, literal_at_lem, negative_at, literal_here, negative_here}
 use Rattle.marks.proofs.MarkLaws.{kind_inside}
 use Rattle.rules.specs.Primary as rule
-use borrow.Author.Rules.{rules}
 use Rattle.primaries.proofs.primary.primary_start.Goals as goal
 
 pub returns-then-is_keyword : goal.returns-then-is_keyword

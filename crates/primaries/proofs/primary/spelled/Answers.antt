@@ -3,7 +3,6 @@ use native.Mathlib.Omega.{arith}
 use Rattle.marks.specs.State.{named_mark}
 use Rattle.marks.proofs.LeafLaws.{fine_named, under_none, named_says}
 use Rattle.marks.proofs.MarkLaws.{reached_put}
-use borrow.Author.Rules.{rules}
 use Rattle.primaries.proofs.primary.spelled.Goals as goal
 
 pub put-requires : goal.put-requires

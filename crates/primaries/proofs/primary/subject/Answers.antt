@@ -10,7 +10,6 @@ use Rattle.keys.specs.Bits.{unit}
 use Rattle.rules.specs.Function.{subject}
 use Rattle.marks.specs.List.{here}
 use Rattle.marks.specs.declared.state.Mark.{Mark}
-use borrow.Author.Rules.{rules}
 use Rattle.primaries.proofs.primary.subject.Goals as goal
 
 pub subject_at-requires : goal.subject_at-requires

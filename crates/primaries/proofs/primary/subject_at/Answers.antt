@@ -4,7 +4,6 @@ use native.Mathlib.Omega.{arith}
 use Rattle.marks.proofs.BuiltLaws.{spoken_none}
 use Rattle.primaries.proofs.PrimaryLaws.{eq_at, ne_at}
 use Rattle.marks.specs.declared.state.Mark.{Mark}
-use borrow.Author.Rules.{rules}
 use Rattle.primaries.proofs.primary.subject_at.Goals as goal
 
 pub returns-then-kind_at-eq-THIS : goal.returns-then-kind_at-eq-THIS

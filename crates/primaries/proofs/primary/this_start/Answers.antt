@@ -3,7 +3,6 @@ use mathlib.Core.Path.{sym, ◌∙◌}
 use borrow.Author.Tests.{eq-eqb}
 use Rattle.marks.specs.State.{given_of, view}
 use Rattle.primaries.proofs.PrimaryLaws.{this_alone, this_predicate}
-use borrow.Author.Rules.{rules}
 use Rattle.primaries.proofs.primary.this_start.Goals as goal
 
 pub returns-then-predicates : goal.returns-then-predicates

@@ -4,7 +4,6 @@ use mathlib.Core.List.{[]}
 use native.Mathlib.Omega.{arith}
 use Rattle.marks.specs.State.{given_of, view}
 use Rattle.primaries.proofs.PrimaryLaws.{eq_at, ne_at, assertion_inside, no_given, start_from, worded_assertion, worded_typeof, worded_import, worded_enclosed}
-use borrow.Author.Rules.{rules}
 use Rattle.primaries.proofs.primary.worded.Goals as goal
 
 pub returns-then-is_assertion : goal.returns-then-is_assertion

@@ -2,7 +2,7 @@ use Rattle.rules.specs.Union as unions
 use Rattle.rules.specs.Operator as operators
 use Rattle.words.specs.Kind as kind
 use Rattle.rules.specs.Function as function
-use Prim.Native.Nat.{◌+◌, ◌-◌}
+use Prim.Native.Nat.{◌+◌}
 use native.Mathlib.Omega.{arith}
 use mathlib.Core.Path.{refl, sym, ◌∙◌, ap, subst}
 use Rattle.marks.specs.declared.state.Listed.{Listed}
@@ -19,7 +19,6 @@ use Rattle.readers.proofs.TypeLaws.{question_none, question_some, colon_none, co
 use Rattle.functions.specs.declared.function.This.{This}
 use Rattle.readers.proofs.MovedLaws.{says_moved, built_moved}
 use Rattle.readers.proofs.SignatureLaws.{function_from, signature_stops, signature_goes, signature_node_lem}
-use Rattle.keys.specs.Store.{done}
 use Rattle.rules.specs.Object.{kept}
 use Rattle.marks.specs.State.{view, given_of, Under}
 use Rattle.marks.specs.Laid.{was, run_in}
@@ -60,7 +59,7 @@ use Rattle.members.specs.Object.{signature_names}
 use borrow.Author.Tests.{not-true, not-false}
 use Rattle.marks.proofs.LeafLaws.{stands_on}
 use Rattle.parts.proofs.PostfixLaws.{suffix_bang, suffix_asked, suffix_array, suffix_index, shape_non_null, shape_asked, shape_indexed}
-use Rattle.rules.specs.State.{first, turns, spelling}
+use Rattle.rules.specs.State.{first, turns}
 use Rattle.parts.proofs.Turns.{looped}
 use Rattle.readers.proofs.ListTurns.{listed_absent, listed_refused, listed_stops, turn_starts, turn_refused, turn_stops, turn_child, turn_ends, turn_again}
 use Rattle.readers.proofs.PieceTurns.{laid_head, pieces_start, template_starts, pieces_refused, pieces_stop, pieces_again, pieces_end}

@@ -15,7 +15,7 @@ use Rattle.words.specs.Kind.{Amp, LCurly, TemplateHead, LBrack, Pipe}
 use Rattle.words.specs.Cursor.{kind_at}
 use Rattle.rules.specs.Function.{ThisParameter}
 use Rattle.words.specs.Limits.{tallest}
-use Rattle.rules.specs.State.{first, spelling}
+use Rattle.rules.specs.State.{spelling}
 use Rattle.readers.proofs.ring.+ring.Given as goal
 
 abbrev pub decreases-child : goal.decreases-child

@@ -1,6 +1,5 @@
 -- `answer::same` is safe and ends: the numbers left fall. Assumes nothing.
 use Prim.Native.Nat.{◌≤◌, ◌-◌}
-use borrow.Author.Rules.{rules}
 use Rattle.rows.proofs.answer.same.Given as goal
 
 abbrev pub invariant-loop-i : goal.invariant-loop-i

@@ -1,7 +1,6 @@
 -- `answer::shown` is safe and ends: the place stays within the buffer, and the words left fall. Assumes nothing.
 use Prim.Native.Nat.{◌<◌, ◌≤◌, ◌-◌}
 use lib.ListN.{length}
-use borrow.Author.Rules.{rules}
 use Rattle.rows.proofs.answer.shown.Given as goal
 
 abbrev pub invariant-loop-i : goal.invariant-loop-i

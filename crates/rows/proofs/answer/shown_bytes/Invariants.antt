@@ -1,7 +1,6 @@
 -- `answer::shown_bytes` is safe and ends: the place stays within the buffer, and the bytes left fall. Assumes nothing.
 use Prim.Native.Nat.{◌<◌, ◌≤◌, ◌-◌}
 use lib.ListN.{length}
-use borrow.Author.Rules.{rules}
 use Rattle.rows.proofs.answer.shown_bytes.Given as goal
 
 abbrev pub invariant-loop-i : goal.invariant-loop-i

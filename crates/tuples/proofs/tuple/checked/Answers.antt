@@ -3,7 +3,6 @@ use mathlib.Core.Path.{refl, sym, ◌∙◌}
 use native.Mathlib.Omega.{arith}
 use Rattle.tuples.proofs.MemberLaws.{checks_optional, checks_first, checks_rest, checks_other}
 use borrow.Author.Tests.{not-true, not-false}
-use borrow.Author.Rules.{rules}
 use Rattle.tuples.proofs.tuple.checked.Goals as goal
 
 pub returns-then-is_optional : goal.returns-then-is_optional

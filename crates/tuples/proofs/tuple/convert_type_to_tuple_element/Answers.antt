@@ -1,6 +1,5 @@
 -- By the tag of the last record.
 use Rattle.tuples.proofs.ElementLaws.{converts_none, converts_one}
-use borrow.Author.Rules.{rules}
 use Rattle.tuples.proofs.tuple.convert_type_to_tuple_element.Goals as goal
 
 pub returns-then-word : goal.returns-then-word

@@ -5,7 +5,6 @@ use native.Mathlib.Omega.{arith}
 use Rattle.marks.proofs.MarkLaws.{along_moved, along_then}
 use Rattle.tuples.proofs.LabelLaws.{head_label, head_plain}
 use Rattle.tuples.specs.declared.tuple.Label.{Label}
-use borrow.Author.Rules.{rules}
 use Rattle.tuples.proofs.tuple.element_head.Goals as goal
 
 pub labelled-requires : goal.labelled-requires

@@ -10,7 +10,6 @@ use Rattle.marks.proofs.Answers.{says_same}
 use Rattle.tuples.proofs.LabelLaws.{after_label, after_rest, after_type, names_label, names_none}
 use Rattle.tuples.proofs.MemberLaws.{says_type, says_rest}
 use Rattle.marks.proofs.MarkLaws.{reached_put}
-use borrow.Author.Rules.{rules}
 use Rattle.tuples.proofs.tuple.element_node.Goals as goal
 
 pub returns-then-l : goal.returns-then-l

@@ -7,7 +7,6 @@ use lib.Dec.{eqb}
 use Rattle.words.specs.Class as class
 use Rattle.words.proofs.Looks.{kind_small}
 use Rattle.tuples.proofs.LabelLaws.{label_no, label_yes, label_other, label_asks}
-use borrow.Author.Rules.{rules}
 use Rattle.tuples.proofs.tuple.is_next_token_colon_or_question_colon.Goals as goal
 
 pub in_class-requires : goal.in_class-requires

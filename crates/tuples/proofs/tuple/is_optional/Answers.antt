@@ -1,7 +1,6 @@
 -- The tag first, then the `?` bit of a member.
 use mathlib.Core.Path.{sym, ◌∙◌}
 use Rattle.tuples.proofs.ElementLaws.{optional_tag, optional_not, optional_bit}
-use borrow.Author.Rules.{rules}
 use Rattle.tuples.proofs.tuple.is_optional.Goals as goal
 
 pub returns-then-tag-eq-OPTIONAL : goal.returns-then-tag-eq-OPTIONAL

@@ -6,7 +6,6 @@ use Rattle.words.specs.Kind.{Question}
 use Rattle.marks.specs.State.{Inside, past_mark, named_mark}
 use Rattle.tuples.proofs.LabelLaws.{label_inside, colon_inside, label_made, along_label}
 use Rattle.marks.specs.declared.state.Mark.{Mark}
-use borrow.Author.Rules.{rules}
 use Rattle.tuples.proofs.tuple.labelled.Goals as goal
 
 pub spell-p-requires : goal.spell-p-requires

@@ -5,7 +5,6 @@ use Rattle.words.specs.Cursor.{end_byte}
 use Rattle.tuples.proofs.MemberLaws.{member_refused, member_dots, member_asked, member_rest, reached_noted}
 use Rattle.marks.proofs.MarkLaws.{fine_noted, fine_put, reached_put, reached_less}
 use Rattle.marks.proofs.ReportLaws.{reports_high}
-use borrow.Author.Rules.{rules}
 use Rattle.tuples.proofs.tuple.member.Goals as goal
 
 pub returns-then-c-ne0 : goal.returns-then-c-ne0

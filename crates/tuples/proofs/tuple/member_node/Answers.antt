@@ -4,7 +4,6 @@ use mathlib.Core.Bool.{Bool}
 use Prim.Native.Nat.{◌-◌}
 use Rattle.marks.specs.Node.{Makes}
 use Rattle.tuples.specs.Tuple.{member_choices}
-use borrow.Author.Rules.{rules}
 use Rattle.tuples.proofs.tuple.member_node.Goals as goal
 
 pub returns-then-l : goal.returns-then-l

@@ -5,7 +5,6 @@ use borrow.Author.Tests.{not-true, not-false}
 use Rattle.tuples.proofs.MemberLaws.{rest_none, rest_full, rest_about, reached_noted}
 use Rattle.marks.proofs.MarkLaws.{fine_noted, reached_put}
 use Rattle.marks.proofs.ReportLaws.{reports_high}
-use borrow.Author.Rules.{rules}
 use Rattle.tuples.proofs.tuple.rest_of.Goals as goal
 
 pub returns-then-not-l : goal.returns-then-not-l

@@ -5,7 +5,6 @@ use lib.ListN.{length}
 use Rattle.marks.specs.State.{Fine, Under}
 use Rattle.marks.specs.Node.{Put, MakesList}
 use Rattle.marks.specs.declared.state.Mark.{Mark}
-use borrow.Author.Rules.{rules}
 use Rattle.tuples.proofs.tuple.tuple_node.Goals as goal
 
 pub put_list-requires : goal.put_list-requires

@@ -1,5 +1,4 @@
 -- Past the closing bracket.
-use borrow.Author.Rules.{rules}
 use Rattle.functions.proofs.function.Params.all.Goals as goal
 
 pub returns : goal.returns

@@ -1,5 +1,4 @@
 -- No list was there.
-use borrow.Author.Rules.{rules}
 use Rattle.marks.proofs.state.Listed.absent.Goals as goal
 
 pub returns : goal.returns

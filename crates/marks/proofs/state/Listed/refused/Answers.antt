@@ -1,5 +1,4 @@
 -- A list was refused.
-use borrow.Author.Rules.{rules}
 use Rattle.marks.proofs.state.Listed.refused.Goals as goal
 
 pub returns : goal.returns

@@ -1,5 +1,4 @@
 -- None.
-use borrow.Author.Rules.{rules}
 use Rattle.members.proofs.object.IndexParams.none.Goals as goal
 
 pub returns : goal.returns

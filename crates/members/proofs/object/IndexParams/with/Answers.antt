@@ -1,6 +1,5 @@
 -- Several, or the first.
 use borrow.Author.Tests.{eq-eqb, ne_eqb}
-use borrow.Author.Rules.{rules}
 use Rattle.members.proofs.object.IndexParams.with.Goals as goal
 
 pub returns-then-self-ne0 : goal.returns-then-self-ne0
