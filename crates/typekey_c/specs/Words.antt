@@ -3,7 +3,7 @@ use Rattle.std.specs.Prelude.{◌≡◌, List, ℕ, length}
 use Rattle.std.proofs.Common.{sym, ◌∙◌}
 use Rattle.keys.specs.Store.{TakenBack, take_back}
 use Rattle.rules.specs.Read.{Called, read}
-use Rattle.answers.specs.Reading.{Slice, lent_of}
+use Rattle.answers.specs.Reading.{Slice, Filled, lent_of}
 use Rattle.differs.specs.Differ.{Differed, differ}
 use Rattle.told.specs.Options.{preserve_parens}
 use Rattle.told.specs.Answer.{told, told_back, told_difference}
@@ -19,7 +19,7 @@ pub record TellsIn (c : Called) (A N M O K : List ℕ) : Type 0 where
   pub key_is : K ≡ c.key
 
 -- The promise, whatever the call is given and lent.
-abbrev pub Tells : (text tokens : Slice) (start options : ℕ) (nodes names notes key answer : Slice) → Type 0
+abbrev pub Tells : (text tokens : Slice) (start options : ℕ) (nodes names notes key answer : Filled) → Type 0
 Tells text tokens start options nodes names notes key answer =
     let c = read text.entry.now tokens.entry.now start (preserve_parens options) (lent_of nodes names notes key) in
     TellsIn c answer.exit.now nodes.exit.now names.exit.now notes.exit.now key.exit.now
@@ -40,7 +40,7 @@ pub record TellsBackIn (d : TakenBack) (A N M X : List ℕ) : Type 0 where
   pub text_is : X ≡ d.text
 
 -- The promise, whatever the call is given and lent.
-abbrev pub TellsBack : (key nodes names text answer : Slice) → Type 0
+abbrev pub TellsBack : (key : Slice) (nodes names text answer : Filled) → Type 0
 TellsBack key nodes names text answer =
     let d = take_back key.entry.now (length nodes.entry.now) (length names.entry.now) (length text.entry.now) in
     TellsBackIn d answer.exit.now nodes.exit.now names.exit.now text.exit.now
@@ -58,7 +58,7 @@ pub record TellsDifferenceIn (d : Differed) (A L : List ℕ) : Type 0 where
   pub list_is : L ≡ d.list
 
 -- The promise, whatever the call is given and lent.
-abbrev pub TellsDifference : (left right list answer : Slice) → Type 0
+abbrev pub TellsDifference : (left right : Slice) (list answer : Filled) → Type 0
 TellsDifference left right list answer =
     let d = differ (length list.entry.now) left.entry.now right.entry.now in
     TellsDifferenceIn d answer.exit.now list.exit.now
