@@ -31,7 +31,9 @@ def copied(to):
     for name in ("crates.txt", "HANDLES"):
         if os.path.isfile(os.path.join(ROOT, name)):
             shutil.copy(os.path.join(ROOT, name), to)
-    shutil.copytree(os.path.join(ROOT, "crates"), os.path.join(to, "crates"), ignore=shutil.ignore_patterns("out", "must-fail"))
+    for name in os.listdir(os.path.join(ROOT, "crates")):
+        shutil.copytree(os.path.join(ROOT, "crates", name), os.path.join(to, "crates", name),
+                        ignore=lambda at, names: {"out", "must-fail"} & set(names) if os.path.basename(os.path.dirname(at)) == "crates" else ())
 
 
 class Crate:
