@@ -157,7 +157,7 @@ module _ (g : rule.Given) (T : Reader) (b : ℕ) (isAbstract : Bool) (ts : Opt (
 module _ (W : List ℕ) (given : Given) (h : FunctionHead) (there : Bool) (many : ℕ) (p : Params) (N O : List ℕ) where
   -- Some list is too long, or none and the node is put.
   pub function_long : h.is_new ≡ false → ltb longest many or ltb longest p.count ≡ true → MakesFunction W given h there many p N O (refused_at too_long p.m) N O
-  function_long new long text R B ts ps u M b first_is there_is many_is this_is count_is each-type is_this_lem each is_node =
+  function_long new long text R B ts ps u M b first_is there_is many_is this_is count_is each-type is_this each is_node =
       let g = given_of text W given in
       rw new
       (says_refused 6
@@ -166,20 +166,20 @@ module _ (W : List ℕ) (given : Given) (h : FunctionHead) (there : Bool) (many 
 
   pub function_put : {choices : ℕ} {a : Answer} {N' : List ℕ} → h.is_new ≡ false → ltb longest many or ltb longest p.count ≡ false
       → choices ≡ function_choices there many p.this.bits p.count → Makes W given h.b choices p.kids p.m N a N' → MakesFunction W given h there many p N O a N' O
-  function_put new long choices_are makes text R B ts ps u M b first_is there_is many_is this_is count_is each-type is_this_lem each is_node =
+  function_put new long choices_are makes text R B ts ps u M b first_is there_is many_is this_is count_is each-type is_this each is_node =
       let g = given_of text W given in
       rw new
       (says_same
       (function_node_is g R h.b.first h.is_abstract ts ps u (view p.m O)
       ∙ none_long g (count ts) (length ps.list) _ (view p.m O) (rw (← many_is, ← count_is) long))
       (makes text 0 B (((runs_opt 4 ts ⊕ this_run false ps.this) ⊕ runs 5 ps.list) ⊕ run_in 0 u) 12 _ M O (rw new at b) first_is
-      (rw (choices_are, there_is, many_is, this_is.bits, count_is) (shape_function ts ps.list u each-type each is_node ps.this is_this_lem))))
+      (rw (choices_are, there_is, many_is, this_is.bits, count_is) (shape_function ts ps.list u each-type each is_node ps.this is_this))))
 
   -- A constructor's diagnostic has no record; or some list is too long; or the node is put.
   module _ (new : h.is_new ≡ true) (a : Answer) (O' : List ℕ)
       (reports : Reports (not (eqb p.this.bits 0)) given (note this_on_constructor p.this.first p.this.end) p.m O a O') where
     pub constructor_stops : (a.why ≡ 0 → ⊥) → MakesFunction W given h there many p N O a N O'
-    constructor_stops stop text R B ts ps u M b first_is there_is many_is this_is count_is each-type is_this_lem each is_node =
+    constructor_stops stop text R B ts ps u M b first_is there_is many_is this_is count_is each-type is_this each is_node =
         let g = given_of text W given in
         rw new
         (says_stop stop
@@ -187,7 +187,7 @@ module _ (W : List ℕ) (given : Given) (h : FunctionHead) (there : Bool) (many 
         ∙ reports_refused text W (construct g h.b.first h.is_abstract ts ps.list u) reports stop))
 
     pub constructor_long : a.why ≡ 0 → ltb longest many or ltb longest p.count ≡ true → MakesFunction W given h there many p N O (refused_at too_long a.m) N O'
-    constructor_long go long text R B ts ps u M b first_is there_is many_is this_is count_is each-type is_this_lem each is_node =
+    constructor_long go long text R B ts ps u M b first_is there_is many_is this_is count_is each-type is_this each is_node =
         let g = given_of text W given in
         rw new
         (says_refused 6
@@ -197,7 +197,7 @@ module _ (W : List ℕ) (given : Given) (h : FunctionHead) (there : Bool) (many 
 
     pub constructor_put : {choices : ℕ} {d : Answer} {N' : List ℕ} → a.why ≡ 0 → Noted given p.m a → ltb longest many or ltb longest p.count ≡ false
         → choices ≡ constructor_choices h.is_abstract there many p.count → Makes W given h.b choices p.kids a.m N d N' → MakesFunction W given h there many p N O d N' O'
-    constructor_put go more long choices_are makes text R B ts ps u M b first_is there_is many_is this_is count_is each-type is_this_lem each is_node =
+    constructor_put go more long choices_are makes text R B ts ps u M b first_is there_is many_is this_is count_is each-type is_this each is_node =
         let g = given_of text W given in
         rw new
         (says_same

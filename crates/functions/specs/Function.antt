@@ -81,7 +81,7 @@ pub record GotParams (B : Was) (t : Run) (R : Opt ThisParameter → Run) (x : Re
   pub what : Parameters
   pub is : x ≡ read what (view p.m O)
   pub this_is : ThisIs p.this what.this
-  pub is_this_lem : IsThis what.this
+  pub is_this : IsThis what.this
   pub count_is : p.count ≡ length what.list
   pub each : AllNodes 5 what.list
   pub built : BuiltAt B ((t ⊕ R what.this) ⊕ runs 5 what.list) p.kids p.m N M O

@@ -120,7 +120,7 @@ module _ (bs : Bits) (lm lx : ℕ) (G : Grammar) (left : ℕ) (r : Row) (s : Fil
                   λ x. record {
                     above = omega (arith, k.stored.used, x.above);
                     nodes_fit = omega (arith, k.total, x.nodes_fit, l.same, e.nodes_same);
-                    in_nodes_lem = omega (arith, l.small, l.same, e.nodes_same);
+                    in_nodes = omega (arith, l.small, l.same, e.nodes_same);
                   };
               spans = sp;
               base_same = refl;
@@ -279,7 +279,7 @@ module _ (bs : Bits) (ln lm lx : ℕ) (T : List ℕ) (class : ℕ) (p : Pos) (h 
               inside =
                   record {
                     in_key = k.inside;
-                    in_names_lem = h.inside.in_names_lem;
+                    in_names = h.inside.in_names;
                     in_text = h.inside.in_text;
                     few_names = h.inside.few_names;
                     few_chars = omega (arith, k.next z, h.inside.few_chars);
@@ -291,7 +291,7 @@ module _ (bs : Bits) (ln lm lx : ℕ) (T : List ℕ) (class : ℕ) (p : Pos) (h 
             }
 
         pub start_housed : Housed ln s₀
-        start_housed = record { above = omega arith; nodes_fit = omega (arith, h.nodes_fit); in_nodes_lem = omega arith }
+        start_housed = record { above = omega arith; nodes_fit = omega (arith, h.nodes_fit); in_nodes = omega arith }
 
         pub start_spans : Spans f₀ (choices_wide - r.w)
         start_spans =
@@ -347,7 +347,7 @@ module _ (bs : Bits) (ln lm lx : ℕ) (T : List ℕ) (class : ℕ) (p : Pos) (h 
                       total = omega (arith, w.total);
                       inside =
                           let g = w.steady.inside in
-                          record { in_key = g.in_key; in_names_lem = g.in_names_lem; in_text = g.in_text; few_names = g.few_names; few_chars = g.few_chars };
+                          record { in_key = g.in_key; in_names = g.in_names; in_text = g.in_text; few_names = g.few_names; few_chars = g.few_chars };
                     };
               }
 

@@ -149,7 +149,7 @@ module _ (key : List ℕ) (n k m : ℕ) where
         pub whole_asks : n * 4 ≤ length N → Asks (bits_of_bytes key) (length N) (length M) (length Z) T 0 p
         whole_asks l =
             record {
-              inside = record { in_key = omega (arith, whole_within, length_bytes key); in_names_lem = omega arith; in_text = omega arith; few_names = omega arith; few_chars = omega arith };
+              inside = record { in_key = omega (arith, whole_within, length_bytes key); in_names = omega arith; in_text = omega arith; few_names = omega arith; few_chars = omega arith };
               nodes_fit = omega arith;
               in_table = omega arith;
               slim = subst Slim (sym w) words_slim;

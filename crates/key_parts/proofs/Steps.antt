@@ -148,7 +148,7 @@ module _ (bs : Bits) (lm lx : ℕ) where
 
 pub inside_as : {bs : Bits} {lm lx lm' lx' : ℕ} {p : Pos} → Inside bs lm lx p → lm' ≡ lm → lx' ≡ lx → Inside bs lm' lx' p
 inside_as h a b =
-    record { in_key = h.in_key; in_names_lem = omega (arith, h.in_names_lem); in_text = omega (arith, h.in_text); few_names = h.few_names; few_chars = h.few_chars }
+    record { in_key = h.in_key; in_names = omega (arith, h.in_names); in_text = omega (arith, h.in_text); few_names = h.few_names; few_chars = h.few_chars }
 
 -- ---- The bytes of a spelling
 
@@ -268,7 +268,7 @@ module _ (bs : Bits) (lm lx w : ℕ) (p : Pos) (M X : List ℕ) where
               inside =
                   record {
                     in_key = key;
-                    in_names_lem = omega arith;
+                    in_names = omega arith;
                     in_text = room;
                     few_names = omega (arith, h.few_names);
                     few_chars = omega (arith, h.few_chars);

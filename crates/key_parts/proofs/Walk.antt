@@ -104,7 +104,7 @@ module _ (bs : Bits) (lm lx : ℕ) (Y : ℕ → State → Ran) where
       let l = d.left z in
       record {
         steady = record { ok = z; inside = l.inside; small = h.small; narrow = h.narrow; in_table = a; few = b };
-        housed = λ x. record { above = omega (arith, l.used, x.above); nodes_fit = omega (arith, l.used, l.nodes, x.nodes_fit); in_nodes_lem = x.in_nodes_lem };
+        housed = λ x. record { above = omega (arith, l.used, x.above); nodes_fit = omega (arith, l.used, l.nodes, x.nodes_fit); in_nodes = x.in_nodes };
         spans = sp;
         base_same = refl;
         total = ap₂ (λ (x y : ℕ). x + y) l.used l.nodes;
@@ -123,7 +123,7 @@ module _ (bs : Bits) (lm lx : ℕ) (Y : ℕ → State → Ran) where
       let h = d.steady in
       record {
         steady = record { ok = h.ok; inside = h.inside; small = h.small; narrow = h.narrow; in_table = a; few = b };
-        housed = λ x. let y = d.housed x in record { above = y.above; nodes_fit = y.nodes_fit; in_nodes_lem = y.in_nodes_lem };
+        housed = λ x. let y = d.housed x in record { above = y.above; nodes_fit = y.nodes_fit; in_nodes = y.in_nodes };
         spans = d.spans;
         base_same = d.base_same;
         total = d.total;
@@ -221,7 +221,7 @@ module _ (bs : Bits) (lm lx : ℕ) (T : List ℕ) (steps : ℕ) (r : Row) (s : F
                     inside =
                         record {
                           in_key = d.inside;
-                          in_names_lem = h.inside.in_names_lem;
+                          in_names = h.inside.in_names;
                           in_text = h.inside.in_text;
                           few_names = h.inside.few_names;
                           few_chars = omega (arith, d.next o, h.inside.few_chars);
@@ -231,7 +231,7 @@ module _ (bs : Bits) (lm lx : ℕ) (T : List ℕ) (steps : ℕ) (r : Row) (s : F
                     in_table = d.in_table;
                     few = d.few;
                   };
-              housed = λ x. record { above = x.above; nodes_fit = x.nodes_fit; in_nodes_lem = x.in_nodes_lem };
+              housed = λ x. record { above = x.above; nodes_fit = x.nodes_fit; in_nodes = x.in_nodes };
               spans =
                   subst (λ (x : Form). Spans x (choices_wide - (s.shift + r.w))) (d.to o)
                   (subst (λ (x : ℕ). Spans (fs c.number) x) (less s.shift r.w) (spanned.1 c.number));

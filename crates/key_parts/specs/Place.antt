@@ -14,7 +14,7 @@ state_at bs lm lx p = state p.nodes (lm - p.names) (lx - p.chars) (drop p.bit bs
 -- A place inside the key, the names and the text.
 pub record Inside (bs : Bits) (lm lx : ℕ) (p : Pos) : Type 0 where
   pub in_key : p.bit ≤ length bs
-  pub in_names_lem : p.names ≤ lm
+  pub in_names : p.names ≤ lm
   pub in_text : p.chars ≤ lx
   pub few_names : p.names ≤ p.chars
   pub few_chars : p.chars * 8 ≤ p.bit

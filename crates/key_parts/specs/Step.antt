@@ -27,7 +27,7 @@ pub record Steady (bs : Bits) (lm lx : ℕ) (s : Fill) : Type 0 where
 pub record Housed (ln : ℕ) (s : Fill) : Type 0 where
   pub above : s.base ≤ s.at.used
   pub nodes_fit : (s.at.used + s.at.nodes + 1) * record_words ≤ ln
-  pub in_nodes_lem : s.child * record_words ≤ ln
+  pub in_nodes : s.child * record_words ≤ ln
 
 -- The walk at another place, with another first child.
 abbrev pub with_child : Fill → Pos → ℕ → Fill

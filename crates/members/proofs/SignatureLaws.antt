@@ -83,7 +83,7 @@ module _ (ts : Opt (List Placed)) (l : List Placed) (r : Opt Placed) (each-type 
       packed_list 5 0 l typed (leb-zero (length l)) each
       ∙ ap (λ (n : ℕ). length l + counts * n) (packed_maybe r done is_opt ∙ (let e : opt_bit r + 2 * 0 ≡ opt_bit r = omega arith in e))
 
-  module _ (t : Opt ThisParameter) (is_this_lem : IsThis t) where
+  module _ (t : Opt ThisParameter) (is_this : IsThis t) where
     -- A `this` before them.
     abbrev this : Run
     this = plant node_table (opt (opt (child 0))) (maybe_this (this_type t)) ends
@@ -104,7 +104,7 @@ module _ (ts : Opt (List Placed)) (l : List Placed) (r : Opt Placed) (each-type 
     signed_packed =
         packed_maybe_list 4 ts this each-type
         ∙ ap (λ (n : ℕ). opt_list (is_there ts) (count ts) + list_scale (is_there ts) * n)
-        (this_packed t ends is_this_lem ∙ ap (λ (n : ℕ). this_bits t + this_scale (this_bits t) * n) ends_packed)
+        (this_packed t ends is_this ∙ ap (λ (n : ℕ). this_bits t + this_scale (this_bits t) * n) ends_packed)
 
     -- A call signature.
     pub shape_call : Shape 6 2 (signature ts (this_type t) l r) (((runs_opt 4 ts ⊕ this_run false t) ⊕ runs 5 l) ⊕ run_opt 0 r)
@@ -176,13 +176,13 @@ module _ (W : List ℕ) (given : Given) (b : Begin) (head : ℕ) (there : Bool) 
     (over : (text O : List ℕ) (given : Given) → SaysStep (ends_member (given_of text W given) (view m O)) m O e O) where
   -- The member's end is refused.
   pub signature_stops : (e.why ≡ 0 → ⊥) → MakesSignature W given b head there many p isTyped m N e N
-  signature_stops stop text B x ts ps r M O d name_is head-is there_is many_is this_is count_is typed-is each-type is_this_lem each is_opt =
+  signature_stops stop text B x ts ps r M O d name_is head-is there_is many_is this_is count_is typed-is each-type is_this each is_opt =
       let g = given_of text W given in
       says_stop stop ((over text O given).refused stop (λ q. make g (count ts ∷ length ps.list ∷ []) (signature_node b.first (end g q) x ts ps r) q))
 
   -- It is passed, and some list is too long.
   pub signature_long : e.why ≡ 0 → ltb longest many or ltb longest p.count ≡ true → MakesSignature W given b head there many p isTyped m N (refused_at too_long e.m) N
-  signature_long go long text B x ts ps r M O d name_is head-is there_is many_is this_is count_is typed-is each-type is_this_lem each is_opt =
+  signature_long go long text B x ts ps r M O d name_is head-is there_is many_is this_is count_is typed-is each-type is_this each is_opt =
       let g = given_of text W given in
       says_refused 6
       ((over text O given).done go (λ q. make g (count ts ∷ length ps.list ∷ []) (signature_node b.first (end g q) x ts ps r) q)
@@ -192,7 +192,7 @@ module _ (W : List ℕ) (given : Given) (b : Begin) (head : ℕ) (there : Bool) 
   pub signature_put : {choices : ℕ} {a : Answer} {N' : List ℕ} → e.why ≡ 0 → ltb longest many or ltb longest p.count ≡ false
       → choices ≡ signature_choices head there many p.this.bits p.count isTyped → Makes W given b choices p.kids e.m N a N'
       → MakesSignature W given b head there many p isTyped m N a N'
-  signature_put go long choices_are makes text B x ts ps r M O d name_is head-is there_is many_is this_is count_is typed-is each-type is_this_lem each is_opt =
+  signature_put go long choices_are makes text B x ts ps r M O d name_is head-is there_is many_is this_is count_is typed-is each-type is_this each is_opt =
       let g = given_of text W given in
       let run : Run = (((names_run (signature_names x) ⊕ runs_opt 4 ts) ⊕ this_run (is_construct x) ps.this) ⊕ runs 5 ps.list) ⊕ run_opt 0 r in
       says_same
@@ -200,4 +200,4 @@ module _ (W : List ℕ) (given : Given) (b : Begin) (head : ℕ) (there : Bool) 
       ∙ none_long g (count ts) (length ps.list) _ (view e.m O) (rw (← many_is, ← count_is) long)
       ∙ ap (λ (t : Placed). make g [] t (view e.m O)) (node_is b.first (end g (view e.m O)) x ts ps r))
       (makes text 6 B run (start_sort (a_signature x)) (holds x ts ps r) M O (record { laid = (over text O given).kept go B run N M d.laid; first_is = d.first_is; high_is = d.high_is }) name_is
-      (rw (choices_are, head-is, there_is, many_is, this_is.bits, count_is) (shape_signature x ts ps r isTyped typed-is each-type is_this_lem each is_opt)))
+      (rw (choices_are, head-is, there_is, many_is, this_is.bits, count_is) (shape_signature x ts ps r isTyped typed-is each-type is_this each is_opt)))

@@ -194,7 +194,7 @@ module _ (text W : List ℕ) (given : Given) (T : Reader) (b : Begin) (m : Mark)
   sign_untyped makes =
       makes text B x ts got.what absent M O' (subst (λ (r : Run). BuiltAt B r p.kids m N M O') (sym
       (join_done (((names_run (signature_names x) ⊕ runs_opt 4 ts) ⊕ this_run (is_construct x) got.what.this) ⊕ runs 5 got.what.list))) built)
-      name_is head-is there_is many_is got.this_is got.count_is refl each got.is_this_lem got.each tt
+      name_is head-is there_is many_is got.this_is got.count_is refl each got.is_this got.each tt
 
   -- The return type is the last child, and the node is made of all.
   pub sign_typed : (f : Params) (r : Answer) {a : Answer} {z : Result Placed} {N₁ M₁ O₁ N₂ N₃ : List ℕ} (ret : Got 0 (was (next_mark m) N M O') z r.high r.m N₁ M₁ O₁)
@@ -205,4 +205,4 @@ module _ (text W : List ℕ) (given : Given) (T : Reader) (b : Begin) (m : Mark)
       (makes text B x ts got.what (present ret.tree) M₁ O₁
       (return_linked (((names_run (signature_names x) ⊕ runs_opt 4 ts) ⊕ this_run (is_construct x) got.what.this) ⊕ runs 5 got.what.list) m p f r built ret links same)
       name_is head-is there_is many_is (subst (λ (q : ThisCode). ThisIs q got.what.this) (sym links.2) got.this_is) (links.1 ∙ got.count_is)
-      refl each got.is_this_lem got.each ret.stands.is_node)
+      refl each got.is_this got.each ret.stands.is_node)

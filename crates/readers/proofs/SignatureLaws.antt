@@ -89,4 +89,4 @@ signature_node_lem text W given T h {p = p} f r {a} {B} ts {M₁ = M₁} {O₁ =
     (makes text T B ts got.what ret.tree M₁
     (return_linked ((runs_opt 4 ts ⊕ this_run h.is_new got.what.this) ⊕ runs 5 got.what.list) p.m p f r got.built ret links same)
     name_is there_is many_is (subst (λ (q : ThisCode). ThisIs q got.what.this) (sym links.2) got.this_is) (links.1 ∙ got.count_is)
-    each got.is_this_lem got.each ret.stands.is_node)
+    each got.is_this got.each ret.stands.is_node)

@@ -44,7 +44,7 @@ take_node-row_at-r-requires t c =
 
 pub take_node-append_node-requires : goal.take_node-append_node-requires
 take_node-append_node-requires t c =
-    let g = c.loop-depth.invariant.housed (start_housed (bits_of_bytes c.args.key.now) (length c.args.nodes.now) (length c.args.names.now) (length c.args.text.now) c.args.forms.now c.args.class c.args.p c.requires.1 c.word_at-steps.result c.word_at-steps.ensures.0 c.class_at-tags.result c.class_at-tags.ensures c.take_tag-tag.result c.take_tag-tag.ensures c.if-tag-ne0.false c.args.left (c.args.left - 1) (before_one c.args.left c.if-left-eq0.false) (c.args.p.nodes - 1) (before_one c.args.p.nodes c.if-p-eq0.false)) in (omega (arith, g.nodes_fit), omega arith, omega arith, omega (arith, g.in_nodes_lem, c.loop-depth.invariant.nodes_same, c.well_formed, c.ranges), omega (arith, c.requires.1.inside.few_names, c.requires.1.inside.few_chars, c.requires.1.inside.in_key, c.requires.0, length_bytes c.args.key.now))
+    let g = c.loop-depth.invariant.housed (start_housed (bits_of_bytes c.args.key.now) (length c.args.nodes.now) (length c.args.names.now) (length c.args.text.now) c.args.forms.now c.args.class c.args.p c.requires.1 c.word_at-steps.result c.word_at-steps.ensures.0 c.class_at-tags.result c.class_at-tags.ensures c.take_tag-tag.result c.take_tag-tag.ensures c.if-tag-ne0.false c.args.left (c.args.left - 1) (before_one c.args.left c.if-left-eq0.false) (c.args.p.nodes - 1) (before_one c.args.p.nodes c.if-p-eq0.false)) in (omega (arith, g.nodes_fit), omega arith, omega arith, omega (arith, g.in_nodes, c.loop-depth.invariant.nodes_same, c.well_formed, c.ranges), omega (arith, c.requires.1.inside.few_names, c.requires.1.inside.few_chars, c.requires.1.inside.in_key, c.requires.0, length_bytes c.args.key.now))
 
 pub take_node-overflow_add-result : goal.take_node-overflow_add-result
 take_node-overflow_add-result t c =
@@ -182,7 +182,7 @@ pub take_nodes-link_child-q-requires : goal.take_nodes-link_child-q-requires
 take_nodes-link_child-q-requires t c =
     let g = c.take_node-at.ensures.grown c.if-at-ne0.false in
     let o = kids_housed (bits_of_bytes c.args.key.now) (length c.args.names.now) (length c.args.text.now) (grammar_of c.args.forms.now) c.args.left c.args.r c.args.s c.args.nodes.now c.args.names.now c.args.text.now c.loop-i.invariant c.requires.2 in
-    (o.above, omega (arith, g.stored.used), omega (arith, g.total, o.nodes_fit, c.take_node-at.auto.nodes), omega (arith, o.in_nodes_lem, c.take_node-at.auto.nodes))
+    (o.above, omega (arith, g.stored.used), omega (arith, g.total, o.nodes_fit, c.take_node-at.auto.nodes), omega (arith, o.in_nodes, c.take_node-at.auto.nodes))
 
 pub take_nodes-take_after-q-requires : goal.take_nodes-take_after-q-requires
 take_nodes-take_after-q-requires t c =

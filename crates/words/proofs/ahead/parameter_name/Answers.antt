@@ -1,5 +1,4 @@
 -- A binding word by the table, or this.
--- A binding word by the table, or this.
 use mathlib.Core.Path.{ap, sym, ◌∙◌}
 use mathlib.Core.Bool.{Bool}
 use lib.Dec.{eqb}

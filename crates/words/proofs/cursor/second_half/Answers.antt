@@ -1,6 +1,4 @@
 -- Each arm of `cursor::second_half` is one case of the definition.
--- Each arm of `cursor::second_half` is one case of the definition.
--- Each arm of `cursor::second_half` is one case of the definition.
 use mathlib.Core.Path.{ap, sym}
 use borrow.Author.Tests.{ne_eqb}
 use Rattle.words.specs.Cursor.{second_half}

@@ -1,5 +1,4 @@
 -- The end of the token before, or the half that is used up.
--- The end of the token before, or the half that is used up.
 use mathlib.Core.Path.{ap, ◌∙◌}
 use Rattle.words.specs.Word as five
 use Rattle.words.proofs.Tests.{end_some, end_start, end_after}

@@ -1,5 +1,4 @@
 -- A whole token's kind, or what is left of it.
--- A whole token's kind, or what is left of it.
 use mathlib.Core.Path.{ap, sym, ◌∙◌}
 use Prim.Native.Nat.{ℕ}
 use Rattle.words.specs.Cursor as spec

@@ -1,5 +1,4 @@
 -- By the newline bit, or by the half that is used up.
--- By the newline bit, or by the half that is used up.
 use mathlib.Core.Path.{ap, sym, ◌∙◌}
 use Prim.Native.Nat.{ℕ}
 use lib.Dec.{eqb}
