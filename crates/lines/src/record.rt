@@ -70,6 +70,25 @@ pub fn load_words<R: Read>(from: &mut R, words: &mut [u64]) -> Result<(), Cut>
     Ok(())
 }
 
+// Shows each record of a reader by its head, at most a thousand million.
+pub fn each<R: Read, H: From<[u8; N]>, F: FnMut(&mut R, H) -> Result<(), Cut>, const N: usize>(
+    from: &mut R,
+    mut show: F,
+) -> Result<(), Cut>
+where
+    F: Drop,
+    requires size { N < 2 ^ 63 }
+    requires callable { F.IsAlwaysCallable show }
+{
+    for _ in 0..1_000_000_000 {
+        let Some(head) = head(from)? else {
+            break;
+        };
+        show(from, H::from(head))?;
+    }
+    Ok(())
+}
+
 // The file that the first argument names, open to be read; none where it cannot be, after a line that says so.
 pub fn opened<R: Env + Files>(rt: &R) -> Option<R::File> {
     let mut path = io::buffer();
