@@ -6,7 +6,7 @@ ghost use Rattle.std.specs.Io.KnownBytes.{Consumes};
 use crate::given::{complain, file};
 use crate::line::Out;
 use std::env::FillError;
-use std::io::Read;
+use std::io::{BufReader, Read};
 use std::rt::{Env, Files};
 
 // A record that the file cuts short, or that is too large.
@@ -71,8 +71,14 @@ pub fn load_words<R: Read>(from: &mut R, words: &mut [u64]) -> Result<(), Cut>
 }
 
 // Shows each record of a reader by its head, at most a thousand million.
-pub fn each<R: Read, H: From<[u8; N]>, F: FnMut(&mut R, H) -> Result<(), Cut>, const N: usize>(
+pub fn each<
+    R: Read,
+    H: From<[u8; N]>,
+    F: FnMut(&mut R, H, &mut Out) -> Result<(), Cut>,
+    const N: usize,
+>(
     from: &mut R,
+    out: &mut Out,
     mut show: F,
 ) -> Result<(), Cut>
 where
@@ -84,7 +90,7 @@ where
         let Some(head) = head(from)? else {
             break;
         };
-        show(from, H::from(head))?;
+        show(from, H::from(head), out)?;
     }
     Ok(())
 }
@@ -111,4 +117,29 @@ pub fn ended(out: &mut Out, run: Result<(), Cut>) {
         Ok(()) => out.flush(),
         Err(Cut) => out.cut(),
     }
+}
+
+// Runs a program over the records of the file that the first argument names.
+pub fn run<
+    R: Env + Files + AllocGlobal,
+    H: From<[u8; N]>,
+    F: FnMut(&mut BufReader<R::File>, H, &mut Out) -> Result<(), Cut>,
+    const N: usize,
+>(
+    rt: &R,
+    show: F,
+) -> std::io::Result<()>
+where
+    F: Drop,
+    requires size { N < 2 ^ 63 }
+    requires callable { F.IsAlwaysCallable show }
+{
+    let Some(file) = opened(rt) else {
+        return Ok(());
+    };
+    let mut file = BufReader::new(rt.alloc(), file)?;
+    let mut out = Out::new();
+    let run = each(&mut file, &mut out, show);
+    ended(&mut out, run);
+    Ok(())
 }
