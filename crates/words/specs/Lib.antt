@@ -7,3 +7,4 @@ pub mod Spelling
 pub mod Check
 pub mod Cursor
 pub mod Ahead
+pub mod Refusal

@@ -5,5 +5,6 @@ pub mod ahead;
 pub mod cursor;
 pub mod kind;
 pub mod limits;
+pub mod refusal;
 mod tables;
 pub mod token;
