@@ -5,134 +5,63 @@
 #![tactic(auto)]
 
 mod answer;
-mod record;
-mod sum;
+mod head;
 
-ghost use Rattle.std.specs.Prelude.{◌<◌, ◌≤◌, length};
+use crate::answer::Lent;
+use crate::head::Head;
+use lines::line::Out;
+use lines::record::{self, Cut};
+use lines::room::{self, lent};
+use std::alloc::{AllocError, Global};
+use std::io::{self, BufReader, Read};
 
-use crate::record::Rooms;
-use lines::{line, room};
-use std::fs::File;
-
-// A record's line, by the first part of each buffer.
-fn lent(
-    out: &mut [u8; 65536],
-    at: usize,
-    op: u8,
-    rooms: Rooms,
-    key: &[u8],
-    nodes: &mut [u64],
-    names: &mut [u64],
-    text: &mut [u8],
-    again: &mut [u8],
-) -> usize
-    requires at_bound { (at < 65536) × (rooms.again ≤ 262146) × (rooms.key ≤ length key.now) }
-    requires nodes_in_bounds { (rooms.nodes ≤ length nodes.old) × (rooms.names ≤ length names.old) × (rooms.text ≤ length text.old) × (rooms.again ≤ length again.old) }
-    ensures { result < 65536 }
-{
-    answer::answer(
-        out,
-        at,
-        op,
-        &key[..rooms.key],
-        &mut nodes[..rooms.nodes],
-        &mut names[..rooms.names],
-        &mut text[..rooms.text],
-        &mut again[..rooms.again],
-    )
+// Room for the largest record.
+#[derive(Drop)]
+struct Rooms {
+    key: Vec<u8>,
+    nodes: Vec<u64>,
+    names: Vec<u64>,
+    text: Vec<u8>,
+    again: Vec<u8>,
 }
 
-// Whether there is room for a record and its key is there: it then begins its buffer.
-fn loaded(file: &mut File, rooms: Rooms, key: &mut [u8; 262146]) -> bool
-    requires { rooms.key ≤ 262146 }
-{
-    if !rooms.fit {
-        return false;
+impl Rooms {
+    fn new(alloc: Global) -> Result<Rooms, AllocError> {
+        Ok(Rooms {
+            key: vec![in alloc; 0; room::KEY]?,
+            nodes: vec![in alloc; 0; room::NODES]?,
+            names: vec![in alloc; 0; room::WORDS - 1]?,
+            text: vec![in alloc; 0; room::LETTERS]?,
+            again: vec![in alloc; 0; room::KEY]?,
+        })
     }
-    lines::record::load(file, key, rooms.key)
 }
 
-// A record after its head: its key is read, and its line goes to the buffer.
-fn shown(
-    file: &mut File,
-    head: &[u8; 21],
-    out: &mut [u8; 65536],
-    at: usize,
-    key: &mut [u8; 262146],
-    nodes: &mut [u64; 838860],
-    names: &mut [u64; 16384],
-    text: &mut [u8; 131072],
-    again: &mut [u8; 262146],
-) -> usize
-    requires { at < 65536 }
-    ensures { result ≤ 65536 }
-{
-    let rooms = record::lent_by(head);
-    if !loaded(file, rooms, key) {
-        return line::cut(out, at);
-    }
-    let end = lent(out, at, head[0], rooms, key, nodes, names, text, again);
-    line::byte(out, end, b'\n')
+// A record after its head: its key is read, and its line is gathered.
+fn shown<R: Read>(file: &mut R, head: Head, rooms: &mut Rooms, out: &mut Out) -> Result<(), Cut> {
+    let key = lent(&mut rooms.key, head.key)?;
+    let mut given = Lent {
+        nodes: lent(&mut rooms.nodes, head.nodes)?,
+        names: lent(&mut rooms.names, head.names)?,
+        text: lent(&mut rooms.text, head.text)?,
+        again: lent(&mut rooms.again, head.again)?,
+    };
+    record::load(file, key)?;
+    given.answer(out, head.op, key);
+    out.byte(b'\n');
+    Ok(())
 }
 
-// The next record. After the last, and after one that is cut, the place given back is the buffer's length.
-fn turn(
-    file: &mut File,
-    out: &mut [u8; 65536],
-    at: usize,
-    key: &mut [u8; 262146],
-    nodes: &mut [u64; 838860],
-    names: &mut [u64; 16384],
-    text: &mut [u8; 131072],
-    again: &mut [u8; 262146],
-) -> usize
-    requires { at < 65536 }
-    ensures { result ≤ 65536 }
-{
-    let mut head = [0u8; 21];
-    let got = lines::record::filled(file, &mut head);
-    if got < 21 {
-        return lines::record::stopped(out, at, got);
-    }
-    shown(file, &head, out, at, key, nodes, names, text, again)
-}
-
-// The records of a file, at most a thousand million.
-fn records(
-    file: &mut File,
-    out: &mut [u8; 65536],
-    key: &mut [u8; 262146],
-    nodes: &mut [u64; 838860],
-    names: &mut [u64; 16384],
-    text: &mut [u8; 131072],
-    again: &mut [u8; 262146],
-) {
-    let mut at: usize = 0;
-    let mut left: usize = 1_000_000_000;
-    while 0 < left {
-        at = turn(file, out, at, key, nodes, names, text, again);
-        if 65536 <= at {
-            return;
-        }
-        left -= 1;
-    }
-    line::flush(out, at);
-}
-
-fn run(file: &mut File) {
-    let mut out = io::large_buffer();
-    let mut key = room::key_room();
-    let mut nodes = room::node_room();
-    let mut names = record::name_room();
-    let mut text = room::letter_room();
-    let mut again = room::key_room();
-    records(
-        file, &mut out, &mut key, &mut nodes, &mut names, &mut text, &mut again,
-    );
-}
-
-fn main(rt: HostRuntime) {
-    if let Some(mut file) = lines::record::opened(&rt) {
-        run(&mut file);
-    }
+fn main(rt: HostRuntime) -> io::Result<()> {
+    let Some(file) = record::opened(&rt) else {
+        return Ok(());
+    };
+    let mut file = BufReader::new(rt.alloc(), file)?;
+    let mut rooms = Rooms::new(rt.alloc())?;
+    let mut out = Out::new();
+    let run = record::each(&mut file, |file, head| {
+        shown(file, head, &mut rooms, &mut out)
+    });
+    record::ended(&mut out, run);
+    Ok(())
 }

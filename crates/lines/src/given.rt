@@ -1,5 +1,5 @@
 // What a program is given: its arguments, and the files that they name. What is not to be had is said on standard error.
-ghost use Rattle.std.specs.Prelude.{◌≡◌, ◌<◌, ◌≤◌, length};
+ghost use Rattle.std.specs.Prelude.{◌≡◌, ◌-◌, ◌<◌, ◌≤◌, length};
 ghost use Rattle.io.specs.Counts.{IsPrefixLen};
 
 use std::fs;
@@ -22,18 +22,12 @@ pub fn complain(what: &[u8], why: &[u8]) {
     io::write_all(2, b"\n");
 }
 
-// How much of a text comes before the last `(` and the blank there: of an error's text, all but the system's number.
-fn message(text: &[u8]) -> usize
-    ensures { result ≤ length text.now }
-{
-    let mut i = text.len();
-    while 1 < i {
-        i -= 1;
-        if text[i] == b'(' {
-            return i - 1;
-        }
+// Of an error's text, all but the system's number: what comes before the last `(` and the blank there.
+fn message(text: &[u8]) -> &[u8] {
+    match text.iter().rposition(|b| *b == b'(') {
+        Some(i) if 0 < i => &text[..i - 1],
+        _ => text,
     }
-    text.len()
 }
 
 // The same of an error of the system.
@@ -42,23 +36,16 @@ fn fail(what: &[u8], error: &Error) {
     let _ = write!(text, "{error}");
     let end = text.position().min(256) as usize;
     let room = text.into_inner();
-    let n = message(&room[..end]);
-    complain(what, &room[..n]);
+    complain(what, message(&room[..end]));
 }
 
 // The file that a path names, open to be read; none where it cannot be opened, after a line that says why.
 pub fn file<R: Files>(rt: &R, path: &[u8]) -> Option<R::File> {
-    match from_utf8(path) {
-        Ok(name) => match fs::open(rt, name) {
-            Ok(file) => Some(file),
-            Err(error) => {
-                fail(path, &error);
-                None
-            }
-        },
-        Err(_) => {
-            complain(path, b"Invalid or incomplete multibyte or wide character");
-            None
-        }
-    }
+    let Ok(name) = from_utf8(path) else {
+        complain(path, b"Invalid or incomplete multibyte or wide character");
+        return None;
+    };
+    fs::open(rt, name)
+        .inspect_err(|error| fail(path, error))
+        .ok()
 }

@@ -5,6 +5,7 @@ ghost use Rattle.std.specs.Prelude.{◌≡◌, ◌<◌, length};
 const ROOM: usize = 65536;
 
 // Bytes on their way to standard output. There is always room for one more.
+#[derive(Drop)]
 pub struct Out {
     buffer: [u8; ROOM],
     len: usize,

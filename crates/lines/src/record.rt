@@ -1,48 +1,23 @@
 // The records of a file: their bytes, numbers of four and eight bytes, lowest first, and how a run ends.
-ghost use Rattle.std.specs.Prelude.{◌≡◌, ◌+◌, ◌*◌, ◌^◌, ◌<◌, ◌≤◌, length, take, IsTrue};
+ghost use Rattle.std.specs.Prelude.{◌≡◌, ◌+◌, ◌*◌, ◌^◌, ◌<◌, ◌≤◌, length, take, [], OnOk, IfOk, MatchOption};
 ghost use Rattle.io.specs.Counts.{IsPrefixLen};
 ghost use Rattle.std.specs.Io.KnownBytes.{Consumes};
 
 use crate::given::{complain, file};
-use crate::line::{cut, flush};
+use crate::line::Out;
 use std::env::FillError;
 use std::io::Read;
 use std::rt::{Env, Files};
 
-// A byte as a number.
-fn wide(b: u8) -> usize
-    ensures { result < 256 }
-{
-    b as usize
-}
+// A record that the file cuts short, or that is too large.
+#[derive(Clone, Copy)]
+pub struct Cut;
 
 // A number of four bytes.
-pub fn four(bytes: &[u8], i: usize) -> usize
+pub fn four(bytes: &[u8], i: usize) -> u32
     requires { i + 4 ≤ length bytes.now }
-    ensures { result < 2 ^ 32 }
 {
-    let low = wide(bytes[i]) + 0x100 * wide(bytes[i + 1]);
-    let high = wide(bytes[i + 2]) + 0x100 * wide(bytes[i + 3]);
-    low + 0x1_0000 * high
-}
-
-// A word of eight bytes.
-fn eight(bytes: &[u8], i: usize) -> u64
-    requires { i + 8 ≤ length bytes.now }
-{
-    (four(bytes, i) + 0x1_0000_0000 * four(bytes, i + 4)) as u64
-}
-
-// n words out of their bytes.
-pub fn fill(bytes: &[u8], words: &mut [u64], n: usize)
-    requires { (8 * n ≤ length bytes.now) × (n ≤ length words.old) }
-    ensures { IsPrefixLen n words.new }
-{
-    let mut i: usize = 0;
-    while i < n {
-        words[i] = eight(bytes, 8 * i);
-        i += 1;
-    }
+    u32::from_le_bytes([bytes[i], bytes[i + 1], bytes[i + 2], bytes[i + 3]])
 }
 
 // Fills a buffer from a reader, and gives back how many bytes it put there: fewer where the reader ends or fails.
@@ -53,21 +28,65 @@ pub fn filled<R: Read>(from: &mut R, bytes: &mut [u8]) -> usize
     let mut done = 0;
     while done < bytes.len() {
         match from.read(&mut bytes[done..]) {
-            Ok(0) => return done,
+            Ok(0) | Err(_) => break,
             Ok(n) => done += n,
-            Err(_) => return done,
         }
     }
     done
 }
 
-// Whether the next n bytes of a reader are there: they then begin the buffer.
-pub fn load<R: Read>(from: &mut R, bytes: &mut [u8], n: usize) -> bool
-    requires { n ≤ length bytes.old }
-    ensures in_bounds { IsPrefixLen n bytes.new }
-    ensures read { IsTrue result → Consumes (R.remaining from.old) (R.remaining from.new) (take n bytes.new) }
+// The head of the next record; none where the reader has no more.
+pub fn head<R: Read, const N: usize>(from: &mut R) -> Result<Option<[u8; N]>, Cut>
+    ensures { IfOk result (λ o. MatchOption o (Consumes (R.remaining from.old) (R.remaining from.new) []) (λ h. Consumes (R.remaining from.old) (R.remaining from.new) h)) }
 {
-    filled(from, &mut bytes[..n]) == n
+    let mut head = [0u8; N];
+    match filled(from, &mut head) {
+        0 => Ok(None),
+        n if n < N => Err(Cut),
+        _ => Ok(Some(head)),
+    }
+}
+
+// A buffer of the next bytes of a reader.
+pub fn load<R: Read>(from: &mut R, bytes: &mut [u8]) -> Result<(), Cut>
+    ensures len { length bytes.new ≡ length bytes.old }
+    ensures read { OnOk result (Consumes (R.remaining from.old) (R.remaining from.new) bytes.new) }
+{
+    if filled(from, bytes) < bytes.len() {
+        return Err(Cut);
+    }
+    Ok(())
+}
+
+// The next words of a reader, each of eight bytes.
+pub fn load_words<R: Read>(from: &mut R, words: &mut [u64]) -> Result<(), Cut>
+    ensures { length words.new ≡ length words.old }
+{
+    let mut eight = [0u8; 8];
+    for word in words {
+        load(from, &mut eight)?;
+        *word = u64::from_le_bytes(eight);
+    }
+    Ok(())
+}
+
+// Shows each record of a reader by its head, at most a thousand million.
+pub fn each<R: Read, H: From<[u8; N]>, F: FnMut(&mut R, H) -> Result<(), Cut>, const N: usize>(
+    from: &mut R,
+    mut show: F,
+) -> Result<(), Cut>
+where
+    F: Drop,
+    requires size { N < 2 ^ 63 }
+    requires callable { F.IsAlwaysCallable show }
+{
+    for _ in 0..1_000_000_000 {
+        let Some(head) = head(from)? else {
+            break;
+        };
+        show(from, H::from(head))?;
+    }
+    Ok(())
 }
 
 // The file that the first argument names, open to be read; none where it cannot be, after a line that says so.
@@ -86,27 +105,10 @@ pub fn opened<R: Env + Files>(rt: &R) -> Option<R::File> {
     }
 }
 
-// A number, or the most there is room for.
-pub fn least(n: usize, most: usize) -> usize
-    ensures { (result ≤ n) × (result ≤ most) }
-{
-    if n < most { n } else { most }
-}
-
-// 1 where a number is more than there is room for.
-pub fn over(n: usize, most: usize) -> usize
-    ensures { result ≤ 1 }
-{
-    if most < n { 1 } else { 0 }
-}
-
-// The end of a run by how many bytes of a record's head are left: none, or too few.
-pub fn stopped(out: &mut [u8; 65536], at: usize, got: usize) -> usize
-    requires { at < 65536 }
-    ensures { result ≡ 65536 }
-{
-    if got == 0 {
-        return flush(out, at);
+// What is gathered goes out at the end of a run, after a line where a record is cut.
+pub fn ended(out: &mut Out, run: Result<(), Cut>) {
+    match run {
+        Ok(()) => out.flush(),
+        Err(Cut) => out.cut(),
     }
-    cut(out, at)
 }

@@ -1,37 +1,37 @@
 // Room for the largest record.
-ghost use Rattle.std.specs.Prelude.{◌≡◌, length};
+ghost use Rattle.std.specs.Prelude.{◌≡◌, length, IfOk};
 
-// The bytes of 16,385 words.
-pub fn word_bytes() -> [u8; 131080]
-    ensures { 131080 ≡ length result }
-{
-    [0; 131080]
-}
+use crate::record::Cut;
 
-// One word more than a list may have.
-pub fn word_room() -> [u64; 16385]
-    ensures { 16385 ≡ length result }
-{
-    [0; 16385]
-}
+// How many words there is room for: one more than a list may have.
+pub const WORDS: usize = 16385;
 
 // The words of as many nodes as a key may have, of ten bits each.
-pub fn node_room() -> [u64; 838860]
-    ensures { 838860 ≡ length result }
-{
-    [0; 838860]
-}
+pub const NODES: usize = 838860;
 
 // Two bytes more than a key may have.
-pub fn key_room() -> [u8; 262146]
-    ensures { 262146 ≡ length result }
-{
-    [0; 262146]
-}
+pub const KEY: usize = 262146;
 
 // Bytes for the spellings of a key that is taken back, or for the longest argument that there can be.
-pub fn letter_room() -> [u8; 131072]
+pub const LETTERS: usize = 131072;
+
+// Words for the longest list.
+pub fn word_room() -> [u64; WORDS]
+    ensures { 16385 ≡ length result }
+{
+    [0; WORDS]
+}
+
+// Bytes for all spellings.
+pub fn letter_room() -> [u8; LETTERS]
     ensures { 131072 ≡ length result }
 {
-    [0; 131072]
+    [0; LETTERS]
+}
+
+// The first part of a room, as long as a record asks for, unless that is too large.
+pub fn lent<T>(room: &mut [T], asked: u32) -> Result<&mut [T], Cut>
+    ensures { IfOk result (λ part. length part.now ≡ asked) }
+{
+    room.get_mut(..asked as usize).ok_or(Cut)
 }

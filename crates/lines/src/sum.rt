@@ -1,115 +1,91 @@
-// Whole buffers of words and of bytes: filled with dirt, summed up, compared.
-ghost use Rattle.std.specs.Prelude.{◌≡◌, ◌<◌, ◌≤◌, length};
+// Buffers of words and of bytes: filled with dirt, summed up, compared with a key.
+ghost use Rattle.std.specs.Prelude.{◌≡◌, ◌<◌, length};
 
 // The largest prime below 2^32: sums are numbers below it.
 const PRIME: u64 = 4294967291;
 
-// All bits of each word set.
-pub fn dirty_words(words: &mut [u64]) {
-    let mut i: usize = 0;
-    while i < words.len() {
-        words[i] = 18446744073709551615;
-        i += 1;
+// Numbers one after the other as one number.
+#[derive(Clone, Copy)]
+pub struct Sum {
+    value: u64,
+    ghost below_prime: { value < 4294967291 },
+}
+
+// What can be summed up.
+pub trait Summed: Copy {
+    // The sum with this one more.
+    fn onto(self, sum: Sum) -> Sum;
+}
+
+// A byte is one number.
+impl Summed for u8 {
+    fn onto(self, sum: Sum) -> Sum {
+        sum.more(u32::from(self))
     }
 }
 
-// A sum with one number more: 1,000,003 times the sum, and the number.
-fn more(sum: u64, x: u64) -> u64
-    requires { (sum < 4294967291) × (x < 4294967296) }
-    ensures { result < 4294967291 }
-{
-    (sum * 1000003 + x) % PRIME
-}
-
-// A sum with a word more: its lower half, then its upper.
-fn more_word(sum: u64, x: u64) -> u64
-    requires { sum < 4294967291 }
-    ensures { result < 4294967291 }
-{
-    let low = more(sum, x % 4294967296);
-    more(low, x / 4294967296)
-}
-
-// The words one after the other as one number.
-pub fn of_words(words: &[u64], from: u64) -> u64
-    requires { from < 4294967291 }
-    ensures { result < 4294967291 }
-{
-    let mut sum = from;
-    let mut i: usize = 0;
-    while i < words.len() {
-        sum = more_word(sum, words[i]);
-        i += 1;
-    }
-    sum
-}
-
-// All bits of each byte set.
-pub fn dirty_bytes(bytes: &mut [u8]) {
-    let mut i: usize = 0;
-    while i < bytes.len() {
-        bytes[i] = 255;
-        i += 1;
+// A word is two: its lower half, then its upper.
+impl Summed for u64 {
+    fn onto(self, sum: Sum) -> Sum {
+        let low = (self % 4294967296) as u32;
+        let high = (self / 4294967296) as u32;
+        sum.more(low).more(high)
     }
 }
 
-fn wide(b: u8) -> u64
-    ensures { result < 256 }
-{
-    b as u64
-}
-
-// The bytes one after the other as one number.
-pub fn of_bytes(bytes: &[u8], from: u64) -> u64
-    requires { from < 4294967291 }
-    ensures { result < 4294967291 }
-{
-    let mut sum = from;
-    let mut i: usize = 0;
-    while i < bytes.len() {
-        sum = more(sum, wide(bytes[i]));
-        i += 1;
+impl Sum {
+    // No number yet.
+    pub fn new() -> Sum {
+        Sum { value: 1 }
     }
-    sum
-}
 
-// Whether a buffer begins with the bytes of a key.
-pub fn begins(bytes: &[u8], key: &[u8]) -> bool {
-    if bytes.len() < key.len() {
-        return false;
-    }
-    let mut i: usize = 0;
-    while i < key.len() {
-        if bytes[i] != key[i] {
-            return false;
+    // With one number more: 1,000,003 times the sum, and the number.
+    fn more(self, x: u32) -> Sum {
+        Sum {
+            value: (self.value * 1000003 + u64::from(x)) % PRIME,
         }
-        i += 1;
     }
-    true
+
+    // With bytes or words more.
+    pub fn with<T: Summed>(self, numbers: &[T]) -> Sum {
+        let mut sum = self;
+        for x in numbers {
+            sum = x.onto(sum);
+        }
+        sum
+    }
+
+    // The sum as a word.
+    pub fn word(self) -> u64
+        ensures { result < 4294967291 }
+    {
+        self.value
+    }
+}
+
+// The bytes or words one after the other as one number.
+pub fn of<T: Summed>(numbers: &[T]) -> u64
+    ensures { result < 4294967291 }
+{
+    Sum::new().with(numbers).word()
 }
 
 // Whether what was written, of so many bytes, is the key.
 pub fn is_key(again: &[u8], size: usize, key: &[u8]) -> bool {
-    if size != key.len() {
-        return false;
-    }
-    begins(again, key)
+    again.get(..size) == Some(key)
 }
 
 // All that a key taken back and written again is lent is dirty.
 pub fn dirty(nodes: &mut [u64], names: &mut [u64], letters: &mut [u8], again: &mut [u8]) {
-    dirty_words(nodes);
-    dirty_words(names);
-    dirty_bytes(letters);
-    dirty_bytes(again);
+    nodes.fill(u64::MAX);
+    names.fill(u64::MAX);
+    letters.fill(u8::MAX);
+    again.fill(u8::MAX);
 }
 
 // The last node of so many: the root.
 pub fn root(count: usize) -> usize
     ensures { result < 4294967296 }
 {
-    if count == 0 {
-        return 0;
-    }
-    (count - 1) % 4294967296
+    count.saturating_sub(1) % 4294967296
 }

@@ -14,14 +14,20 @@ pub enum Form {
     All,
 }
 
-// What is read; a number is that of the argument that holds it or names it.
+// Where a text stands: in the argument of a number, in the file that this names, on standard input.
 #[derive(Clone, Copy, Debug, PartialEq, Eq)]
-pub enum Source {
+pub enum Place {
     Argument(usize),
     File(usize),
     Input,
+}
+
+// What is read: one type or key, a type a line, or the two arguments that hold two keys or types.
+#[derive(Clone, Copy, Debug, PartialEq, Eq)]
+pub enum Source {
+    Type(Place),
+    Key(Place),
     Lines,
-    Key(usize),
     Keys(usize, usize),
     Types(usize, usize),
     Help,
@@ -160,7 +166,7 @@ const OPTIONS: [(&str, Choice); 16] = [
     ("--room", Choice::Take(Value::Room)),
     ("--space", Choice::Take(Value::Space)),
     ("--", Choice::TextsFollow),
-    ("-", Choice::Read(Source::Input)),
+    ("-", Choice::Read(Source::Type(Place::Input))),
     ("--diff", Choice::Take(Value::Keys)),
     ("--diff-types", Choice::Take(Value::Types)),
 ];
@@ -200,6 +206,14 @@ fn number(word: &[u8]) -> Option<usize> {
         n = n * 10 + usize::from(b - b'0');
     }
     Some(n)
+}
+
+// Where a key stands that an argument gives: a single `-` says standard input.
+fn place_of(i: usize, word: &[u8]) -> Place {
+    match word {
+        b"-" => Place::Input,
+        _ => Place::Argument(i),
+    }
 }
 
 // ---- The arguments
@@ -260,8 +274,8 @@ impl Asking {
     // The value that an option waits for.
     fn value(&mut self, w: Waiting, i: usize, word: &[u8]) -> Result<(), Wrong> {
         match w.value {
-            Value::File => self.read(Source::File(i), i)?,
-            Value::Key => self.read(Source::Key(i), i)?,
+            Value::File => self.read(Source::Type(Place::File(i)), i)?,
+            Value::Key => self.read(Source::Key(place_of(i, word)), i)?,
             Value::Room => self.room = number(word).ok_or(Wrong::Number(i))?,
             Value::Space => self.space = number(word).ok_or(Wrong::Number(i))?,
             Value::Keys => self.second(w, Value::SecondKey(i)),
@@ -280,12 +294,12 @@ impl Asking {
     // A word that no option waits for.
     fn word(&mut self, i: usize, word: &[u8]) -> Result<(), Wrong> {
         if self.only_texts {
-            return self.read(Source::Argument(i), i);
+            return self.read(Source::Type(Place::Argument(i)), i);
         }
         match option_of(word) {
             Some(choice) => self.option(choice, i),
             None if word.starts_with(b"--") => Err(Wrong::Unknown(i)),
-            None => self.read(Source::Argument(i), i),
+            None => self.read(Source::Type(Place::Argument(i)), i),
         }
     }
 

@@ -1,151 +1,137 @@
 // What each op prints.
-ghost use Rattle.std.specs.Prelude.{◌≡◌, ◌<◌, ◌≤◌, ◌^◌, length};
-ghost use Rattle.words.specs.Class.{class_words};
+ghost use Rattle.std.specs.Prelude.{◌≡◌, ◌<◌, ◌≤◌, ◌^◌};
 
 use checks::check::{Checked, check};
-use lines::line::{bytes, next, number, three};
+use lines::line::Out;
+use lines::record::four;
 use words::ahead::{FunctionStart, function_start, mapped_start, starter};
 use words::cursor::Cursor;
-use words::kind::in_class;
+use words::kind::{class_words, in_class};
 use words::token;
 
-fn bit(b: bool) -> u64 {
-    if b { 1 } else { 0 }
+// What a record's head says: op, two numbers, the text's length and the number of words.
+#[derive(Clone, Copy)]
+pub struct Head {
+    pub op: u8,
+    pub a: u32,
+    pub b: u32,
+    pub text: u32,
+    pub words: u32,
 }
 
-// `sound`, or the refusal's number and place.
-fn checked(out: &mut [u8; 65536], at: usize, c: Checked) -> usize
-    requires { at < 65536 }
-    ensures { result < 65536 }
-{
-    match c {
-        Checked::Sound => bytes(out, at, b"sound"),
-        Checked::BadList => pair(out, at, 1, 0),
-        Checked::BadToken(i) => pair(out, at, 2, i),
+impl From<[u8; 17]> for Head {
+    fn from(bytes: [u8; 17]) -> Head {
+        Head {
+            op: bytes[0],
+            a: four(&bytes, 1),
+            b: four(&bytes, 5),
+            text: four(&bytes, 9),
+            words: four(&bytes, 13),
+        }
     }
+}
+
+impl Head {
+    // A cursor at a token, or at its second half.
+    fn cursor(&self) -> Cursor
+        ensures { (result.at < 2 ^ 32) × (result.half ≤ 1) }
+    {
+        Cursor {
+            at: self.a as usize,
+            half: usize::from(self.b != 0),
+        }
+    }
+}
+
+// 1 for yes, and 0 for no.
+fn bit(out: &mut Out, b: bool) {
+    out.number(u64::from(b));
 }
 
 // Two numbers.
-fn pair(out: &mut [u8; 65536], at: usize, first: u64, second: usize) -> usize
-    requires { at < 65536 }
-    ensures { result < 65536 }
-{
-    let p = number(out, at, first);
-    next(out, p, second as u64)
+fn pair(out: &mut Out, first: u64, second: usize) {
+    out.number(first);
+    out.next(second as u64);
+}
+
+// `sound`, or the refusal's number and place.
+fn checked(out: &mut Out, c: Checked) {
+    match c {
+        Checked::Sound => out.bytes(b"sound"),
+        Checked::BadList => pair(out, 1, 0),
+        Checked::BadToken(i) => pair(out, 2, i),
+    }
 }
 
 // The seven classes of a kind, in the order of their bits.
-fn classes_of(out: &mut [u8; 65536], at: usize, classes: &[u16; 256], kind: usize) -> usize
-    requires { (at < 65536) × (classes.now ≡ class_words) × (kind < 256) }
-    ensures { result < 65536 }
-{
-    let mut p = number(out, at, bit(in_class(classes, kind, 0)));
-    let mut class = 1;
-    while class < 7 {
-        p = next(out, p, bit(in_class(classes, kind, class)));
-        class += 1;
+fn classes_of(out: &mut Out, kind: u8) {
+    let classes = class_words();
+    for class in 0..7 {
+        if 0 < class {
+            out.byte(b' ');
+        }
+        bit(out, in_class(&classes, usize::from(kind), class));
     }
-    p
 }
 
 // The number of the case, by its place in the enum from 1 and 0 for none, and the index that it holds or 0.
-fn function_case(out: &mut [u8; 65536], at: usize, start: FunctionStart) -> usize
-    requires { at < 65536 }
-    ensures { result < 65536 }
-{
+fn function_case(out: &mut Out, start: FunctionStart) {
     match start {
-        FunctionStart::TypeParameters => pair(out, at, 1, 0),
-        FunctionStart::New => pair(out, at, 2, 0),
-        FunctionStart::AbstractNew => pair(out, at, 3, 0),
-        FunctionStart::Empty => pair(out, at, 4, 0),
-        FunctionStart::Rest => pair(out, at, 5, 0),
-        FunctionStart::Parameter(j) => pair(out, at, 6, j),
-        FunctionStart::LoneParameter(j) => pair(out, at, 7, j),
-        FunctionStart::Nothing => pair(out, at, 0, 0),
+        FunctionStart::TypeParameters => pair(out, 1, 0),
+        FunctionStart::New => pair(out, 2, 0),
+        FunctionStart::AbstractNew => pair(out, 3, 0),
+        FunctionStart::Empty => pair(out, 4, 0),
+        FunctionStart::Rest => pair(out, 5, 0),
+        FunctionStart::Parameter(j) => pair(out, 6, j),
+        FunctionStart::LoneParameter(j) => pair(out, 7, j),
+        FunctionStart::Nothing => pair(out, 0, 0),
     }
 }
 
 // Kind, same line, first byte and end byte at a cursor, and the cursor one step further.
-fn cursor_facts(out: &mut [u8; 65536], at: usize, words: &[u64], c: Cursor) -> usize
-    requires { (at < 65536) × (c.half ≤ 1) × (c.at < 2 ^ 32) }
-    ensures { result < 65536 }
+fn cursor_facts(out: &mut Out, words: &[u64], c: Cursor)
+    requires { (c.half ≤ 1) × (c.at < 2 ^ 32) }
 {
-    let p = number(out, at, c.kind(words) as u64);
-    let q = next(out, p, bit(c.same_line(words)));
-    let r = next(out, q, c.first_byte(words) as u64);
-    let s = next(out, r, c.end_byte(words) as u64);
-    after(out, s, c.step())
-}
-
-// A cursor.
-fn after(out: &mut [u8; 65536], at: usize, c: Cursor) -> usize
-    requires { at < 65536 }
-    ensures { result < 65536 }
-{
-    let p = next(out, at, c.at as u64);
-    next(out, p, c.half as u64)
+    out.number(c.kind(words) as u64);
+    out.next(u64::from(c.same_line(words)));
+    out.next(c.first_byte(words) as u64);
+    out.next(c.end_byte(words) as u64);
+    let after = c.step();
+    out.next(after.at as u64);
+    out.next(after.half as u64);
 }
 
 // The five fields of a word, and the word made of them again.
-fn fields(out: &mut [u8; 65536], at: usize, word: u64) -> usize
-    requires { at < 65536 }
-    ensures { result < 65536 }
-{
+fn fields(out: &mut Out, word: u64) {
     let kind = token::kind(word) as u64;
     let newline = token::newline(word) as u64;
     let zeros = token::zeros(word) as u64;
     let length = token::length(word) as u64;
     let start = token::start(word) as u64;
-    let p = three(out, at, kind, newline, zeros);
+    out.three(kind, newline, zeros);
     let again = token::word(kind, newline, zeros, length, start);
-    three(out, p, length, start, again)
+    out.three(length, start, again);
 }
 
 // How many words there are, and each word's fields.
-fn all_fields(out: &mut [u8; 65536], at: usize, words: &[u64]) -> usize
-    requires { at < 65536 }
-    ensures { result < 65536 }
-{
-    let mut p = number(out, at, words.len() as u64);
-    let mut i = 0;
-    while i < words.len() {
-        p = fields(out, p, words[i]);
-        i += 1;
+fn all_fields(out: &mut Out, words: &[u64]) {
+    out.number(words.len() as u64);
+    for word in words {
+        fields(out, *word);
     }
-    p
 }
 
 // A record's answer, without the line's end.
-pub fn answer(
-    out: &mut [u8; 65536],
-    at: usize,
-    op: u8,
-    a: usize,
-    b: usize,
-    text: &[u8],
-    words: &[u64],
-    classes: &[u16; 256],
-) -> usize
-    requires { (at < 65536) × (a < 2 ^ 32) × (classes.now ≡ class_words) }
-    ensures { result < 65536 }
-{
-    match op {
-        0 => checked(out, at, check(text, words, a)),
-        1 => classes_of(out, at, classes, a % 256),
-        2 => number(out, at, bit(starter(words, classes, a))),
-        3 => function_case(out, at, function_start(words, classes, cursor(a, b))),
-        4 => number(out, at, bit(mapped_start(words, classes, a))),
-        5 => cursor_facts(out, at, words, cursor(a, b)),
-        _ => all_fields(out, at, words),
+pub fn answer(out: &mut Out, head: &Head, text: &[u8], words: &[u64]) {
+    let at = head.a as usize;
+    let classes = class_words();
+    match head.op {
+        0 => checked(out, check(text, words, at)),
+        1 => classes_of(out, (head.a % 256) as u8),
+        2 => bit(out, starter(words, &classes, at)),
+        3 => function_case(out, function_start(words, &classes, head.cursor())),
+        4 => bit(out, mapped_start(words, &classes, at)),
+        5 => cursor_facts(out, words, head.cursor()),
+        _ => all_fields(out, words),
     }
-}
-
-// A cursor at a token, or at its second half.
-fn cursor(a: usize, b: usize) -> Cursor
-    ensures { (result.at ≡ a) × (result.half ≤ 1) }
-{
-    if b == 0 {
-        return Cursor::start(a);
-    }
-    Cursor { at: a, half: 1 }
 }

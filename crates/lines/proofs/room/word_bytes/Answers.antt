@@ -1,8 +1,0 @@
--- `room::word_bytes` has as many bytes as it says. Assumes nothing.
-use Prim.Native.Nat.{ℕ}
-use mathlib.Core.Path.{sym}
-use lib.ListN.{length-replicate}
-use Rattle.lines.proofs.room.word_bytes.Goals as goal
-
-pub returns : goal.returns
-returns c = sym (length-replicate {0} {A = ℕ} 131080 0)
