@@ -176,5 +176,11 @@ pub fn told(
         pairs: &pairs,
         form,
     };
-    both.all(out, size / WORDS);
+    if form == Form::Json {
+        out.byte(b'[');
+        both.all(out, size / WORDS);
+        out.bytes(b"]\n");
+    } else {
+        both.all(out, size / WORDS);
+    }
 }
