@@ -219,8 +219,8 @@ pub fn refusal(out: &mut Out, side: Option<Side>, number: usize, ends: bool) {
     failed(out, side);
     numbered(out, b"\"refused\":{\"number\":", number);
     out.bytes(b",\"name\":\"");
-    say::word(out, say::refusal(number));
+    say::refusal(out, number);
     out.bytes(b"\",\"why\":\"");
-    say::word(out, say::why(number, ends));
+    say::why(out, number, ends);
     out.byte(b'"');
 }

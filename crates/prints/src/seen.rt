@@ -71,3 +71,14 @@ pub struct Whole<'a> {
     pub nodes: Option<&'a [u64]>,
     pub size: usize,
 }
+
+impl<'a> Whole<'a> {
+    // A tree whose nodes were not read from a text.
+    pub fn of(seen: Seen<'a>, size: usize) -> Whole<'a> {
+        Whole {
+            seen,
+            nodes: None,
+            size,
+        }
+    }
+}

@@ -1,7 +1,7 @@
 // The way to a place of a tree: the bit of each visit in the key, and the steps from the root to it in words.
 use crate::known::{DEEPEST, Known, Open};
 use crate::say;
-use crate::seen::Seen;
+use crate::seen::{Seen, Whole};
 use crate::tag::Tag;
 use keys::store::name_at;
 use lines::line::Out;
@@ -246,20 +246,20 @@ pub struct Pairs<'a> {
 }
 
 impl<'a> Pairs<'a> {
-    // The pairs of a list, found in the first n visits of the right tree.
-    pub fn of(list: &'a [u64], right: Seen, n: usize) -> Pairs<'a> {
+    // The pairs of a list, found in the visits of the right tree.
+    pub fn of(list: &'a [u64], right: Whole) -> Pairs<'a> {
         let mut pairs = Pairs {
             list,
             spots: [0; MOST],
         };
         let mut trail = Trail::new();
         let mut next: usize = 0;
-        for i in 0..n {
-            if next < MOST && trail.is_at(right, i, pairs.right(next)) {
+        for i in 0..right.size / WORDS {
+            if next < MOST && trail.is_at(right.seen, i, pairs.right(next)) {
                 pairs.spots[next] = i;
                 next += 1;
             }
-            trail.pass(right, i);
+            trail.pass(right.seen, i);
         }
         pairs
     }
