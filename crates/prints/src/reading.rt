@@ -33,6 +33,15 @@ pub fn is_whole(tokens: &[u64], at: usize) -> bool {
 }
 
 impl<'a> Source<'a> {
+    // A text with its tokens, for a job.
+    fn of(text: &'a [u8], tokens: &'a [u64], job: Job) -> Source<'a> {
+        Source {
+            text,
+            tokens,
+            line: job.line,
+        }
+    }
+
     // The place of a byte.
     fn place(self, byte: usize) -> Place {
         Place::of(self.text, byte, self.line)
@@ -195,11 +204,7 @@ pub fn granted(
     c: Counts,
     job: Job,
 ) {
-    let source = Source {
-        text,
-        tokens,
-        line: job.line,
-    };
+    let source = Source::of(text, tokens, job);
     if job.form == Form::Key {
         key_line(out, source, key, c);
         return;
@@ -279,11 +284,7 @@ fn refused_json(out: &mut Out, source: Source, x: Refused, job: Job) {
 
 // A refusal, in the form that is asked for, with its side if there are two.
 pub fn refused(out: &mut Out, text: &[u8], tokens: &[u64], x: Refused, job: Job) {
-    let source = Source {
-        text,
-        tokens,
-        line: job.line,
-    };
+    let source = Source::of(text, tokens, job);
     match job.form {
         Form::Json => refused_json(out, source, x, job),
         Form::Key => {
@@ -310,11 +311,7 @@ fn unread_json(out: &mut Out, source: Source, c: Counts, job: Job) {
 
 // What stands behind a type that is to be compared whole.
 pub fn unread(out: &mut Out, text: &[u8], tokens: &[u64], c: Counts, job: Job) {
-    let source = Source {
-        text,
-        tokens,
-        line: job.line,
-    };
+    let source = Source::of(text, tokens, job);
     if job.form == Form::Json {
         unread_json(out, source, c, job);
     } else {

@@ -146,7 +146,7 @@ pub fn to_name(out: &mut Out) {
 // ---- A visit further
 
 // How far a tree's visits are gone through: its open nodes, the step at each depth, and the bit where the next visit begins.
-#[derive(Clone, Copy)]
+#[derive(Drop)]
 pub struct Trail {
     open: Open,
     steps: [Step; DEEPEST],
@@ -239,7 +239,7 @@ impl Trail {
 const MOST: usize = 4096;
 
 // The pairs of bits of a list, and for each of them the visit of the right tree that it speaks of.
-#[derive(Clone, Copy)]
+#[derive(Drop)]
 pub struct Pairs<'a> {
     list: &'a [u64],
     spots: [usize; MOST],
