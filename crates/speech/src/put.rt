@@ -1,6 +1,5 @@
 // Bytes of a text on their way to the output, in one of several shapes; entries of lists; runs and counts of bytes.
 ghost use Rattle.std.specs.Prelude.{◌<◌, ◌≤◌};
-ghost use Rattle.io.specs.Counts.{IsPrefixLen};
 
 use lines::line::Out;
 
@@ -26,39 +25,8 @@ pub enum Shape {
 }
 
 // The byte at an index, 0 past the end.
-pub fn byte_at(text: &[u8], i: usize) -> u8 {
+fn byte_at(text: &[u8], i: usize) -> u8 {
     text.get(i).copied().unwrap_or(0)
-}
-
-// The lesser of two numbers.
-pub fn least(a: usize, b: usize) -> usize
-    ensures { (result ≤ a) × (result ≤ b) }
-{
-    a.min(b)
-}
-
-// How many bytes of the first n there are.
-pub fn part(n: usize, of: &[u8]) -> usize
-    ensures { IsPrefixLen result of.now }
-{
-    n.min(of.len())
-}
-
-// How many words of the first n there are.
-pub fn part_words(n: usize, of: &[u64]) -> usize
-    ensures { IsPrefixLen result of.now }
-{
-    n.min(of.len())
-}
-
-// One more, unless that wraps.
-pub fn more(n: usize) -> usize {
-    n.wrapping_add(1)
-}
-
-// Three times a number, unless that wraps.
-pub fn thrice(n: usize) -> usize {
-    n.wrapping_mul(3)
 }
 
 // A hexadecimal digit.
