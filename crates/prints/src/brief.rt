@@ -6,14 +6,14 @@ use crate::seen::Seen;
 use crate::tag::Tag;
 use lines::line::Out;
 use speech::put::{Shape, pick};
-use visits::visits::{CHOICE, NODE, Visit};
+use visits::visits::{CHOICE, NAME, NODE, Visit};
 
 // The most visits of a node that are shown.
 const MOST: usize = 100;
 
 // A node on its way to the line: what is seen of its tree, the shape of its spellings, the open nodes, whether a blank is due
 // before the next word, and the depth of the last node.
-#[derive(Clone, Copy)]
+#[derive(Drop)]
 struct Shown<'a> {
     seen: Seen<'a>,
     shape: Shape,
@@ -145,7 +145,7 @@ impl<'a> Shown<'a> {
 // What a visit stands for: a node or a name.
 pub fn brief(out: &mut Out, seen: Seen, i: usize, shape: Shape) {
     let v = seen.visit(i);
-    if seen.is_name(i) {
+    if v.kind == NAME {
         seen.spell(out, v.number, shape);
         return;
     }

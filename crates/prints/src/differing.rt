@@ -1,7 +1,7 @@
 // Two trees compared: a line, or an object of JSON, for each place where they differ.
 use crate::brief::brief;
 use crate::json::comma;
-use crate::seen::Seen;
+use crate::seen::{Seen, Whole};
 use crate::taking;
 use crate::trail::{Pairs, Trail, by_name, to_name};
 use lines::line::Out;
@@ -149,38 +149,24 @@ fn fits(size: usize) -> bool {
     size != 0 && size <= HALF
 }
 
-// Both trees, whose visits have so many words, each in a half of the room, and the pairs of a list.
-pub fn told(
-    out: &mut Out,
-    list: &[u64],
-    names: &[u64],
-    letters: &[u8],
-    visits: &[u64],
-    size: usize,
-    others: &[u64],
-    marks: &[u8],
-    other_size: usize,
-    form: Form,
-) {
-    if !fits(size) || !fits(other_size) {
+// Both trees, each seen in a half of the room, and the pairs of a list.
+pub fn told(out: &mut Out, list: &[u64], left: Whole, right: Whole, form: Form) {
+    if !fits(left.size) || !fits(right.size) {
         too_large(out, form);
         return;
     }
-    let (first, second) = visits.split_at(HALF.min(visits.len()));
-    let left = Seen::of(first, names, letters);
-    let right = Seen::of(second, others, marks);
-    let pairs = Pairs::of(list, right, other_size / WORDS);
+    let pairs = Pairs::of(list, right);
     let both = Both {
-        left,
-        right,
+        left: left.seen,
+        right: right.seen,
         pairs: &pairs,
         form,
     };
     if form == Form::Json {
         out.byte(b'[');
-        both.all(out, size / WORDS);
+        both.all(out, left.size / WORDS);
         out.bytes(b"]\n");
     } else {
-        both.all(out, size / WORDS);
+        both.all(out, left.size / WORDS);
     }
 }

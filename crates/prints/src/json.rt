@@ -3,7 +3,6 @@ use crate::place::Place;
 use crate::say;
 use crate::seen::{Seen, Whole};
 use crate::tag::Tag;
-use keys::store::place_at;
 use lines::line::Out;
 use noted::{Note, notes_of};
 use speech::ask::Side;
@@ -73,22 +72,13 @@ fn own_fields(out: &mut Out, seen: Seen, i: usize, tag: Tag) {
 
 // ---- The tree
 
-// A node's bytes, if it was read from a text.
-fn span(out: &mut Out, nodes: Option<&[u64]>, number: usize) {
-    if let Some(nodes) = nodes {
-        let place = place_at(nodes, number);
-        numbered(out, b",\"first\":", place.first);
-        numbered(out, b",\"end\":", place.end);
-    }
-}
-
 // How a node begins, whose visit has an index: its items follow, in the key's order.
 fn node(out: &mut Out, t: Whole, i: usize) {
     let tag = t.seen.tag(i);
     out.bytes(b"{\"tag\":\"");
     say::word(out, tag.name());
     out.byte(b'"');
-    span(out, t.nodes, t.seen.number(i));
+    t.span(out, t.seen.number(i), b",\"first\":", b",\"end\":");
     own_fields(out, t.seen, i.saturating_add(2), tag);
     out.bytes(b",\"items\":[");
 }
@@ -219,8 +209,8 @@ pub fn refusal(out: &mut Out, side: Option<Side>, number: usize, ends: bool) {
     failed(out, side);
     numbered(out, b"\"refused\":{\"number\":", number);
     out.bytes(b",\"name\":\"");
-    say::word(out, say::refusal(number));
+    say::refusal(out, number);
     out.bytes(b"\",\"why\":\"");
-    say::word(out, say::why(number, ends));
+    say::why(out, number, ends);
     out.byte(b'"');
 }

@@ -5,8 +5,8 @@ use visits::visits::Visit;
 // How many nodes may be open at once.
 pub const DEEPEST: usize = 260;
 
-// What is known of an open node: its tag, how far its choices are, whether it has a child yet, its children and its names
-// since the last choice.
+// What is known of an open node: its tag, how far its choices are, as the place of the next among all that a node of its tag may
+// have, whether it has a child yet, its children and its names since the last choice.
 #[derive(Clone, Copy)]
 pub struct Known {
     pub tag: Tag,
@@ -180,7 +180,7 @@ fn question_word(number: usize) -> &'static str {
 // ---- Open nodes
 
 // The open nodes, one for each depth.
-#[derive(Clone, Copy)]
+#[derive(Drop)]
 pub struct Open {
     nodes: [Known; DEEPEST],
 }

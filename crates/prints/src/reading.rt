@@ -13,6 +13,7 @@ use speech::ask::{Form, Job};
 use speech::put::{Shape, copy, numbered};
 use words::cursor::{whole_kind, word_at};
 use words::limits::Tree;
+use words::refusal::Refusal;
 use words::token;
 
 // The most words of visits that are gone through.
@@ -32,6 +33,15 @@ pub fn is_whole(tokens: &[u64], at: usize) -> bool {
 }
 
 impl<'a> Source<'a> {
+    // A text with its tokens, for a job.
+    fn of(text: &'a [u8], tokens: &'a [u64], job: Job) -> Source<'a> {
+        Source {
+            text,
+            tokens,
+            line: job.line,
+        }
+    }
+
     // The place of a byte.
     fn place(self, byte: usize) -> Place {
         Place::of(self.text, byte, self.line)
@@ -194,11 +204,7 @@ pub fn granted(
     c: Counts,
     job: Job,
 ) {
-    let source = Source {
-        text,
-        tokens,
-        line: job.line,
-    };
+    let source = Source::of(text, tokens, job);
     if job.form == Form::Key {
         key_line(out, source, key, c);
         return;
@@ -225,7 +231,7 @@ pub fn granted(
 
 // The byte that a refusal is at: a bad token's first byte, which the call leaves out.
 fn refused_at(source: Source, x: Refused) -> usize {
-    if x.number == 2 {
+    if say::refusal_of(x.number) == Some(Refusal::BadToken) {
         source.start(x.token)
     } else {
         x.byte
@@ -234,21 +240,24 @@ fn refused_at(source: Source, x: Refused) -> usize {
 
 // Whether a refusal has a place.
 fn is_placed(x: Refused) -> bool {
-    !matches!(x.number, 1 | 11)
+    !matches!(
+        say::refusal_of(x.number),
+        Some(Refusal::BadList | Refusal::NoSpace)
+    )
 }
 
 // A refusal with its place, ` at line 1, column 15 (token 4)`, if it has one, what it means, and its source line.
 fn refused_all(out: &mut Out, source: Source, x: Refused) {
     let first = refused_at(source, x);
     out.bytes(b"refused: ");
-    say::word(out, say::refusal(x.number));
+    say::refusal(out, x.number);
     if is_placed(x) {
         source.place(first).told(out);
         numbered(out, b" (token ", x.token);
         out.byte(b')');
     }
     out.bytes(b": ");
-    say::word(out, say::why(x.number, source.ends(x.token)));
+    say::why(out, x.number, source.ends(x.token));
     out.byte(b'\n');
     if is_placed(x) {
         source.point(out, first, x.token);
@@ -257,7 +266,7 @@ fn refused_all(out: &mut Out, source: Source, x: Refused) {
 
 fn refused_line(out: &mut Out, source: Source, x: Refused) {
     out.bytes(b"refused ");
-    say::word(out, say::refusal(x.number));
+    say::refusal(out, x.number);
     source.place(refused_at(source, x)).short(out);
     out.byte(b'\n');
 }
@@ -275,11 +284,7 @@ fn refused_json(out: &mut Out, source: Source, x: Refused, job: Job) {
 
 // A refusal, in the form that is asked for, with its side if there are two.
 pub fn refused(out: &mut Out, text: &[u8], tokens: &[u64], x: Refused, job: Job) {
-    let source = Source {
-        text,
-        tokens,
-        line: job.line,
-    };
+    let source = Source::of(text, tokens, job);
     match job.form {
         Form::Json => refused_json(out, source, x, job),
         Form::Key => {
@@ -306,11 +311,7 @@ fn unread_json(out: &mut Out, source: Source, c: Counts, job: Job) {
 
 // What stands behind a type that is to be compared whole.
 pub fn unread(out: &mut Out, text: &[u8], tokens: &[u64], c: Counts, job: Job) {
-    let source = Source {
-        text,
-        tokens,
-        line: job.line,
-    };
+    let source = Source::of(text, tokens, job);
     if job.form == Form::Json {
         unread_json(out, source, c, job);
     } else {

@@ -3,6 +3,7 @@ use lines::line::Out;
 use noted::Note;
 use speech::ask::Side;
 use speech::put::{Shape, copy, pick};
+use words::refusal::Refusal;
 
 // A word.
 pub fn word(out: &mut Out, text: &str) {
@@ -18,67 +19,117 @@ pub fn side(out: &mut Out, side: Option<Side>) {
     }
 }
 
-// The name of a refusal; 4, 29 and 30 have none.
-pub fn refusal(number: usize) -> &'static str {
-    match number {
-        1 => "BadList",
-        2 => "BadToken",
-        3 => "Unexpected",
-        5 => "TooDeep",
-        6 => "TooTall",
-        7 => "TooLong",
-        8 => "NoRoom",
-        9 => "ManyNotes",
-        10 => "BadKey",
-        11 => "NoSpace",
-        20 => "PrefixMark",
-        21 => "ParameterModifier",
-        22 => "DefaultValue",
-        23 => "MisplacedThis",
-        24 => "RestNotLast",
-        25 => "TypeParameterModifier",
-        26 => "ImportSource",
-        27 => "ImportOptions",
-        28 => "ManyTrials",
-        31 => "MemberForm",
-        _ => "",
-    }
+// What a number refuses, in a reading or in a key.
+pub fn refusal_of(number: usize) -> Option<Refusal> {
+    Some(match number {
+        1 => Refusal::BadList,
+        2 => Refusal::BadToken,
+        3 => Refusal::Unexpected,
+        5 => Refusal::TooDeep,
+        6 => Refusal::TooTall,
+        7 => Refusal::TooLong,
+        8 => Refusal::NoRoom,
+        9 => Refusal::ManyNotes,
+        10 => Refusal::BadKey,
+        11 => Refusal::NoSpace,
+        20 => Refusal::PrefixMark,
+        21 => Refusal::ParameterModifier,
+        22 => Refusal::DefaultValue,
+        23 => Refusal::MisplacedThis,
+        24 => Refusal::RestNotLast,
+        25 => Refusal::TypeParameterModifier,
+        26 => Refusal::ImportSource,
+        27 => Refusal::ImportOptions,
+        28 => Refusal::ManyTrials,
+        31 => Refusal::MemberForm,
+        _ => return None,
+    })
 }
 
-// What the refusals from 20 on mean.
-fn unread(number: usize) -> &'static str {
-    match number {
-        20 => "a ?, ! or * before a type is not supported; ? and ! may stand behind it",
-        21 => "a modifier before a parameter is not supported",
-        22 => "a default value is not supported here; a ? behind the name is",
-        23 => "this has to be the first parameter, and not a rest",
-        24 => "nothing may follow a rest parameter, not even a comma",
-        25 => "const, in or out before a type parameter is not supported",
-        26 => "the source of an import has to be a string",
-        27 => "options of an import are not supported; only its source is read",
-        28 => "more than four constraints of infer would be tried at once",
-        31 => "a computed name, an accessor or a modifier other than readonly is not supported",
-        _ => "",
+// The name of a refusal.
+fn name(refusal: Refusal) -> &'static str {
+    match refusal {
+        Refusal::BadList => "BadList",
+        Refusal::BadToken => "BadToken",
+        Refusal::Unexpected => "Unexpected",
+        Refusal::TooDeep => "TooDeep",
+        Refusal::TooTall => "TooTall",
+        Refusal::TooLong => "TooLong",
+        Refusal::NoRoom => "NoRoom",
+        Refusal::ManyNotes => "ManyNotes",
+        Refusal::BadKey => "BadKey",
+        Refusal::NoSpace => "NoSpace",
+        Refusal::PrefixMark => "PrefixMark",
+        Refusal::ParameterModifier => "ParameterModifier",
+        Refusal::DefaultValue => "DefaultValue",
+        Refusal::MisplacedThis => "MisplacedThis",
+        Refusal::RestNotLast => "RestNotLast",
+        Refusal::TypeParameterModifier => "TypeParameterModifier",
+        Refusal::ImportSource => "ImportSource",
+        Refusal::ImportOptions => "ImportOptions",
+        Refusal::ManyTrials => "ManyTrials",
+        Refusal::ManyDifferences => "ManyDifferences",
+        Refusal::MemberForm => "MemberForm",
     }
 }
 
 // What a refusal means; `ends` where it is at the text's end.
-pub fn why(number: usize, ends: bool) -> &'static str {
-    match number {
-        1 => "the text has over 65,535 bytes or over 16,384 tokens",
-        2 => "a word with a backslash is not read",
-        3 if ends => "the text ends here, and the type does not",
-        3 => "no rule takes this token",
-        5 => "a type here would be the 65th open",
-        6 => "the tree would be over 256 nodes high",
-        7 => "a list has over 4,095 entries",
-        8 => "no room is left for a node",
-        9 => "there would be over 32 diagnostics",
-        10 => "this field is not as a key has it",
-        11 => "the key or its spellings do not fit the space",
-        _ => unread(number),
+fn meaning(refusal: Refusal, ends: bool) -> &'static str {
+    match refusal {
+        Refusal::BadList => "the text has over 65,535 bytes or over 16,384 tokens",
+        Refusal::BadToken => "a word with a backslash is not read",
+        Refusal::Unexpected if ends => "the text ends here, and the type does not",
+        Refusal::Unexpected => "no rule takes this token",
+        Refusal::TooDeep => "a type here would be the 65th open",
+        Refusal::TooTall => "the tree would be over 256 nodes high",
+        Refusal::TooLong => "a list has over 4,095 entries",
+        Refusal::NoRoom => "no room is left for a node",
+        Refusal::ManyNotes => "there would be over 32 diagnostics",
+        Refusal::BadKey => "this field is not as a key has it",
+        Refusal::NoSpace => "the key or its spellings do not fit the space",
+        _ => unread(refusal),
     }
 }
+
+// What the others mean.
+fn unread(refusal: Refusal) -> &'static str {
+    match refusal {
+        Refusal::PrefixMark => {
+            "a ?, ! or * before a type is not supported; ? and ! may stand behind it"
+        }
+        Refusal::ParameterModifier => "a modifier before a parameter is not supported",
+        Refusal::DefaultValue => "a default value is not supported here; a ? behind the name is",
+        Refusal::MisplacedThis => "this has to be the first parameter, and not a rest",
+        Refusal::RestNotLast => "nothing may follow a rest parameter, not even a comma",
+        Refusal::TypeParameterModifier => {
+            "const, in or out before a type parameter is not supported"
+        }
+        Refusal::ImportSource => "the source of an import has to be a string",
+        Refusal::ImportOptions => "options of an import are not supported; only its source is read",
+        Refusal::ManyTrials => "more than four constraints of infer would be tried at once",
+        Refusal::MemberForm => {
+            "a computed name, an accessor or a modifier other than readonly is not supported"
+        }
+        _ => "",
+    }
+}
+
+// The name of the refusal of a number.
+pub fn refusal(out: &mut Out, number: usize) {
+    if let Some(refusal) = refusal_of(number) {
+        word(out, name(refusal));
+    }
+}
+
+// What the refusal of a number means; `ends` where it is at the text's end.
+pub fn why(out: &mut Out, number: usize, ends: bool) {
+    if let Some(refusal) = refusal_of(number) {
+        word(out, meaning(refusal, ends));
+    }
+}
+
+// The number of the diagnostic of a reserved name.
+const RESERVED: usize = 13;
 
 // A diagnostic in words.
 pub fn diagnostic(number: usize) -> &'static str {
@@ -95,7 +146,7 @@ pub fn diagnostic(number: usize) -> &'static str {
         10 => "index parameter of a literal type",
         11 => "index parameter of a keyword type that cannot be an index",
         12 => "not exactly one index parameter",
-        13 => "reserved name",
+        RESERVED => "reserved name",
         _ => "",
     }
 }
@@ -125,7 +176,7 @@ pub fn keyword(out: &mut Out, number: usize) {
 
 // What to do about a diagnostic of a text, where its words leave that open.
 pub fn hint(out: &mut Out, text: &[u8], n: Note) {
-    if n.number == 13 {
+    if n.number == RESERVED {
         out.bytes(b": ");
         copy(out, text, n.first, n.end, Shape::Shown);
         out.bytes(b" names a type of its own; choose another name");

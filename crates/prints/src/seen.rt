@@ -1,8 +1,8 @@
 // A tree as those who print it see it: by its visits.
 use crate::tag::Tag;
-use keys::store::name_at;
+use keys::store::{name_at, place_at};
 use lines::line::Out;
-use speech::put::{Shape, copy};
+use speech::put::{Shape, copy, numbered};
 use visits::visits::{CHOICE, NAME, NODE, Visit, visit_at};
 
 // What is seen of a tree: its visits, its names, and the bytes that these are spelled by.
@@ -70,4 +70,24 @@ pub struct Whole<'a> {
     pub seen: Seen<'a>,
     pub nodes: Option<&'a [u64]>,
     pub size: usize,
+}
+
+impl<'a> Whole<'a> {
+    // A tree whose nodes were not read from a text.
+    pub fn of(seen: Seen<'a>, size: usize) -> Whole<'a> {
+        Whole {
+            seen,
+            nodes: None,
+            size,
+        }
+    }
+
+    // A node's first and end byte, each behind a text, if it was read from one.
+    pub fn span(self, out: &mut Out, number: usize, first: &[u8], end: &[u8]) {
+        if let Some(nodes) = self.nodes {
+            let place = place_at(nodes, number);
+            numbered(out, first, place.first);
+            numbered(out, end, place.end);
+        }
+    }
 }

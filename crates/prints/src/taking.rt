@@ -18,17 +18,17 @@ fn refused_json(out: &mut Out, number: usize, bit: usize, side: Option<Side>) {
 
 fn refused_all(out: &mut Out, key: &[u8], number: usize, bit: usize) {
     out.bytes(b"refused: ");
-    say::word(out, say::refusal(number));
+    say::refusal(out, number);
     numbered(out, b" at bit ", bit);
     out.bytes(b": ");
-    say::word(out, say::why(number, false));
+    say::why(out, number, false);
     out.byte(b'\n');
     pointed(out, key, bit);
 }
 
 fn refused_line(out: &mut Out, number: usize, bit: usize) {
     out.bytes(b"refused ");
-    say::word(out, say::refusal(number));
+    say::refusal(out, number);
     numbered(out, b" at bit ", bit);
     out.byte(b'\n');
 }
@@ -96,10 +96,6 @@ pub fn granted<'a>(
     let n = visit_words(used, named).min(visits.len());
     let visits = &mut visits[..n];
     let size = walk(nodes, names, root(used), Tree::TALLEST, visits);
-    let tree = Whole {
-        seen: Seen::of(visits, names, letters),
-        nodes: None,
-        size,
-    };
-    formed(out, key, tree, form);
+    let seen = Seen::of(visits, names, letters);
+    formed(out, key, Whole::of(seen, size), form);
 }

@@ -1,7 +1,7 @@
 // The way to a place of a tree: the bit of each visit in the key, and the steps from the root to it in words.
 use crate::known::{DEEPEST, Known, Open};
 use crate::say;
-use crate::seen::Seen;
+use crate::seen::{Seen, Whole};
 use crate::tag::Tag;
 use keys::store::name_at;
 use lines::line::Out;
@@ -146,7 +146,7 @@ pub fn to_name(out: &mut Out) {
 // ---- A visit further
 
 // How far a tree's visits are gone through: its open nodes, the step at each depth, and the bit where the next visit begins.
-#[derive(Clone, Copy)]
+#[derive(Drop)]
 pub struct Trail {
     open: Open,
     steps: [Step; DEEPEST],
@@ -239,27 +239,27 @@ impl Trail {
 const MOST: usize = 4096;
 
 // The pairs of bits of a list, and for each of them the visit of the right tree that it speaks of.
-#[derive(Clone, Copy)]
+#[derive(Drop)]
 pub struct Pairs<'a> {
     list: &'a [u64],
     spots: [usize; MOST],
 }
 
 impl<'a> Pairs<'a> {
-    // The pairs of a list, found in the first n visits of the right tree.
-    pub fn of(list: &'a [u64], right: Seen, n: usize) -> Pairs<'a> {
+    // The pairs of a list, found in the visits of the right tree.
+    pub fn of(list: &'a [u64], right: Whole) -> Pairs<'a> {
         let mut pairs = Pairs {
             list,
             spots: [0; MOST],
         };
         let mut trail = Trail::new();
         let mut next: usize = 0;
-        for i in 0..n {
-            if next < MOST && trail.is_at(right, i, pairs.right(next)) {
+        for i in 0..right.size / WORDS {
+            if next < MOST && trail.is_at(right.seen, i, pairs.right(next)) {
                 pairs.spots[next] = i;
                 next += 1;
             }
-            trail.pass(right, i);
+            trail.pass(right.seen, i);
         }
         pairs
     }

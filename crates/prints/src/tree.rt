@@ -3,25 +3,15 @@ use crate::known::{Known, Lead, Open};
 use crate::say;
 use crate::seen::{Seen, Whole};
 use crate::tag::Tag;
-use keys::store::place_at;
 use lines::line::Out;
-use speech::put::{Shape, numbered, times};
+use speech::put::{Shape, times};
 use visits::visits::{CHOICE, NODE, Visit, WORDS};
 
 // The lines so far: the open nodes, and whose line is being written, by the depth of its names.
-#[derive(Clone, Copy)]
+#[derive(Drop)]
 struct Lines {
     open: Open,
     of: Option<usize>,
-}
-
-// A node's bytes, if it was read from a text.
-fn span(out: &mut Out, nodes: Option<&[u64]>, number: usize) {
-    if let Some(nodes) = nodes {
-        let place = place_at(nodes, number);
-        numbered(out, b" ", place.first);
-        numbered(out, b"..", place.end);
-    }
 }
 
 impl Lines {
@@ -50,7 +40,7 @@ impl Lines {
         times(out, b"  ", v.depth);
         say::word(out, above.role(tag));
         say::word(out, tag.name());
-        span(out, t.nodes, v.number);
+        t.span(out, v.number, b" ", b"..");
         self.of = Some(v.depth.saturating_add(1));
     }
 
