@@ -1,250 +1,158 @@
 // Cuts a text into token words. This is no part of the key library: no statement of it speaks of this file, and a caller
 // of the library brings tokens of its own. It knows names, numbers, strings, templates, marks, blanks and comments, and
 // does not look into the escapes of a template.
-ghost use Rattle.std.specs.Prelude.{◌≡◌, ◌+◌, ◌-◌, ◌<◌, ◌≤◌, length};
+ghost use Rattle.std.specs.Prelude.{◌<◌, ◌≤◌, length, IfSome};
+ghost use Rattle.io.specs.Counts.{IsPrefixLen};
 
-use speech::put::{byte_at, count, entry_of, least, more};
 use words::kind::Kind;
 use words::token::word;
 
-// Where the cutter stands: the next byte, the words made, 1 behind a line break, the braces and templates open.
-#[derive(Clone, Copy)]
-struct Standing {
-    pos: usize,
-    made: usize,
-    line: usize,
-    open: usize,
-}
+// How many words a text may have, the end among them.
+const MOST: usize = 16_385;
 
-// A token's kind and the index behind it.
+// A token at the start of a text: its kind, and how many bytes it has.
 #[derive(Clone, Copy)]
 struct Piece {
     kind: usize,
-    end: usize,
+    len: usize,
 }
 
 // ---- Bytes
 
-fn is_digit(b: u8) -> bool {
-    if b < b'0' {
-        return false;
-    }
-    b <= b'9'
-}
-
-fn is_small(b: u8) -> bool {
-    if b < b'a' {
-        return false;
-    }
-    b <= b'z'
-}
-
-fn is_large(b: u8) -> bool {
-    if b < b'A' {
-        return false;
-    }
-    b <= b'Z'
-}
-
 // Whether a byte begins a word; an escape counts as one, and so does each byte that is not ASCII.
 fn begins_word(b: u8) -> bool {
-    if is_small(b) {
-        return true;
-    }
-    if is_large(b) {
-        return true;
-    }
-    if 128 <= b {
-        return true;
-    }
-    match b {
-        b'_' | b'$' | b'#' | b'\\' => true,
-        _ => false,
-    }
+    b.is_ascii_alphabetic() || 128 <= b || matches!(b, b'_' | b'$' | b'#' | b'\\')
 }
 
 fn in_word(b: u8) -> bool {
-    if b == b'#' {
-        return false;
-    }
-    if is_digit(b) {
-        return true;
-    }
-    begins_word(b)
+    b != b'#' && (b.is_ascii_digit() || begins_word(b))
 }
 
-fn is_blank(b: u8) -> bool {
-    match b {
-        b' ' | 9..=13 => true,
-        _ => false,
-    }
-}
-
-// Three bytes of a text as a number.
-fn three_bytes(text: &[u8], i: usize) -> u64 {
-    let high = byte_at(text, i) as u64;
-    let middle = byte_at(text, more(i)) as u64;
-    let low = byte_at(text, more(more(i))) as u64;
-    high * 65536 + middle * 256 + low
-}
-
-// How many bytes a blank that is not ASCII has at an index: a byte order mark, a line or paragraph separator, a blank that does not break.
-fn wide_blank(text: &[u8], i: usize) -> usize {
-    match three_bytes(text, i) {
-        0xEF_BB_BF | 0xE2_80_A8 | 0xE2_80_A9 => 3,
-        0xC2_A0_00..=0xC2_A0_FF => 2,
+// How many bytes a blank that is not ASCII has at the start of a text: a byte order mark, a line or paragraph separator, a blank
+// that does not break.
+fn wide_blank(text: &[u8]) -> usize
+    ensures { result ≤ length text.now }
+{
+    match text {
+        [0xEF, 0xBB, 0xBF, ..] | [0xE2, 0x80, 0xA8 | 0xA9, ..] => 3,
+        [0xC2, 0xA0, ..] => 2,
         _ => 0,
     }
 }
 
-// ---- Runs of bytes
-
-#[derive(Clone, Copy)]
-struct Run {}
-
-impl Run {
-    const BLANKS: usize = 0;
-
-    const WORD: usize = 1;
-
-    const DIGITS: usize = 2;
-
-    const NUMBER: usize = 3;
-
-    const LINE: usize = 4;
+// How many bytes at the start of a text belong to a run.
+fn run<F: Fn(u8) -> bool>(text: &[u8], belongs: F) -> usize
+    requires { F.IsAlwaysCallable belongs }
+    ensures { IsPrefixLen result text.now }
+{
+    text.iter().position(|&b| !belongs(b)).unwrap_or(text.len())
 }
 
-fn one_if(yes: bool) -> usize {
-    if yes { 1 } else { 0 }
-}
-
-fn blank_on(text: &[u8], i: usize) -> usize {
-    if is_blank(byte_at(text, i)) {
-        return 1;
-    }
-    wide_blank(text, i)
-}
-
-fn word_on(text: &[u8], i: usize) -> usize {
-    if in_word(byte_at(text, i)) {
-        return one_if(wide_blank(text, i) == 0);
-    }
-    0
-}
-
-fn number_on(b: u8) -> usize {
-    if b == b'.' {
-        return 1;
-    }
-    one_if(is_digit(b))
-}
-
-// How many bytes at an index belong to a run, 0 where it ends.
-fn on(text: &[u8], i: usize, run: usize) -> usize {
-    if run == Run::BLANKS {
-        return blank_on(text, i);
-    }
-    if run == Run::WORD {
-        return word_on(text, i);
-    }
-    let b = byte_at(text, i);
-    if run == Run::DIGITS {
-        return one_if(is_digit(b));
-    }
-    if run == Run::NUMBER {
-        return number_on(b);
-    }
-    one_if(b != b'\n')
-}
-
-// The end of a run from an index on.
-fn run_end(text: &[u8], from: usize, run: usize) -> usize {
-    let mut i = from;
-    while i < text.len() {
-        let k = least(on(text, i, run), text.len() - i);
-        if k == 0 {
-            return i;
+// Where the quote stands that ends a string, if one does; a backslash escapes the byte behind it.
+fn string_end(text: &[u8], quote: u8) -> Option<usize>
+    ensures { IfSome result (λ i. i < length text.now) }
+{
+    let mut escaped = false;
+    for (i, &b) in text.iter().enumerate() {
+        if escaped {
+            escaped = false;
+        } else if b == quote {
+            return Some(i);
+        } else {
+            escaped = b == b'\\';
         }
-        i += k;
     }
-    i
+    None
 }
 
-// Whether what is looked for begins at an index: a quote; for a backtick the end of a piece of a template; for a star that of a comment.
-fn stops(text: &[u8], i: usize, what: u8) -> bool {
-    let b = byte_at(text, i);
-    if what == b'`' {
-        if b == b'$' {
-            return byte_at(text, more(i)) == b'{';
-        }
-        return b == b'`';
+// How many bytes the blank or the comment has that begins a text, 0 where none does.
+fn blank_len(text: &[u8]) -> usize
+    ensures { IsPrefixLen result text.now }
+{
+    match text {
+        [b' ' | 9..=13, ..] => 1,
+        [b'/', b'/', ..] => run(text, |b| b != b'\n'),
+        [b'/', b'*', inside @ ..] => (0..inside.len())
+            .find(|&i| inside[i..].starts_with(b"*/"))
+            .map_or(text.len(), |i| i + 4),
+        _ => wide_blank(text),
     }
-    if what == b'*' {
-        if b == b'*' {
-            return byte_at(text, more(i)) == b'/';
-        }
-        return false;
-    }
-    b == what
-}
-
-// How far to the next byte: past what a backslash escapes in a string.
-fn pace(b: u8, what: u8) -> usize {
-    if b != b'\\' {
-        return 1;
-    }
-    if what == b'`' {
-        return 1;
-    }
-    if what == b'*' {
-        return 1;
-    }
-    2
-}
-
-// The first index from a given one on where what is looked for begins, or the end.
-fn find(text: &[u8], from: usize, what: u8) -> usize {
-    let mut i = from;
-    while i < text.len() {
-        if stops(text, i, what) {
-            return i;
-        }
-        let k = least(pace(text[i], what), text.len() - i);
-        if k == 0 {
-            return i;
-        }
-        i += k;
-    }
-    i
 }
 
 // ---- Tokens
 
-// The kind of a word that has a fixed spelling, or 0.
-fn fixed_word(text: &[u8], at: usize, n: usize) -> usize {
-    let first = entry_of(
-        b"any|bigint|boolean|never|number|object|string|symbol|undefined|unknown|abstract|as|asserts|infer|is|keyof|out|readonly|unique|",
-        text,
-        at,
-        n,
-    );
-    if first != 0 {
-        return least(first, 19) + (Kind::ANY - 1);
+// The kind of a word.
+fn word_kind(word: &[u8]) -> usize {
+    match word {
+        b"any" => Kind::ANY,
+        b"bigint" => Kind::BIG_INT,
+        b"boolean" => Kind::BOOLEAN,
+        b"never" => Kind::NEVER,
+        b"number" => Kind::NUMBER,
+        b"object" => Kind::OBJECT,
+        b"string" => Kind::STRING,
+        b"symbol" => Kind::SYMBOL,
+        b"undefined" => Kind::UNDEFINED,
+        b"unknown" => Kind::UNKNOWN,
+        b"abstract" => Kind::ABSTRACT,
+        b"as" => Kind::AS,
+        b"asserts" => Kind::ASSERTS,
+        b"infer" => Kind::INFER,
+        b"is" => Kind::IS,
+        b"keyof" => Kind::KEY_OF,
+        b"out" => Kind::OUT,
+        b"readonly" => Kind::READONLY,
+        b"unique" => Kind::UNIQUE,
+        b"extends" => Kind::EXTENDS,
+        b"false" => Kind::FALSE,
+        b"import" => Kind::IMPORT,
+        b"in" => Kind::IN,
+        b"new" => Kind::NEW,
+        b"null" => Kind::NULL,
+        b"this" => Kind::THIS,
+        b"true" => Kind::TRUE,
+        b"typeof" => Kind::TYPEOF,
+        b"void" => Kind::VOID,
+        b"const" => Kind::CONST,
+        b"accessor"
+        | b"async"
+        | b"declare"
+        | b"override"
+        | b"private"
+        | b"protected"
+        | b"public"
+        | b"static" => Kind::OTHER_MODIFIER,
+        b"break"
+        | b"case"
+        | b"catch"
+        | b"class"
+        | b"continue"
+        | b"debugger"
+        | b"default"
+        | b"delete"
+        | b"do"
+        | b"else"
+        | b"enum"
+        | b"export"
+        | b"finally"
+        | b"for"
+        | b"function"
+        | b"if"
+        | b"instanceof"
+        | b"return"
+        | b"super"
+        | b"switch"
+        | b"throw"
+        | b"try"
+        | b"var"
+        | b"while"
+        | b"with" => Kind::OTHER_RESERVED,
+        _ => Kind::WORD,
     }
-    let second = entry_of(
-        b"extends|false|import|in|new|null|this|true|typeof|void|const|",
-        text,
-        at,
-        n,
-    );
-    if second != 0 {
-        return least(second, 11) + (Kind::EXTENDS - 1);
-    }
-    0
 }
 
 // The kind of a mark of one byte.
-fn mark(b: u8) -> usize {
+fn mark_kind(b: u8) -> usize {
     match b {
         b'{' => Kind::L_CURLY,
         b'}' => Kind::R_CURLY,
@@ -270,312 +178,233 @@ fn mark(b: u8) -> usize {
     }
 }
 
-// The kind of a word that has no fixed spelling.
-fn other_word(text: &[u8], at: usize, n: usize) -> usize {
-    if entry_of(
-        b"accessor|async|declare|override|private|protected|public|static|",
-        text,
-        at,
-        n,
-    ) != 0
-    {
-        return Kind::OTHER_MODIFIER;
-    }
-    if entry_of(
-        b"break|case|catch|class|continue|debugger|default|delete|do|else|enum|export|",
-        text,
-        at,
-        n,
-    ) != 0
-    {
-        return Kind::OTHER_RESERVED;
-    }
-    if entry_of(
-        b"finally|for|function|if|instanceof|return|super|switch|throw|try|var|while|with|",
-        text,
-        at,
-        n,
-    ) != 0
-    {
-        return Kind::OTHER_RESERVED;
-    }
-    Kind::WORD
+// The longest mark at the start of a text, or any other byte by itself.
+fn mark(text: &[u8]) -> Piece
+    ensures { result.len ≤ length text.now }
+{
+    let (kind, len) = match text {
+        [b'<', b'<', b'=', ..] => (Kind::SHIFT_LEFT_EQ, 3),
+        [b'.', b'.', b'.', ..] => (Kind::DOT3, 3),
+        [b'<', b'<', ..] => (Kind::SHIFT_LEFT, 2),
+        [b'<', b'=', ..] => (Kind::LT_EQ, 2),
+        [b'=', b'>', ..] => (Kind::ARROW, 2),
+        [b, ..] => (mark_kind(*b), 1),
+        [] => (Kind::OTHER_MARK, 0),
+    };
+    Piece { kind, len }
 }
 
-// How many bytes lie between two indices.
-fn span(from: usize, to: usize) -> usize {
-    if from < to { to - from } else { 0 }
+// How many bytes the word has that begins a text.
+fn name_len(text: &[u8]) -> usize
+    ensures { IsPrefixLen result text.now }
+{
+    (1..text.len())
+        .find(|&i| !in_word(text[i]) || wide_blank(&text[i..]) != 0)
+        .unwrap_or(text.len())
 }
 
-fn word_piece(text: &[u8], at: usize) -> Piece {
-    let end = run_end(text, more(at), Run::WORD);
-    let n = span(at, end);
-    let kind = fixed_word(text, at, n);
-    if kind != 0 {
-        return Piece { kind, end };
-    }
+fn name(text: &[u8]) -> Piece
+    ensures { result.len ≤ length text.now }
+{
+    let len = name_len(text);
     Piece {
-        kind: other_word(text, at, n),
-        end,
+        kind: word_kind(&text[..len]),
+        len,
     }
 }
 
-fn number_piece(text: &[u8], at: usize) -> Piece {
-    let end = run_end(text, at, Run::DIGITS);
-    if byte_at(text, end) == b'n' {
+fn number(text: &[u8]) -> Piece
+    ensures { result.len ≤ length text.now }
+{
+    let digits = run(text, |b| b.is_ascii_digit());
+    if text[digits..].starts_with(b"n") {
         return Piece {
             kind: Kind::BIG_INT_LITERAL,
-            end: more(end),
+            len: digits + 1,
         };
     }
     Piece {
         kind: Kind::NUMBER_LITERAL,
-        end: run_end(text, at, Run::NUMBER),
-    }
-}
-
-// The longest mark, or any other byte by itself.
-fn mark_piece(text: &[u8], at: usize) -> Piece {
-    let one = more(at);
-    let two = more(one);
-    let three = more(two);
-    match three_bytes(text, at) {
-        0x3C_3C_3D => Piece {
-            kind: Kind::SHIFT_LEFT_EQ,
-            end: three,
-        },
-        0x2E_2E_2E => Piece {
-            kind: Kind::DOT3,
-            end: three,
-        },
-        0x3C_3C_00..=0x3C_3C_FF => Piece {
-            kind: Kind::SHIFT_LEFT,
-            end: two,
-        },
-        0x3C_3D_00..=0x3C_3D_FF => Piece {
-            kind: Kind::LT_EQ,
-            end: two,
-        },
-        0x3D_3E_00..=0x3D_3E_FF => Piece {
-            kind: Kind::ARROW,
-            end: two,
-        },
-        _ => Piece {
-            kind: mark(byte_at(text, at)),
-            end: one,
-        },
+        len: run(text, |b| b == b'.' || b.is_ascii_digit()),
     }
 }
 
 // A string; a quote that nothing closes is a mark.
-fn string_piece(text: &[u8], at: usize) -> Piece {
-    let end = find(text, more(at), byte_at(text, at));
-    if text.len() <= end {
-        return mark_piece(text, at);
-    }
-    Piece {
-        kind: Kind::STR,
-        end: more(end),
+fn string(text: &[u8], quote: u8) -> Piece
+    requires { 0 < length text.now }
+    ensures { result.len ≤ length text.now }
+{
+    match string_end(&text[1..], quote) {
+        Some(end) => Piece {
+            kind: Kind::STR,
+            len: end + 2,
+        },
+        None => mark(text),
     }
 }
 
 // A piece of a template, of one kind if a type follows and of another if none does; if nothing ends it, a mark.
-fn template_piece(text: &[u8], at: usize, goes_on: usize, ends: usize) -> Piece {
-    let end = find(text, more(at), b'`');
-    if text.len() <= end {
-        return mark_piece(text, at);
+fn template(text: &[u8], goes_on: usize, ends: usize) -> Piece
+    ensures { result.len ≤ length text.now }
+{
+    for i in 1..text.len() {
+        match &text[i..] {
+            [b'`', ..] => {
+                return Piece {
+                    kind: ends,
+                    len: i + 1,
+                };
+            }
+            [b'$', b'{', ..] => {
+                return Piece {
+                    kind: goes_on,
+                    len: i + 2,
+                };
+            }
+            _ => {}
+        }
     }
-    if byte_at(text, end) == b'`' {
-        return Piece {
-            kind: ends,
-            end: more(end),
-        };
-    }
-    Piece {
-        kind: goes_on,
-        end: more(more(end)),
+    mark(text)
+}
+
+// The token at the start of a text; a `}` may end a type in a template.
+fn first_piece(text: &[u8], in_template: bool) -> Piece
+    ensures { result.len ≤ length text.now }
+{
+    match text {
+        [b'`', ..] => template(text, Kind::TEMPLATE_HEAD, Kind::NO_SUBSTITUTION_TEMPLATE),
+        [b'}', ..] if in_template => template(text, Kind::TEMPLATE_MIDDLE, Kind::TEMPLATE_TAIL),
+        [quote @ (b'"' | b'\''), ..] => string(text, *quote),
+        [b'0'..=b'9', ..] => number(text),
+        [b, ..] if begins_word(*b) => name(text),
+        _ => mark(text),
     }
 }
 
-// The token at an index; a `}` may end a type in a template.
-fn piece_at(text: &[u8], at: usize, in_template: bool) -> Piece {
-    let b = byte_at(text, at);
-    if b == b'`' {
-        return template_piece(
-            text,
-            at,
-            Kind::TEMPLATE_HEAD,
-            Kind::NO_SUBSTITUTION_TEMPLATE,
-        );
+// ---- What is open
+
+// What encloses a token: for each brace or template, whether it is a template.
+#[derive(Drop)]
+struct Nest {
+    templates: [bool; MOST],
+    depth: usize,
+    ghost in_bounds: { depth ≤ 16385 },
+}
+
+impl Nest {
+    fn new() -> Nest {
+        Nest {
+            templates: [false; MOST],
+            depth: 0,
+        }
     }
-    if in_template {
-        return template_piece(text, at, Kind::TEMPLATE_MIDDLE, Kind::TEMPLATE_TAIL);
+
+    fn open(&mut self, template: bool) {
+        if self.depth < MOST {
+            self.templates[self.depth] = template;
+            self.depth += 1;
+        }
     }
-    if begins_word(b) {
-        return word_piece(text, at);
+
+    fn close(&mut self) {
+        self.depth = self.depth.saturating_sub(1);
     }
-    if is_digit(b) {
-        return number_piece(text, at);
+
+    // A head opens a template and a tail closes it, braces the same.
+    fn passed(&mut self, kind: usize) {
+        match kind {
+            Kind::TEMPLATE_HEAD => self.open(true),
+            Kind::L_CURLY => self.open(false),
+            Kind::TEMPLATE_TAIL | Kind::R_CURLY => self.close(),
+            _ => {}
+        }
     }
-    if b == b'"' {
-        return string_piece(text, at);
+
+    // Whether a template is what encloses a token.
+    fn in_template(&self) -> bool {
+        0 < self.depth && self.templates[self.depth - 1]
     }
-    if b == b'\'' {
-        return string_piece(text, at);
-    }
-    mark_piece(text, at)
 }
 
 // ---- Words
 
-// A word at an index, if there is such a place.
-fn set_word(words: &mut [u64; 16385], at: usize, w: u64) {
-    if at < 16385 {
-        words[at] = w;
-        return;
-    }
+// Where the cutter stands in a text: the next byte, whether a line break came before it, what is open there; whether the end is
+// behind it.
+#[derive(Drop)]
+struct Cutter<'a> {
+    text: &'a [u8],
+    at: usize,
+    new_line: bool,
+    nest: Nest,
+    ended: bool,
+    ghost in_bounds: { at ≤ length text.now },
 }
 
-// A byte at an index, if there is such a place.
-fn set_byte(stack: &mut [u8; 16385], at: usize, b: u8) {
-    if at < 16385 {
-        stack[at] = b;
-        return;
+impl<'a> Cutter<'a> {
+    fn new(text: &'a [u8]) -> Cutter<'a> {
+        Cutter {
+            text,
+            at: 0,
+            new_line: false,
+            nest: Nest::new(),
+            ended: false,
+        }
     }
-}
 
-// What is open behind a token: a head opens a template and a tail closes it, braces the same.
-fn opened(stack: &mut [u8; 16385], open: usize, kind: usize) -> usize {
-    if kind == Kind::TEMPLATE_HEAD {
-        set_byte(stack, open, b'`');
-        return more(open);
+    // Past the blanks and comments before the next token.
+    fn skip(&mut self) {
+        while self.at < self.text.len() {
+            let rest = &self.text[self.at..];
+            let n = blank_len(rest);
+            if n == 0 {
+                return;
+            }
+            self.new_line |= rest[..n].iter().any(|b| matches!(b, b'\n' | b'\r'));
+            self.at += n;
+        }
     }
-    if kind == Kind::L_CURLY {
-        set_byte(stack, open, b'{');
-        return more(open);
-    }
-    if open == 0 {
-        return 0;
-    }
-    if kind == Kind::TEMPLATE_TAIL {
-        return open - 1;
-    }
-    if kind == Kind::R_CURLY {
-        return open - 1;
-    }
-    open
-}
 
-// Whether a `}` at an index ends a type in a template.
-fn in_template(text: &[u8], at: usize, stack: &[u8], open: usize) -> bool {
-    if byte_at(text, at) != b'}' {
-        return false;
-    }
-    if open == 0 {
-        return false;
-    }
-    byte_at(stack, open - 1) == b'`'
-}
-
-// The end of the blanks, or of one comment, at an index.
-fn blank_end(text: &[u8], at: usize) -> usize {
-    if byte_at(text, at) != b'/' {
-        return run_end(text, at, Run::BLANKS);
-    }
-    let next = byte_at(text, more(at));
-    if next == b'/' {
-        return run_end(text, at, Run::LINE);
-    }
-    if next == b'*' {
-        let end = find(text, more(more(at)), b'*');
-        return least(more(more(end)), text.len());
-    }
-    at
-}
-
-// 1 if a line break stands between two indices, or stood before.
-fn broken(text: &[u8], from: usize, to: usize, line: usize) -> usize {
-    if count(text, from, to, b'\n') != 0 {
-        return 1;
-    }
-    if count(text, from, to, b'\r') != 0 {
-        return 1;
-    }
-    line
-}
-
-// The next token's word.
-fn token(text: &[u8], words: &mut [u64; 16385], stack: &mut [u8; 16385], c: Standing) -> Standing {
-    let at = c.pos;
-    let inside = in_template(text, at, stack, c.open);
-    let p = piece_at(text, at, inside);
-    let w = word(
-        p.kind as u64,
-        c.line as u64,
-        0,
-        span(at, p.end) as u64,
-        at as u64,
-    );
-    set_word(words, c.made, w);
-    Standing {
-        pos: p.end,
-        made: more(c.made),
-        line: 0,
-        open: opened(stack, c.open, p.kind),
-    }
-}
-
-// Blanks, a comment or a token further.
-fn turn(text: &[u8], words: &mut [u64; 16385], stack: &mut [u8; 16385], c: Standing) -> Standing {
-    let at = c.pos;
-    if text.len() <= at {
-        return c;
-    }
-    if 16385 <= c.made {
-        return c;
-    }
-    let end = blank_end(text, at);
-    if at < end {
-        return Standing {
-            pos: end,
-            made: c.made,
-            line: broken(text, at, end, c.line),
-            open: c.open,
+    // The word of the next token, of the end once and then of none.
+    fn next(&mut self) -> Option<u64> {
+        if self.ended {
+            return None;
+        }
+        self.skip();
+        let rest = &self.text[self.at..];
+        let p = if rest.is_empty() {
+            Piece {
+                kind: Kind::EOF,
+                len: 0,
+            }
+        } else {
+            first_piece(rest, self.nest.in_template())
         };
+        let w = word(
+            p.kind as u64,
+            u64::from(self.new_line),
+            0,
+            p.len as u64,
+            self.at as u64,
+        );
+        self.ended = rest.is_empty();
+        self.nest.passed(p.kind);
+        self.at += p.len;
+        self.new_line = false;
+        Some(w)
     }
-    token(text, words, stack, c)
-}
-
-// All tokens but the end: each turn takes a byte or more.
-fn turns(text: &[u8], words: &mut [u64; 16385], stack: &mut [u8; 16385]) -> Standing {
-    let mut c = Standing {
-        pos: 0,
-        made: 0,
-        line: 0,
-        open: 0,
-    };
-    let mut left = text.len();
-    while 0 < left {
-        c = turn(text, words, stack, c);
-        left -= 1;
-    }
-    c
-}
-
-// A brace or template for each token.
-fn stack_room() -> [u8; 16385]
-    ensures { 16385 ≡ length result }
-{
-    [0; 16385]
 }
 
 // The token words of a text, as many as there is room for, with the end; how many there are.
-pub fn cut(text: &[u8], words: &mut [u64; 16385]) -> usize
-    ensures { result ≤ 16385 }
+pub fn cut(text: &[u8], words: &mut [u64]) -> usize
+    ensures { (result ≤ 16385) × IsPrefixLen result words.new }
 {
-    let mut stack = stack_room();
-    let c = turns(text, words, &mut stack);
-    let end = word(0, c.line as u64, 0, 0, text.len() as u64);
-    set_word(words, c.made, end);
-    least(more(c.made), 16385)
+    let mut cutter = Cutter::new(text);
+    let most = words.len().min(MOST);
+    for i in 0..most {
+        let Some(w) = cutter.next() else {
+            return i;
+        };
+        words[i] = w;
+    }
+    most
 }

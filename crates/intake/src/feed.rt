@@ -1,175 +1,104 @@
 // Lines of a reader, and what is said around each.
-ghost use Rattle.std.specs.Prelude.{◌≡◌, ◌<◌};
+ghost use Rattle.std.specs.Prelude.{◌≤◌, length, IfSome};
+ghost use Rattle.io.specs.Counts.{IsPrefixLen};
 
-use lines::line::{byte, bytes, flush};
+use lines::line::Out;
 use speech::ask::{Form, Job};
-use speech::put::{Shape, byte_at, copy, least, numbered};
+use speech::put::{Shape, copy, numbered};
 use std::io::Read;
 
-// The input that is at hand: the next byte and the end of it.
-#[derive(Clone, Copy)]
-pub struct Feed {
-    pub at: usize,
-    pub end: usize,
-}
-
-// A line: its length, whether it is one, the input behind it, and the place in the buffer of what is printed.
-#[derive(Clone, Copy)]
-pub struct Got {
-    pub size: usize,
-    pub is: bool,
-    pub feed: Feed,
-    pub at: usize,
-}
-
-// More input, once what was printed is out; none left if at = end.
-fn refilled<R: Read>(
-    from: &mut R,
-    out: &mut [u8; 65536],
+// A reader, and its input that is at hand: the next byte and the end of it.
+#[derive(Drop)]
+pub struct Feed<R> {
+    from: R,
+    input: [u8; 65536],
     at: usize,
-    input: &mut [u8; 65536],
-) -> Feed
-    requires { at < 65536 }
-{
-    flush(out, at);
-    Feed {
-        at: 0,
-        end: from.read(input).unwrap_or(0),
-    }
+    end: usize,
+    ghost in_order: { at ≤ end },
+    ghost in_bounds: { end ≤ 65536 },
 }
 
-// A byte of the line, if there is room.
-fn kept(text: &mut [u8; 131072], size: usize, b: u8) -> usize {
-    if size < 131072 {
-        text[size] = b;
-        return size + 1;
-    }
-    size
+// Bytes behind those that a text has already, as far as there is room; how many it has then.
+fn kept(text: &mut [u8], size: usize, bytes: &[u8]) -> usize
+    requires { size ≤ length text.old }
+    ensures { IsPrefixLen result text.new }
+{
+    let n = bytes.len().min(text.len() - size);
+    text[size..size + n].copy_from_slice(&bytes[..n]);
+    size + n
 }
 
-// The part of a line that the input at hand has, behind what is there already; the line is whole if its break was found.
-fn taken(text: &mut [u8; 131072], size: usize, input: &[u8], f: Feed, at: usize) -> Got
-    ensures { result.at ≡ at }
-{
-    let mut n = size;
-    let mut i = f.at;
-    while i < f.end {
-        let b = byte_at(input, i);
-        i += 1;
-        if b == b'\n' {
-            return Got {
-                size: n,
-                is: true,
-                feed: Feed { at: i, end: f.end },
-                at,
-            };
+impl<R: Read> Feed<R> {
+    // Nothing is at hand yet.
+    pub fn new(from: R) -> Feed<R> {
+        Feed {
+            from,
+            input: [0; 65536],
+            at: 0,
+            end: 0,
         }
-        n = kept(text, n, b);
     }
-    Got {
-        size: n,
-        is: false,
-        feed: Feed { at: i, end: i },
-        at,
-    }
-}
 
-// The next line, which the end of the input ends too.
-pub fn line<R: Read>(
-    from: &mut R,
-    out: &mut [u8; 65536],
-    at: usize,
-    input: &mut [u8; 65536],
-    text: &mut [u8; 131072],
-    feed: Feed,
-) -> Got
-    requires { at < 65536 }
-    ensures { result.at < 65536 }
-{
-    let mut p = at;
-    let mut f = feed;
-    let mut size: usize = 0;
-    let mut left: usize = 1_000_000_000;
-    while 0 < left {
-        let g = taken(text, size, input, f, p);
-        if g.is {
-            return g;
-        }
-        size = g.size;
-        f = refilled(from, out, p, input);
-        p = 0;
-        if f.end == 0 {
-            return Got {
-                size,
-                is: 0 < size,
-                feed: f,
-                at: p,
-            };
-        }
-        left -= 1;
+    // More input, once what was printed is out; whether there is any.
+    fn refill(&mut self, out: &mut Out) -> bool {
+        out.flush();
+        self.at = 0;
+        self.end = self.from.read(&mut self.input).unwrap_or(0);
+        self.end != 0
     }
-    Got {
-        size,
-        is: false,
-        feed: f,
-        at: p,
-    }
-}
 
-// Dots for what is left of a long text.
-fn dots(out: &mut [u8; 65536], at: usize, size: usize) -> usize
-    requires { at < 65536 }
-    ensures { result < 65536 }
-{
-    if size <= 100 {
-        return at;
+    // The length of the next line, which the end of the input ends too, at the start of a text, as far as there is room.
+    pub fn line(&mut self, out: &mut Out, text: &mut [u8]) -> Option<usize>
+        ensures { IfSome result (λ n. IsPrefixLen n text.new) }
+    {
+        let mut size: usize = 0;
+        for _ in 0..1_000_000_000 {
+            let rest = &self.input[self.at..self.end];
+            if let Some(n) = rest.iter().position(|&b| b == b'\n') {
+                size = kept(text, size, &rest[..n]);
+                self.at += n + 1;
+                return Some(size);
+            }
+            size = kept(text, size, rest);
+            if !self.refill(out) {
+                return (0 < size).then_some(size);
+            }
+        }
+        None
     }
-    bytes(out, at, b"...")
 }
 
 // Before all that is said of a type: the type, or how it begins.
-pub fn headed(out: &mut [u8; 65536], at: usize, text: &[u8], job: Job) -> usize
-    requires { at < 65536 }
-    ensures { result < 65536 }
-{
-    if job.form < Form::ALL {
-        return at;
+pub fn headed(out: &mut Out, text: &[u8], job: Job) {
+    if job.form != Form::All {
+        return;
     }
-    let p = numbered(out, at, b"line ", job.line);
-    let q = bytes(out, p, b": ");
-    let r = copy(out, q, text, 0, least(text.len(), 100), Shape::SOURCE);
-    let t = dots(out, r, text.len());
-    byte(out, t, b'\n')
+    numbered(out, b"line ", job.line);
+    out.bytes(b": ");
+    copy(out, text, 0, text.len().min(100), Shape::Source);
+    if 100 < text.len() {
+        out.bytes(b"...");
+    }
+    out.byte(b'\n');
 }
 
 // Behind all that is said of a type: an empty line.
-pub fn footed(out: &mut [u8; 65536], at: usize, job: Job) -> usize
-    requires { at < 65536 }
-    ensures { result < 65536 }
-{
-    if job.form < Form::ALL {
-        return at;
+pub fn footed(out: &mut Out, job: Job) {
+    if job.form == Form::All {
+        out.byte(b'\n');
     }
-    byte(out, at, b'\n')
 }
 
 // How far a long run is.
 pub fn progress(line: usize) {
-    if line % 10_000 != 0 {
-        return;
+    if line % 10_000 == 0 {
+        io::write_all(2, b"typekey: ");
+        io::print_decimal(2, line as u64);
+        io::write_all(2, b" lines\n");
     }
-    io::write_all(2, b"typekey: ");
-    io::print_decimal(2, line as u64);
-    io::write_all(2, b" lines\n");
 }
 
-// A line's length without a carriage return that ends it.
-pub fn trimmed(text: &[u8], size: usize) -> usize {
-    if size == 0 {
-        return 0;
-    }
-    if byte_at(text, size - 1) == b'\r' {
-        return size - 1;
-    }
-    size
+// A line without a carriage return that ends it.
+pub fn trimmed(line: &[u8]) -> &[u8] {
+    line.strip_suffix(b"\r").unwrap_or(line)
 }

@@ -1,79 +1,47 @@
 // The text or the key that an argument names.
+ghost use Rattle.std.specs.Prelude.{◌≤◌, length, IfSome};
+ghost use Rattle.io.specs.Counts.{IsPrefixLen};
+
 use lines::given::{argument, file};
 use lines::record::filled;
-use speech::ask::{Asked, From};
-use speech::put::byte_at;
+use speech::ask::Place;
 use std::io::{Input, Read};
 use std::rt::{Env, Files};
 
 // A text's length without the line break that ends it.
-fn trimmed(text: &[u8], size: usize) -> usize {
-    if size == 0 {
-        return 0;
+fn trimmed(text: &[u8]) -> usize
+    ensures { IsPrefixLen result text.now }
+{
+    match text {
+        [line @ .., b'\r', b'\n'] | [line @ .., b'\n'] => line.len(),
+        _ => text.len(),
     }
-    if byte_at(text, size - 1) != b'\n' {
-        return size;
-    }
-    if size == 1 {
-        return 0;
-    }
-    if byte_at(text, size - 2) == b'\r' {
-        return size - 2;
-    }
-    size - 1
 }
 
-// A text that was found, its length, or why there is none.
-#[derive(Clone, Copy)]
-pub struct Found {
-    pub size: usize,
-    pub is: bool,
-}
-
-// What a reader has left, as far as there is room.
-fn read_all<R: Read>(from: &mut R, text: &mut [u8]) -> Found {
+// What a reader has left, as far as there is room; its length.
+fn read_all<R: Read>(from: &mut R, text: &mut [u8]) -> usize
+    ensures { IsPrefixLen result text.new }
+{
     let n = filled(from, text);
-    Found {
-        size: trimmed(text, n),
-        is: true,
-    }
-}
-
-// What standard input has left, as far as there is room.
-fn read_input<R: Input>(rt: &R, text: &mut [u8]) -> Found {
-    let mut input = rt.reader();
-    read_all(&mut input, text)
+    trimmed(&text[..n])
 }
 
 // The file that an argument names.
-fn read_file<R: Env + Files>(rt: &R, i: usize, text: &mut [u8]) -> Found {
+fn read_file<R: Env + Files>(rt: &R, i: usize, text: &mut [u8]) -> Option<usize>
+    ensures { IfSome result (λ n. IsPrefixLen n text.new) }
+{
     let n = argument(rt, i, text);
-    match file(rt, &text[..n]) {
-        Some(mut file) => read_all(&mut file, text),
-        None => Found { size: 0, is: false },
-    }
+    let mut from = file(rt, &text[..n])?;
+    Some(read_all(&mut from, text))
 }
 
-// An argument itself, or standard input where it is a single `-`.
-fn read_argument<R: Env + Input>(rt: &R, i: usize, text: &mut [u8], dash: bool) -> Found {
-    let n = argument(rt, i, text);
-    if dash {
-        if n == 1 {
-            if byte_at(text, 0) == b'-' {
-                return read_input(rt, text);
-            }
-        }
+// The length of the text or key that is to be read, at the start of a buffer; none where a file cannot be opened.
+pub fn sought<R: Env + Files + Input>(rt: &R, place: Place, text: &mut [u8]) -> Option<usize>
+    ensures { IfSome result (λ n. IsPrefixLen n text.new) }
+{
+    match place {
+        Place::Argument(i) => Some(argument(rt, i, text)),
+        Place::File(i) => read_file(rt, i, text),
+        Place::Input => Some(read_all(&mut rt.reader(), text)),
     }
-    Found { size: n, is: true }
-}
-
-// The text or key that is to be read.
-pub fn sought<R: Env + Files + Input>(rt: &R, a: Asked, text: &mut [u8]) -> Found {
-    if a.from == From::FILE {
-        return read_file(rt, a.argument, text);
-    }
-    if a.from == From::INPUT {
-        return read_input(rt, text);
-    }
-    read_argument(rt, a.argument, text, a.from == From::KEY)
 }

@@ -59,6 +59,15 @@ impl Out {
         self.next(c);
     }
 
+    // The last byte, if it did not go out yet.
+    pub fn last(&self) -> Option<u8> {
+        if 0 < self.len {
+            Some(self.buffer[self.len - 1])
+        } else {
+            None
+        }
+    }
+
     // What is gathered goes out, to an open file.
     pub fn flush_to(&mut self, fd: i32) {
         io::write_all(fd, &self.buffer[..self.len]);

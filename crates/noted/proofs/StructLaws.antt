@@ -1,9 +1,9 @@
 -- The structs of records: in words, stored one after the other, and of diagnostics.
 use mathlib.Core.Path.{◌≡◌, refl, sym, ap, ◌∙◌}
 use mathlib.Core.List.{List, [], ◌∷◌, ◌++◌, map}
-use Prim.Native.Nat.{ℕ, zero, suc, ◌+◌, ◌-◌, ◌*◌, ◌<◌, ◌≤◌, min}
+use Prim.Native.Nat.{ℕ, zero, suc, ◌+◌, ◌-◌, ◌*◌, ◌<◌, min}
 use native.Mathlib.Omega.{arith}
-use lib.ListN.{length, set, replicate, length-append, get_or-eq_default}
+use lib.ListN.{length, set, replicate, length-append}
 use lib.Seq.{append_snoc, set-append_seam}
 use borrow.Author.Tests.{lt-ltb}
 use Rattle.words.specs.Limits.{most_notes}
@@ -15,16 +15,10 @@ use Rattle.noted.specs.declared.Note.{Note}
 use Rattle.noted.specs.Structs.{struct_of, no_struct, struct_at, structs_from, structs_of, store_at, place_after, store_from}
 
 -- A struct by its five numbers.
-pub struct_is : {a b c d e : ℕ} (words : List ℕ) (i : ℕ) → a ≡ word_at words (i * note_width) → b ≡ word_at words (i * note_width + 1) → c ≡ word_at words (i * note_width + 2)
+struct_is : {a b c d e : ℕ} (words : List ℕ) (i : ℕ) → a ≡ word_at words (i * note_width) → b ≡ word_at words (i * note_width + 1) → c ≡ word_at words (i * note_width + 2)
     → d ≡ word_at words (i * note_width + 3) → e ≡ word_at words (i * note_width + 4)
     → ◌≡◌ {A = Note} (record { number = a; first = b; end = c; other_first = d; other_end = e }) (struct_at words i)
 struct_is words i a b c d e = λ k. record { number = a k; first = b k; end = c k; other_first = d k; other_end = e k }
-
--- A record that the words do not reach is of zeros.
-pub struct_past : (words : List ℕ) (i : ℕ) → length words ≤ i → no_struct ≡ struct_at words i
-struct_past words i past =
-    let none : (at : ℕ) → length words ≤ at → 0 ≡ word_at words at = λ at p. sym (get_or-eq_default words 0 p) in
-    struct_is words i (none _ (omega arith)) (none _ (omega arith)) (none _ (omega arith)) (none _ (omega arith)) (none _ (omega arith))
 
 -- ---- Records that are stored one after the other
 

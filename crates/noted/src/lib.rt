@@ -2,13 +2,13 @@
 #![tactic(auto)]
 
 ghost use Rattle.std.specs.Prelude.{◌≡◌, length};
-ghost use Rattle.noted.specs.Structs.{no_struct, struct_at, structs_of, store_at, place_after, store_from};
+ghost use Rattle.noted.specs.Structs.{struct_at, structs_of, store_at, place_after, store_from};
 
 use words::cursor::word_at;
 use words::limits::Notes;
 
 // A diagnostic: its number, its first byte and its end byte, and those of a second place; an end of 0 where there is none.
-#[derive(Clone, Copy)]
+#[derive(Clone, Copy, Default)]
 pub struct Note {
     pub number: usize,
     pub first: usize,
@@ -18,34 +18,16 @@ pub struct Note {
 }
 
 // How many words a diagnostic has.
-#[derive(Clone, Copy)]
-struct Record {}
-
-impl Record {
-    const WORDS: usize = 5;
-}
-
-// The struct of zeros.
-fn no_note() -> Note
-    ensures { result ≡ no_struct }
-{
-    Note {
-        number: 0,
-        first: 0,
-        end: 0,
-        other_first: 0,
-        other_end: 0,
-    }
-}
+const WORDS: usize = 5;
 
 // The diagnostic of an index among the words of diagnostics.
 pub fn note_at(words: &[u64], i: usize) -> Note
     ensures { result ≡ struct_at words.now i }
 {
     if words.len() <= i {
-        return no_note();
+        return Note::default();
     }
-    let at = i * Record::WORDS;
+    let at = i * WORDS;
     Note {
         number: word_at(words, at) as usize,
         first: word_at(words, at + 1) as usize,
@@ -62,9 +44,8 @@ pub fn store_note(notes: &mut [Note], at: usize, n: Note) -> usize
     if at < notes.len() {
         notes[at] = n;
         return at + 1;
-    } else {
-        return at;
     }
+    at
 }
 
 // Stores the first diagnostics of words, one after the other.
@@ -72,30 +53,16 @@ pub fn store_notes(words: &[u64], count: usize, notes: &mut [Note])
     ensures { notes.new ≡ store_from words.now 0 0 count notes.old }
 {
     let mut at = 0;
-    let mut i = 0;
-    while i < count {
-        let n = note_at(words, i);
-        at = store_note(notes, at, n);
-        i = i + 1;
+    for i in 0..count {
+        at = store_note(notes, at, note_at(words, i));
     }
-}
-
-// The same in an array that is handed back.
-fn with_notes(mut list: [Note; Notes::MOST], words: &[u64], count: usize) -> [Note; Notes::MOST]
-    ensures { result ≡ store_from words.now 0 0 count list }
-{
-    store_notes(words, count, &mut list);
-    list
 }
 
 // The first diagnostics of words, as many as are counted and at most 32; the rest of the array holds zeros.
 pub fn notes_of(words: &[u64], count: usize) -> [Note; Notes::MOST]
     ensures { result ≡ structs_of words.now count }
 {
-    let none = no_note();
-    let list = [none; Notes::MOST];
-    if count < Notes::MOST {
-        return with_notes(list, words, count);
-    }
-    with_notes(list, words, Notes::MOST)
+    let mut list = [Note::default(); Notes::MOST];
+    store_notes(words, count.min(Notes::MOST), &mut list);
+    list
 }

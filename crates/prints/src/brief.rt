@@ -1,376 +1,160 @@
 // A node or a name of a tree on one line: its tag unless its spelling says it, its choices in words and its spellings, and
 // in brackets its children.
-ghost use Rattle.std.specs.Prelude.{◌<◌};
-
+use crate::known::{Known, Lead, Open};
 use crate::say;
-use crate::tree::{
-    Known, choice_word, choosing, chosen, entered, known_at, name_lead, naming, role, spelling,
-    tag_of,
-};
-use lines::line::{byte, bytes};
-use speech::put::{byte_at, least, more, pick};
-use visits::visits::{CHOICE, NAME, NODE, Visit, visit_at};
+use crate::seen::Seen;
+use crate::tag::Tag;
+use lines::line::Out;
+use speech::put::{Shape, pick};
+use visits::visits::{CHOICE, NAME, NODE, Visit};
 
-// The place in the buffer, whether a blank is due before the next word, and the depth of the last node.
-#[derive(Clone, Copy)]
-struct Shown {
-    at: usize,
+// The most visits of a node that are shown.
+const MOST: usize = 100;
+
+// A node on its way to the line: what is seen of its tree, the shape of its spellings, the open nodes, whether a blank is due
+// before the next word, and the depth of the last node.
+#[derive(Drop)]
+struct Shown<'a> {
+    seen: Seen<'a>,
+    shape: Shape,
+    open: Open,
     due: bool,
     deep: usize,
 }
 
-// What stands before a child.
-fn before(out: &mut [u8; 65536], at: usize, k: Known, first: bool) -> usize
-    requires { at < 65536 }
-    ensures { result < 65536 }
-{
-    if first {
-        return at;
-    }
-    if k.any {
-        return bytes(out, at, b", ");
-    }
-    bytes(out, at, b" (")
+// What stands before a child, and what it is to the node above.
+fn before(out: &mut Out, k: Known, tag: Tag) {
+    out.bytes(if k.any { b", " } else { b" (" });
+    say::word(out, k.role(tag));
 }
 
-// Whether a node is known by its spelling or its word: a reference, a keyword, a literal.
-fn is_plain(tag: usize) -> bool {
-    tag < 4
-}
-
-fn tagged(out: &mut [u8; 65536], at: usize, tag: usize) -> usize
-    requires { at < 65536 }
-    ensures { result < 65536 }
-{
-    if is_plain(tag) {
-        return at;
+// A choice by its word behind a comma, if its node has a child; the words that are said of a mapped type's mark have no blank of
+// their own.
+fn said(out: &mut Out, k: Known, word: &str) {
+    if k.any && !word.is_empty() {
+        out.byte(b',');
+        if !word.starts_with(' ') {
+            out.byte(b' ');
+        }
     }
-    say::tag(out, at, tag)
-}
-
-// What a child is to the node above, unless it is the first.
-fn its_role(out: &mut [u8; 65536], at: usize, k: Known, tag: usize, first: bool) -> usize
-    requires { at < 65536 }
-    ensures { result < 65536 }
-{
-    if first {
-        return at;
-    }
-    role(out, at, k, tag)
-}
-
-fn node(
-    out: &mut [u8; 65536],
-    b: Shown,
-    open: &mut [u64; 260],
-    v: Visit,
-    tag: usize,
-    first: bool,
-) -> Shown
-    requires { b.at < 65536 }
-    ensures { result.at < 65536 }
-{
-    let k = entered(open, v, tag);
-    let p = before(out, b.at, k, first);
-    let q = its_role(out, p, k, tag, first);
-    Shown {
-        at: tagged(out, q, tag),
-        due: !is_plain(tag),
-        deep: v.depth,
-    }
-}
-
-// A blank, if one is due.
-fn blank(out: &mut [u8; 65536], at: usize, due: bool) -> usize
-    requires { at < 65536 }
-    ensures { result < 65536 }
-{
-    if due {
-        return byte(out, at, b' ');
-    }
-    at
-}
-
-// A comma behind a child; the words that are said of a mapped type's mark have no blank of their own.
-fn parted(out: &mut [u8; 65536], at: usize, k: Known, word: usize) -> usize
-    requires { at < 65536 }
-    ensures { result < 65536 }
-{
-    if !k.any {
-        return at;
-    }
-    let p = byte(out, at, b',');
-    blank(out, p, 23 <= word)
-}
-
-// A choice by its word, unless it is said by none.
-fn said(out: &mut [u8; 65536], at: usize, k: Known, word: usize) -> usize
-    requires { at < 65536 }
-    ensures { result < 65536 }
-{
-    if word == 0 {
-        return at;
-    }
-    let p = parted(out, at, k, word);
-    chosen(out, p, word)
+    say::word(out, word);
 }
 
 // The words of a keyword, and of a literal that is not said by its spelling.
-fn plain(out: &mut [u8; 65536], at: usize, tag: usize, number: usize) -> usize
-    requires { at < 65536 }
-    ensures { result < 65536 }
-{
-    if tag == 2 {
-        return say::keyword(out, at, number);
-    }
-    pick(out, at, b"|||true|false|-|-|", number)
-}
-
-// Whether a choice says which keyword or what literal.
-fn is_word(k: Known) -> bool {
-    if k.phase != 1 {
-        return false;
-    }
-    if k.tag == 2 {
-        return true;
-    }
-    k.tag == 3
-}
-
-fn choice(out: &mut [u8; 65536], b: Shown, open: &mut [u64; 260], v: Visit) -> Shown
-    requires { b.at < 65536 }
-    ensures { result.at < 65536 }
-{
-    let k = choosing(open, v);
-    if is_word(k) {
-        return Shown {
-            at: plain(out, b.at, k.tag, v.number),
-            due: false,
-            deep: b.deep,
-        };
-    }
-    Shown {
-        at: said(out, b.at, k, choice_word(k.tag, k.phase, v.number)),
-        due: b.due,
-        deep: b.deep,
+fn plain(out: &mut Out, tag: Tag, number: usize) {
+    if tag == Tag::Keyword {
+        say::keyword(out, number);
+    } else {
+        pick(out, &["", "", "", "true", "false", "-", "-"], number);
     }
 }
 
-// What stands before a name: a dot, nothing, a comma behind a child, or a blank if one is due.
-fn led(out: &mut [u8; 65536], b: Shown, k: Known) -> usize
-    requires { b.at < 65536 }
-    ensures { result < 65536 }
-{
-    if k.any {
-        return bytes(out, b.at, b", ");
-    }
-    let lead = name_lead(k);
-    if lead == 1 {
-        return byte(out, b.at, b'.');
-    }
-    if lead == 2 {
-        return b.at;
-    }
-    blank(out, b.at, b.due)
-}
-
-fn name(
-    out: &mut [u8; 65536],
-    b: Shown,
-    open: &mut [u64; 260],
-    names: &[u64],
-    text: &[u8],
-    v: Visit,
-    shape: usize,
-) -> Shown
-    requires { b.at < 65536 }
-    ensures { result.at < 65536 }
-{
-    let k = naming(open, v);
-    let p = led(out, b, k);
-    Shown {
-        at: spelling(out, p, names, text, v.number, shape),
-        due: true,
-        deep: b.deep,
-    }
-}
-
-// ---- Brackets
-
-fn bracket(out: &mut [u8; 65536], at: usize, k: Known) -> usize
-    requires { at < 65536 }
-    ensures { result < 65536 }
-{
-    if k.any {
-        return byte(out, at, b')');
-    }
-    at
-}
-
-// The brackets of the open nodes from a depth on end.
-fn closed(out: &mut [u8; 65536], at: usize, open: &[u64; 260], from: usize, deep: usize) -> usize
-    requires { at < 65536 }
-    ensures { result < 65536 }
-{
-    let end = more(deep);
-    let mut p = at;
-    let mut d = from;
-    while d < end {
-        p = bracket(out, p, known_at(open, d));
-        d += 1;
-    }
-    p
-}
-
-// What a new visit closes: all nodes that it does not stand under.
-fn closing(out: &mut [u8; 65536], b: Shown, open: &[u64; 260], v: Visit, first: bool) -> Shown
-    requires { b.at < 65536 }
-    ensures { result.at < 65536 }
-{
-    if first {
-        return b;
-    }
-    Shown {
-        at: closed(out, b.at, open, v.depth, b.deep),
-        due: b.due,
-        deep: least(b.deep, crate::tree::owner(v.depth)),
-    }
-}
-
-// ---- Visits
-
-fn visited(
-    out: &mut [u8; 65536],
-    b: Shown,
-    open: &mut [u64; 260],
-    names: &[u64],
-    text: &[u8],
-    visits: &[u64],
-    i: usize,
-    first: bool,
-    shape: usize,
-) -> Shown
-    requires { b.at < 65536 }
-    ensures { result.at < 65536 }
-{
-    let v = visit_at(visits, i);
-    let c = closing(out, b, open, v, first);
-    if v.kind == NODE {
-        return node(out, c, open, v, tag_of(visits, i), first);
-    }
-    if v.kind == CHOICE {
-        return choice(out, c, open, v);
-    }
-    name(out, c, open, names, text, v, shape)
-}
-
-// Whether a visit stands under a node of a depth.
-fn under(visits: &[u64], i: usize, depth: usize) -> bool {
-    let v = visit_at(visits, i);
-    depth < v.depth
-}
-
-// Whether a visit behind the first of a node of a depth is no longer of that node.
-fn is_past(visits: &[u64], i: usize, first: usize, depth: usize) -> bool {
-    if i == first {
-        return false;
-    }
-    !under(visits, i, depth)
-}
-
-// A node of a depth: its visits, as far as there are up to an end.
-fn all(
-    out: &mut [u8; 65536],
-    at: usize,
-    open: &mut [u64; 260],
-    names: &[u64],
-    text: &[u8],
-    visits: &[u64],
-    from: usize,
-    end: usize,
-    depth: usize,
-    shape: usize,
-) -> Shown
-    requires { at < 65536 }
-    ensures { result.at < 65536 }
-{
-    let mut b = Shown {
-        at,
-        due: false,
-        deep: depth,
-    };
-    let mut i = from;
-    while i < end {
-        if is_past(visits, i, from, depth) {
-            return b;
+impl<'a> Shown<'a> {
+    fn node(&mut self, out: &mut Out, v: Visit, tag: Tag, first: bool) {
+        let k = self.open.entered(v, tag);
+        if !first {
+            before(out, k, tag);
         }
-        b = visited(out, b, open, names, text, visits, i, i == from, shape);
-        i += 1;
+        if !tag.is_plain() {
+            say::word(out, tag.name());
+        }
+        self.due = !tag.is_plain();
+        self.deep = v.depth;
     }
-    b
-}
 
-// Whether a blank stands before a place.
-fn is_blank(out: &[u8; 65536], at: usize) -> bool {
-    if at == 0 {
-        return false;
+    // A choice says which keyword or what literal, or has a word of its own.
+    fn choice(&mut self, out: &mut Out, v: Visit) {
+        let k = self.open.choosing(v);
+        if k.phase == 1 && matches!(k.tag, Tag::Keyword | Tag::Literal) {
+            plain(out, k.tag, v.number);
+            self.due = false;
+        } else {
+            said(out, k, k.choice(v.number));
+        }
     }
-    byte_at(out, at - 1) == b' '
-}
 
-// Dots, where a node was not shown whole.
-fn dots(out: &mut [u8; 65536], at: usize, cut: bool) -> usize
-    requires { at < 65536 }
-    ensures { result < 65536 }
-{
-    if !cut {
-        return at;
+    // What stands before a name: a comma behind a child, a dot, nothing, or a blank if one is due.
+    fn lead(&self, out: &mut Out, k: Known) {
+        match k.lead() {
+            _ if k.any => out.bytes(b", "),
+            Lead::Dot => out.byte(b'.'),
+            Lead::Space if self.due => out.byte(b' '),
+            _ => {}
+        }
     }
-    if is_blank(out, at) {
-        return bytes(out, at, b"...");
-    }
-    bytes(out, at, b" ...")
-}
 
-// A node, of which at most 100 visits are shown.
-fn whole(
-    out: &mut [u8; 65536],
-    at: usize,
-    names: &[u64],
-    text: &[u8],
-    visits: &[u64],
-    i: usize,
-    depth: usize,
-    shape: usize,
-) -> usize
-    requires { at < 65536 }
-    ensures { result < 65536 }
-{
-    let mut open = [0u64; 260];
-    let end = std::num::wrapping_add_usize(i, 100);
-    let b = all(
-        out, at, &mut open, names, text, visits, i, end, depth, shape,
-    );
-    let p = dots(out, b.at, under(visits, end, depth));
-    closed(out, p, &open, depth, b.deep)
+    fn name(&mut self, out: &mut Out, v: Visit) {
+        let k = self.open.naming(v);
+        self.lead(out, k);
+        self.seen.spell(out, v.number, self.shape);
+        self.due = true;
+    }
+
+    // The brackets of the open nodes from a depth on end.
+    fn close(&self, out: &mut Out, from: usize) {
+        for d in from..self.deep.saturating_add(1) {
+            if self.open.at(d).any {
+                out.byte(b')');
+            }
+        }
+    }
+
+    // A visit, behind the brackets of all nodes that it does not stand under.
+    fn visit(&mut self, out: &mut Out, i: usize, first: bool) {
+        let v = self.seen.visit(i);
+        if !first {
+            self.close(out, v.depth);
+            self.deep = self.deep.min(v.depth.saturating_sub(1));
+        }
+        match v.kind {
+            NODE => self.node(out, v, self.seen.tag(i), first),
+            CHOICE => self.choice(out, v),
+            _ => self.name(out, v),
+        }
+    }
+
+    // Whether a visit stands under a node of a depth.
+    fn is_under(&self, i: usize, depth: usize) -> bool {
+        depth < self.seen.visit(i).depth
+    }
+
+    // The visits of a node from one on that stand under its depth, up to an end.
+    fn visits(&mut self, out: &mut Out, from: usize, end: usize, depth: usize) {
+        for i in from..end {
+            if i != from && !self.is_under(i, depth) {
+                return;
+            }
+            self.visit(out, i, i == from);
+        }
+    }
+
+    // A node, and dots where it is not shown whole.
+    fn whole(&mut self, out: &mut Out, i: usize, depth: usize) {
+        let end = i.saturating_add(MOST);
+        self.visits(out, i, end, depth);
+        if self.is_under(end, depth) {
+            if out.last() != Some(b' ') {
+                out.byte(b' ');
+            }
+            out.bytes(b"...");
+        }
+        self.close(out, depth);
+    }
 }
 
 // What a visit stands for: a node or a name.
-pub fn brief(
-    out: &mut [u8; 65536],
-    at: usize,
-    names: &[u64],
-    text: &[u8],
-    visits: &[u64],
-    i: usize,
-    shape: usize,
-) -> usize
-    requires { at < 65536 }
-    ensures { result < 65536 }
-{
-    let v = visit_at(visits, i);
+pub fn brief(out: &mut Out, seen: Seen, i: usize, shape: Shape) {
+    let v = seen.visit(i);
     if v.kind == NAME {
-        return spelling(out, at, names, text, v.number, shape);
+        seen.spell(out, v.number, shape);
+        return;
     }
-    whole(out, at, names, text, visits, i, v.depth, shape)
+    let mut b = Shown {
+        seen,
+        shape,
+        open: Open::new(),
+        due: false,
+        deep: v.depth,
+    };
+    b.whole(out, i, v.depth);
 }

@@ -5,9 +5,12 @@
 pub mod brief;
 pub mod differing;
 pub mod json;
+pub mod known;
 pub mod place;
 pub mod reading;
 pub mod say;
+pub mod seen;
+pub mod tag;
 pub mod tagged;
 pub mod taking;
 pub mod trail;

@@ -1,153 +1,184 @@
-// Refusals, diagnostics and tags in words.
-ghost use Rattle.std.specs.Prelude.{◌<◌, length};
-
-use lines::line::bytes;
+// Refusals, diagnostics and keywords in words.
+use lines::line::Out;
 use noted::Note;
+use speech::ask::Side;
 use speech::put::{Shape, copy, pick};
+use words::refusal::Refusal;
+
+// A word.
+pub fn word(out: &mut Out, text: &str) {
+    out.bytes(text.as_bytes());
+}
 
 // Which of two things is spoken of, if there are two.
-pub fn side(out: &mut [u8; 65536], at: usize, number: usize) -> usize
-    requires { at < 65536 }
-    ensures { result < 65536 }
-{
-    pick(out, at, b"|left: |right: |", number)
-}
-
-// The name of a refusal from 20 on: a form that is not read, or a trial too many.
-fn form(out: &mut [u8; 65536], at: usize, number: usize) -> usize
-    requires { at < 65536 }
-    ensures { result < 65536 }
-{
-    pick(
-        out,
-        at,
-        b"PrefixMark|ParameterModifier|DefaultValue|MisplacedThis|RestNotLast|TypeParameterModifier|ImportSource|ImportOptions|ManyTrials|||MemberForm|",
-        number,
-    )
-}
-
-// The name of a refusal; 4, 29 and 30 have none.
-pub fn refusal(out: &mut [u8; 65536], at: usize, number: usize) -> usize
-    requires { at < 65536 }
-    ensures { result < 65536 }
-{
-    if 20 <= number {
-        return form(out, at, number - 20);
+pub fn side(out: &mut Out, side: Option<Side>) {
+    match side {
+        Some(Side::Left) => out.bytes(b"left: "),
+        Some(Side::Right) => out.bytes(b"right: "),
+        None => {}
     }
-    pick(
-        out,
-        at,
-        b"|BadList|BadToken|Unexpected||TooDeep|TooTall|TooLong|NoRoom|ManyNotes|BadKey|NoSpace|",
-        number,
-    )
 }
 
-// What the first refusals mean in a reading.
-fn early(out: &mut [u8; 65536], at: usize, number: usize) -> usize
-    requires { at < 65536 }
-    ensures { result < 65536 }
-{
-    pick(
-        out,
-        at,
-        b"|the text has over 65,535 bytes or over 16,384 tokens|a word with a backslash is not read|no rule takes this token|",
-        number,
-    )
+// What a number refuses, in a reading or in a key.
+pub fn refusal_of(number: usize) -> Option<Refusal> {
+    Some(match number {
+        1 => Refusal::BadList,
+        2 => Refusal::BadToken,
+        3 => Refusal::Unexpected,
+        5 => Refusal::TooDeep,
+        6 => Refusal::TooTall,
+        7 => Refusal::TooLong,
+        8 => Refusal::NoRoom,
+        9 => Refusal::ManyNotes,
+        10 => Refusal::BadKey,
+        11 => Refusal::NoSpace,
+        20 => Refusal::PrefixMark,
+        21 => Refusal::ParameterModifier,
+        22 => Refusal::DefaultValue,
+        23 => Refusal::MisplacedThis,
+        24 => Refusal::RestNotLast,
+        25 => Refusal::TypeParameterModifier,
+        26 => Refusal::ImportSource,
+        27 => Refusal::ImportOptions,
+        28 => Refusal::ManyTrials,
+        31 => Refusal::MemberForm,
+        _ => return None,
+    })
 }
 
-// What the others mean, from 5 on.
-fn late(out: &mut [u8; 65536], at: usize, number: usize) -> usize
-    requires { at < 65536 }
-    ensures { result < 65536 }
-{
-    pick(
-        out,
-        at,
-        b"a type here would be the 65th open|the tree would be over 256 nodes high|a list has over 4,095 entries|no room is left for a node|there would be over 32 diagnostics|this field is not as a key has it|the key or its spellings do not fit the space|",
-        number,
-    )
-}
-
-// What the refusals from 20 on mean.
-fn unread(out: &mut [u8; 65536], at: usize, number: usize) -> usize
-    requires { at < 65536 }
-    ensures { result < 65536 }
-{
-    pick(
-        out,
-        at,
-        b"a ?, ! or * before a type is not supported; ? and ! may stand behind it|a modifier before a parameter is not supported|a default value is not supported here; a ? behind the name is|this has to be the first parameter, and not a rest|nothing may follow a rest parameter, not even a comma|const, in or out before a type parameter is not supported|the source of an import has to be a string|options of an import are not supported; only its source is read|more than four constraints of infer would be tried at once|||a computed name, an accessor or a modifier other than readonly is not supported|",
-        number,
-    )
+// The name of a refusal.
+fn name(refusal: Refusal) -> &'static str {
+    match refusal {
+        Refusal::BadList => "BadList",
+        Refusal::BadToken => "BadToken",
+        Refusal::Unexpected => "Unexpected",
+        Refusal::TooDeep => "TooDeep",
+        Refusal::TooTall => "TooTall",
+        Refusal::TooLong => "TooLong",
+        Refusal::NoRoom => "NoRoom",
+        Refusal::ManyNotes => "ManyNotes",
+        Refusal::BadKey => "BadKey",
+        Refusal::NoSpace => "NoSpace",
+        Refusal::PrefixMark => "PrefixMark",
+        Refusal::ParameterModifier => "ParameterModifier",
+        Refusal::DefaultValue => "DefaultValue",
+        Refusal::MisplacedThis => "MisplacedThis",
+        Refusal::RestNotLast => "RestNotLast",
+        Refusal::TypeParameterModifier => "TypeParameterModifier",
+        Refusal::ImportSource => "ImportSource",
+        Refusal::ImportOptions => "ImportOptions",
+        Refusal::ManyTrials => "ManyTrials",
+        Refusal::ManyDifferences => "ManyDifferences",
+        Refusal::MemberForm => "MemberForm",
+    }
 }
 
 // What a refusal means; `ends` where it is at the text's end.
-pub fn why(out: &mut [u8; 65536], at: usize, number: usize, ends: bool) -> usize
-    requires { at < 65536 }
-    ensures { result < 65536 }
-{
-    if 20 <= number {
-        return unread(out, at, number - 20);
+fn meaning(refusal: Refusal, ends: bool) -> &'static str {
+    match refusal {
+        Refusal::BadList => "the text has over 65,535 bytes or over 16,384 tokens",
+        Refusal::BadToken => "a word with a backslash is not read",
+        Refusal::Unexpected if ends => "the text ends here, and the type does not",
+        Refusal::Unexpected => "no rule takes this token",
+        Refusal::TooDeep => "a type here would be the 65th open",
+        Refusal::TooTall => "the tree would be over 256 nodes high",
+        Refusal::TooLong => "a list has over 4,095 entries",
+        Refusal::NoRoom => "no room is left for a node",
+        Refusal::ManyNotes => "there would be over 32 diagnostics",
+        Refusal::BadKey => "this field is not as a key has it",
+        Refusal::NoSpace => "the key or its spellings do not fit the space",
+        _ => unread(refusal),
     }
-    if 5 <= number {
-        return late(out, at, number - 5);
-    }
-    if number == 3 {
-        if ends {
-            return bytes(out, at, b"the text ends here, and the type does not");
-        }
-    }
-    early(out, at, number)
 }
+
+// What the others mean.
+fn unread(refusal: Refusal) -> &'static str {
+    match refusal {
+        Refusal::PrefixMark => {
+            "a ?, ! or * before a type is not supported; ? and ! may stand behind it"
+        }
+        Refusal::ParameterModifier => "a modifier before a parameter is not supported",
+        Refusal::DefaultValue => "a default value is not supported here; a ? behind the name is",
+        Refusal::MisplacedThis => "this has to be the first parameter, and not a rest",
+        Refusal::RestNotLast => "nothing may follow a rest parameter, not even a comma",
+        Refusal::TypeParameterModifier => {
+            "const, in or out before a type parameter is not supported"
+        }
+        Refusal::ImportSource => "the source of an import has to be a string",
+        Refusal::ImportOptions => "options of an import are not supported; only its source is read",
+        Refusal::ManyTrials => "more than four constraints of infer would be tried at once",
+        Refusal::MemberForm => {
+            "a computed name, an accessor or a modifier other than readonly is not supported"
+        }
+        _ => "",
+    }
+}
+
+// The name of the refusal of a number.
+pub fn refusal(out: &mut Out, number: usize) {
+    if let Some(refusal) = refusal_of(number) {
+        word(out, name(refusal));
+    }
+}
+
+// What the refusal of a number means; `ends` where it is at the text's end.
+pub fn why(out: &mut Out, number: usize, ends: bool) {
+    if let Some(refusal) = refusal_of(number) {
+        word(out, meaning(refusal, ends));
+    }
+}
+
+// The number of the diagnostic of a reserved name.
+const RESERVED: usize = 13;
 
 // A diagnostic in words.
-pub fn diagnostic(out: &mut [u8; 65536], at: usize, number: usize) -> usize
-    requires { at < 65536 }
-    ensures { result < 65536 }
-{
-    pick(
-        out,
-        at,
-        b"|empty type parameters|empty arguments|this on a constructor|required element after an optional one|rest after a label|? after a labelled type|optional and rest|? on an index parameter|comma after an index parameter|index parameter of a literal type|index parameter of a keyword type that cannot be an index|not exactly one index parameter|reserved name|",
-        number,
-    )
-}
-
-// The name of a tag; 26 is a type parameter, 27 a parameter, 28 and on are the sorts of members.
-pub fn tag(out: &mut [u8; 65536], at: usize, number: usize) -> usize
-    requires { at < 65536 }
-    ensures { result < 65536 }
-{
-    pick(
-        out,
-        at,
-        b"|reference|keyword|literal|parens|union|intersection|array|indexed|conditional|infer|operator|function|constructor|mapped|template|predicate|typeof|import|tuple|optional|rest|named|non-null|nullable|object|type parameter|parameter|property|method|call signature|construct signature|index signature|",
-        number,
-    )
+pub fn diagnostic(number: usize) -> &'static str {
+    match number {
+        1 => "empty type parameters",
+        2 => "empty arguments",
+        3 => "this on a constructor",
+        4 => "required element after an optional one",
+        5 => "rest after a label",
+        6 => "? after a labelled type",
+        7 => "optional and rest",
+        8 => "? on an index parameter",
+        9 => "comma after an index parameter",
+        10 => "index parameter of a literal type",
+        11 => "index parameter of a keyword type that cannot be an index",
+        12 => "not exactly one index parameter",
+        RESERVED => "reserved name",
+        _ => "",
+    }
 }
 
 // The word of a keyword.
-pub fn keyword(out: &mut [u8; 65536], at: usize, number: usize) -> usize
-    requires { at < 65536 }
-    ensures { result < 65536 }
-{
+pub fn keyword(out: &mut Out, number: usize) {
     pick(
         out,
-        at,
-        b"any|bigint|boolean|never|null|number|object|string|symbol|this|undefined|unknown|void|",
+        &[
+            "any",
+            "bigint",
+            "boolean",
+            "never",
+            "null",
+            "number",
+            "object",
+            "string",
+            "symbol",
+            "this",
+            "undefined",
+            "unknown",
+            "void",
+        ],
         number,
-    )
+    );
 }
 
 // What to do about a diagnostic of a text, where its words leave that open.
-pub fn hint(out: &mut [u8; 65536], at: usize, text: &[u8], n: Note) -> usize
-    requires { at < 65536 }
-    ensures { result < 65536 }
-{
-    if n.number != 13 {
-        return at;
+pub fn hint(out: &mut Out, text: &[u8], n: Note) {
+    if n.number == RESERVED {
+        out.bytes(b": ");
+        copy(out, text, n.first, n.end, Shape::Shown);
+        out.bytes(b" names a type of its own; choose another name");
     }
-    let p = bytes(out, at, b": ");
-    let q = copy(out, p, text, n.first, n.end, Shape::SHOWN);
-    bytes(out, q, b" names a type of its own; choose another name")
 }

@@ -1,431 +1,351 @@
 // What the arguments ask for.
-ghost use Rattle.std.specs.Prelude.{◌<◌, ◌≤◌, length};
-
-use crate::put::{byte_at, entry_of, numbered, pick};
+use crate::put::{Shape, copy};
 use lines::given::argument;
-use lines::line::{bytes, put_out};
+use lines::line::Out;
 use std::env::FillError;
 use std::rt::Env;
 
 // What is printed.
-#[derive(Clone, Copy)]
-pub struct Form {}
-
-impl Form {
-    pub const KEY: usize = 1;
-
-    pub const TREE: usize = 2;
-
-    pub const JSON: usize = 3;
-
-    pub const ALL: usize = 4;
+#[derive(Clone, Copy, Debug, PartialEq, Eq)]
+pub enum Form {
+    Key,
+    Tree,
+    Json,
+    All,
 }
 
-// What is read.
-#[derive(Clone, Copy)]
-pub struct From {}
-
-impl From {
-    pub const NOTHING: usize = 0;
-
-    pub const ARGUMENT: usize = 1;
-
-    pub const FILE: usize = 2;
-
-    pub const INPUT: usize = 3;
-
-    pub const LINES: usize = 4;
-
-    pub const KEY: usize = 5;
-
-    pub const HELP: usize = 6;
-
-    pub const VERSION: usize = 7;
-
-    pub const KEYS: usize = 8;
-
-    pub const TYPES: usize = 9;
+// Where a text stands: in the argument of a number, in the file that this names, on standard input.
+#[derive(Clone, Copy, Debug, PartialEq, Eq)]
+pub enum Place {
+    Argument(usize),
+    File(usize),
+    Input,
 }
 
-// The numbers of the options that take a value, in the list of options.
-#[derive(Clone, Copy)]
-struct Valued {}
-
-impl Valued {
-    const FILE: usize = 9;
-
-    const BACK: usize = 10;
-
-    const ROOM: usize = 11;
-
-    const DIFF: usize = 15;
-
-    const DIFF_TYPES: usize = 16;
-
-    const SECOND_KEY: usize = 17;
-
-    const SECOND_TYPE: usize = 18;
+// What is read: one type or key, a type a line, or the two arguments that hold two keys or types.
+#[derive(Clone, Copy, Debug, PartialEq, Eq)]
+pub enum Source {
+    Type(Place),
+    Key(Place),
+    Lines,
+    Keys(usize, usize),
+    Types(usize, usize),
+    Help,
+    Version,
 }
 
-// What was wrong, as numbers of a list.
-#[derive(Clone, Copy)]
-struct Wrong {}
-
-impl Wrong {
-    const OPTION: usize = 1;
-
-    const SECOND: usize = 2;
-
-    const VALUE: usize = 3;
-
-    const NUMBER: usize = 4;
-
-    const NOTHING: usize = 5;
-
-    const LONG: usize = 6;
+// One of two that are compared.
+#[derive(Clone, Copy, Debug, PartialEq, Eq)]
+pub enum Side {
+    Left,
+    Right,
 }
-
-// All that was asked: what to print and to read, the argument that names it, and the first where two are compared; brackets, nodes
-// and bytes to lend; the option that waits for its value; whether only texts follow; what was wrong, and in which argument.
-#[derive(Clone, Copy)]
-pub struct Asked {
-    pub form: usize,
-    pub from: usize,
-    pub argument: usize,
-    pub first: usize,
-    pub parens: bool,
-    pub room: usize,
-    pub space: usize,
-    pub wants: usize,
-    pub only_texts: bool,
-    pub wrong: usize,
-    pub bad: usize,
-}
-
-fn nothing() -> Asked {
-    Asked {
-        form: 0,
-        from: From::NOTHING,
-        argument: 0,
-        first: 0,
-        parens: false,
-        room: 1_000_000_000,
-        space: 1_000_000_000,
-        wants: 0,
-        only_texts: false,
-        wrong: 0,
-        bad: 0,
-    }
-}
-
-fn amiss(a: Asked, what: usize, i: usize) -> Asked {
-    let mut b = a;
-    b.wrong = what;
-    b.bad = i;
-    b
-}
-
-// A source: there may be one only.
-fn sourced(a: Asked, from: usize, i: usize) -> Asked {
-    if a.from != From::NOTHING {
-        return amiss(a, Wrong::SECOND, i);
-    }
-    let mut b = a;
-    b.from = from;
-    b.argument = i;
-    b.wants = 0;
-    b
-}
-
-fn formed(a: Asked, form: usize) -> Asked {
-    let mut b = a;
-    b.form = form;
-    b
-}
-
-fn wanting(a: Asked, option: usize, i: usize) -> Asked {
-    let mut b = a;
-    b.wants = option;
-    b.bad = i;
-    b
-}
-
-fn with_parens(a: Asked) -> Asked {
-    let mut b = a;
-    b.parens = true;
-    b
-}
-
-fn texts_only(a: Asked) -> Asked {
-    let mut b = a;
-    b.only_texts = true;
-    b
-}
-
-// An option by its number in the list.
-fn option(a: Asked, i: usize, number: usize) -> Asked {
-    match number {
-        1..=4 => formed(a, number),
-        5 => with_parens(a),
-        6 => sourced(a, From::LINES, i),
-        7 => sourced(a, From::HELP, i),
-        8 => sourced(a, From::VERSION, i),
-        13 => texts_only(a),
-        14 => sourced(a, From::INPUT, i),
-        _ => wanting(a, number, i),
-    }
-}
-
-// The value of a digit, or 10.
-fn digit(b: u8) -> usize
-    ensures { result ≤ 10 }
-{
-    if b < 48 {
-        return 10;
-    }
-    if 57 < b {
-        return 10;
-    }
-    (b - 48) as usize
-}
-
-// A number of one to nine digits, or one that is larger than those.
-fn number(word: &[u8]) -> usize {
-    if word.len() == 0 {
-        return 1_000_000_000;
-    }
-    let mut n: usize = 0;
-    let mut i: usize = 0;
-    while i < word.len() {
-        let d = digit(byte_at(word, i));
-        if 9 < d {
-            return 1_000_000_000;
-        }
-        if 99_999_999 < n {
-            return 1_000_000_000;
-        }
-        n = n * 10 + d;
-        i += 1;
-    }
-    n
-}
-
-// Nodes or bytes to lend.
-fn lending(a: Asked, i: usize, n: usize) -> Asked {
-    if 1_000_000_000 <= n {
-        return amiss(a, Wrong::NUMBER, i);
-    }
-    let mut b = a;
-    if a.wants == Valued::ROOM {
-        b.room = n;
-    } else {
-        b.space = n;
-    }
-    b.wants = 0;
-    b
-}
-
-// The first of two; the second is waited for.
-fn halved(a: Asked, i: usize, wants: usize) -> Asked {
-    let mut b = a;
-    b.first = i;
-    b.wants = wants;
-    b
-}
-
-// The value that an option of two values waits for.
-fn with_two(a: Asked, i: usize) -> Asked {
-    if a.wants == Valued::DIFF {
-        return halved(a, i, Valued::SECOND_KEY);
-    }
-    if a.wants == Valued::DIFF_TYPES {
-        return halved(a, i, Valued::SECOND_TYPE);
-    }
-    if a.wants == Valued::SECOND_KEY {
-        return sourced(a, From::KEYS, i);
-    }
-    sourced(a, From::TYPES, i)
-}
-
-// The value that an option waits for.
-fn with_value(a: Asked, i: usize, word: &[u8]) -> Asked {
-    if a.wants == Valued::FILE {
-        return sourced(a, From::FILE, i);
-    }
-    if a.wants == Valued::BACK {
-        return sourced(a, From::KEY, i);
-    }
-    if Valued::DIFF <= a.wants {
-        return with_two(a, i);
-    }
-    lending(a, i, number(word))
-}
-
-// Whether a word is meant as an option.
-fn dashed(word: &[u8]) -> bool {
-    if byte_at(word, 0) != b'-' {
-        return false;
-    }
-    byte_at(word, 1) == b'-'
-}
-
-// A word that no option waits for.
-fn free(a: Asked, i: usize, word: &[u8]) -> Asked {
-    if a.only_texts {
-        return sourced(a, From::ARGUMENT, i);
-    }
-    let k = entry_of(
-        b"--key|--tree|--json|--all|--parens|--batch|--help|--version|--file|--back|--room|--space|--|-|--diff|--diff-types|",
-        word,
-        0,
-        word.len(),
-    );
-    if k != 0 {
-        return option(a, i, k);
-    }
-    if dashed(word) {
-        return amiss(a, Wrong::OPTION, i);
-    }
-    sourced(a, From::ARGUMENT, i)
-}
-
-fn further(a: Asked, i: usize, word: &[u8]) -> Asked {
-    if a.wants != 0 {
-        return with_value(a, i, word);
-    }
-    free(a, i, word)
-}
-
-// One argument further, unless something is wrong already.
-fn step<R: Env>(rt: &R, a: Asked, i: usize, buffer: &mut [u8]) -> Asked {
-    if a.wrong != 0 {
-        return a;
-    }
-    match rt.arg(i, buffer) {
-        Ok(n) => further(a, i, &buffer[..n]),
-        Err(_) => amiss(a, Wrong::LONG, i),
-    }
-}
-
-// What is still missing when all arguments are there.
-fn missing(a: Asked) -> Asked {
-    if a.wrong != 0 {
-        return a;
-    }
-    if a.wants != 0 {
-        return amiss(a, Wrong::VALUE, a.bad);
-    }
-    if a.from == From::NOTHING {
-        return amiss(a, Wrong::NOTHING, 0);
-    }
-    a
-}
-
-// How many arguments there are, the program's name among them.
-fn argument_count<R: Env>(rt: &R) -> usize {
-    let mut n: usize = 0;
-    while n < usize::MAX {
-        match rt.arg(n, &mut []) {
-            Err(FillError::NotPresent) => return n,
-            _ => n += 1,
-        }
-    }
-    n
-}
-
-// All arguments.
-pub fn all_arguments<R: Env>(rt: &R, buffer: &mut [u8]) -> Asked {
-    let mut a = nothing();
-    let mut i: usize = 1;
-    let count = argument_count(rt);
-    while i < count {
-        a = step(rt, a, i, buffer);
-        i += 1;
-    }
-    missing(a)
-}
-
-// The argument that is wrong, after a space.
-fn blamed<R: Env>(rt: &R, out: &mut [u8; 65536], at: usize, i: usize, buffer: &mut [u8]) -> usize
-    requires { at < 65536 }
-    ensures { result < 65536 }
-{
-    if i == 0 {
-        return at;
-    }
-    let n = argument(rt, i, buffer);
-    let p = bytes(out, at, b" ");
-    crate::put::copy(
-        out,
-        p,
-        buffer,
-        0,
-        crate::put::least(n, 200),
-        crate::put::Shape::SHOWN,
-    )
-}
-
-// One line on what was wrong.
-pub fn complain<R: Env>(rt: &R, out: &mut [u8; 65536], a: Asked, buffer: &mut [u8]) {
-    let p = bytes(out, 0, b"typekey: ");
-    let q = pick(
-        out,
-        p,
-        b"|there is no option|more than one thing to read; the second is|a value is missing after|not a number of at most nine digits:|no type was given|an argument is too long|",
-        a.wrong,
-    );
-    let r = blamed(rt, out, q, a.bad, buffer);
-    let s = bytes(out, r, b"; typekey --help says how it is used\n");
-    put_out(2, out, s);
-}
-
-// ---- A job
 
 // How a type is read and printed: the form, brackets, the most nodes and bytes of key to lend, the number of the text's first line;
-// the side, 1 or 2, where two are compared.
+// the side, where two are compared.
 #[derive(Clone, Copy)]
 pub struct Job {
-    pub form: usize,
+    pub form: Form,
     pub parens: bool,
     pub room: usize,
     pub space: usize,
     pub line: usize,
-    pub side: usize,
+    pub side: Option<Side>,
 }
 
-// The form, where none was asked for: keys for lines, all for one type.
-fn form_of(a: Asked) -> usize {
-    if a.form != 0 {
-        return a.form;
+impl Job {
+    // A job for the line of a number.
+    pub fn for_line(self, line: usize) -> Job {
+        Job { line, ..self }
     }
-    if a.from == From::LINES {
-        return Form::KEY;
-    }
-    Form::ALL
-}
 
-// How what is asked for is read and printed.
-pub fn job_of(a: Asked) -> Job {
-    Job {
-        form: form_of(a),
-        parens: a.parens,
-        room: a.room,
-        space: a.space,
-        line: 1,
-        side: 0,
+    // A job for one of two sides.
+    pub fn on_side(self, side: Side) -> Job {
+        Job {
+            side: Some(side),
+            ..self
+        }
     }
 }
 
-// A job for the line of a number.
-pub fn for_line(job: Job, line: usize) -> Job {
-    let mut j = job;
-    j.line = line;
-    j
+// What is asked for: what to read, and how it is read and printed.
+#[derive(Clone, Copy)]
+pub struct Asked {
+    pub source: Source,
+    pub job: Job,
 }
 
-// A job for one of two sides.
-pub fn on_side(job: Job, side: usize) -> Job {
-    let mut j = job;
-    j.side = side;
-    j
+// ---- What is wrong
+
+// What is wrong, and in which argument.
+#[derive(Clone, Copy, Debug, PartialEq, Eq)]
+pub enum Wrong {
+    Unknown(usize),
+    Second(usize),
+    Missing(usize),
+    Number(usize),
+    Nothing,
+    Long(usize),
+}
+
+impl Wrong {
+    // In words, before the argument.
+    fn words(self) -> &'static str {
+        match self {
+            Wrong::Unknown(_) => "there is no option",
+            Wrong::Second(_) => "more than one thing to read; the second is",
+            Wrong::Missing(_) => "a value is missing after",
+            Wrong::Number(_) => "not a number of at most nine digits:",
+            Wrong::Nothing => "no type was given",
+            Wrong::Long(_) => "an argument is too long",
+        }
+    }
+
+    // The argument's number.
+    fn argument(self) -> Option<usize> {
+        match self {
+            Wrong::Unknown(i)
+            | Wrong::Second(i)
+            | Wrong::Missing(i)
+            | Wrong::Number(i)
+            | Wrong::Long(i) => Some(i),
+            Wrong::Nothing => None,
+        }
+    }
+}
+
+// One line on what is wrong.
+pub fn complain<R: Env>(rt: &R, out: &mut Out, wrong: Wrong, buffer: &mut [u8]) {
+    out.bytes(b"typekey: ");
+    out.bytes(wrong.words().as_bytes());
+    if let Some(i) = wrong.argument() {
+        let n = argument(rt, i, buffer);
+        out.byte(b' ');
+        copy(out, buffer, 0, n.min(200), Shape::Shown);
+    }
+    out.bytes(b"; typekey --help says how it is used\n");
+    out.flush_to(2);
+}
+
+// ---- The options
+
+// What an option takes from the argument behind it; the second of two has the number of the first.
+#[derive(Clone, Copy)]
+enum Value {
+    File,
+    Key,
+    Room,
+    Space,
+    Keys,
+    Types,
+    SecondKey(usize),
+    SecondType(usize),
+}
+
+// What an option says.
+#[derive(Clone, Copy)]
+enum Choice {
+    Print(Form),
+    Parens,
+    Read(Source),
+    Take(Value),
+    TextsFollow,
+}
+
+const OPTIONS: [(&str, Choice); 16] = [
+    ("--key", Choice::Print(Form::Key)),
+    ("--tree", Choice::Print(Form::Tree)),
+    ("--json", Choice::Print(Form::Json)),
+    ("--all", Choice::Print(Form::All)),
+    ("--parens", Choice::Parens),
+    ("--batch", Choice::Read(Source::Lines)),
+    ("--help", Choice::Read(Source::Help)),
+    ("--version", Choice::Read(Source::Version)),
+    ("--file", Choice::Take(Value::File)),
+    ("--back", Choice::Take(Value::Key)),
+    ("--room", Choice::Take(Value::Room)),
+    ("--space", Choice::Take(Value::Space)),
+    ("--", Choice::TextsFollow),
+    ("-", Choice::Read(Source::Type(Place::Input))),
+    ("--diff", Choice::Take(Value::Keys)),
+    ("--diff-types", Choice::Take(Value::Types)),
+];
+
+// Whether a word is the first name of a list, or the first few with a `|` behind each but the last.
+fn begins(list: &[(&str, Choice)], word: &[u8]) -> bool {
+    let Some(((name, _), others)) = list.split_first() else {
+        return false;
+    };
+    match word.strip_prefix(name.as_bytes()) {
+        Some([]) => true,
+        Some([b'|', rest @ ..]) => begins(others, rest),
+        _ => false,
+    }
+}
+
+// The option that a word is, if it is one.
+fn option_of(word: &[u8]) -> Option<Choice> {
+    for (i, (_, choice)) in OPTIONS.iter().enumerate() {
+        if begins(&OPTIONS[i..], word) {
+            return Some(*choice);
+        }
+    }
+    None
+}
+
+// A number of at most nine digits, zeros before it aside.
+fn number(word: &[u8]) -> Option<usize> {
+    if word.is_empty() {
+        return None;
+    }
+    let mut n: usize = 0;
+    for &b in word {
+        if !b.is_ascii_digit() || 99_999_999 < n {
+            return None;
+        }
+        n = n * 10 + usize::from(b - b'0');
+    }
+    Some(n)
+}
+
+// Where a key stands that an argument gives: a single `-` says standard input.
+fn place_of(i: usize, word: &[u8]) -> Place {
+    match word {
+        b"-" => Place::Input,
+        _ => Place::Argument(i),
+    }
+}
+
+// ---- The arguments
+
+// An option that waits for its value.
+#[derive(Clone, Copy)]
+struct Waiting {
+    value: Value,
+    option: usize,
+}
+
+// What the arguments so far ask for: what to print and to read; brackets, nodes and bytes to lend; the option that waits for its
+// value; whether only texts follow.
+#[derive(Clone, Copy)]
+struct Asking {
+    form: Option<Form>,
+    source: Option<Source>,
+    parens: bool,
+    room: usize,
+    space: usize,
+    waits: Option<Waiting>,
+    only_texts: bool,
+}
+
+impl Asking {
+    fn new() -> Asking {
+        Asking {
+            form: None,
+            source: None,
+            parens: false,
+            room: 1_000_000_000,
+            space: 1_000_000_000,
+            waits: None,
+            only_texts: false,
+        }
+    }
+
+    // A source: there may be one only.
+    fn read(&mut self, source: Source, i: usize) -> Result<(), Wrong> {
+        if self.source.is_some() {
+            return Err(Wrong::Second(i));
+        }
+        self.source = Some(source);
+        Ok(())
+    }
+
+    fn option(&mut self, choice: Choice, i: usize) -> Result<(), Wrong> {
+        match choice {
+            Choice::Print(form) => self.form = Some(form),
+            Choice::Parens => self.parens = true,
+            Choice::Read(source) => self.read(source, i)?,
+            Choice::Take(value) => self.waits = Some(Waiting { value, option: i }),
+            Choice::TextsFollow => self.only_texts = true,
+        }
+        Ok(())
+    }
+
+    // The value that an option waits for.
+    fn value(&mut self, w: Waiting, i: usize, word: &[u8]) -> Result<(), Wrong> {
+        match w.value {
+            Value::File => self.read(Source::Type(Place::File(i)), i)?,
+            Value::Key => self.read(Source::Key(place_of(i, word)), i)?,
+            Value::Room => self.room = number(word).ok_or(Wrong::Number(i))?,
+            Value::Space => self.space = number(word).ok_or(Wrong::Number(i))?,
+            Value::Keys => self.second(w, Value::SecondKey(i)),
+            Value::Types => self.second(w, Value::SecondType(i)),
+            Value::SecondKey(first) => self.read(Source::Keys(first, i), i)?,
+            Value::SecondType(first) => self.read(Source::Types(first, i), i)?,
+        }
+        Ok(())
+    }
+
+    // The second of two values is waited for.
+    fn second(&mut self, w: Waiting, value: Value) {
+        self.waits = Some(Waiting { value, ..w });
+    }
+
+    // A word that no option waits for.
+    fn word(&mut self, i: usize, word: &[u8]) -> Result<(), Wrong> {
+        if self.only_texts {
+            return self.read(Source::Type(Place::Argument(i)), i);
+        }
+        match option_of(word) {
+            Some(choice) => self.option(choice, i),
+            None if word.starts_with(b"--") => Err(Wrong::Unknown(i)),
+            None => self.read(Source::Type(Place::Argument(i)), i),
+        }
+    }
+
+    // One argument further.
+    fn further(&mut self, i: usize, word: &[u8]) -> Result<(), Wrong> {
+        match self.waits.take() {
+            Some(w) => self.value(w, i, word),
+            None => self.word(i, word),
+        }
+    }
+
+    // The form, where none was asked for: keys for lines, all for one type.
+    fn form_for(self, source: Source) -> Form {
+        match source {
+            Source::Lines => self.form.unwrap_or(Form::Key),
+            _ => self.form.unwrap_or(Form::All),
+        }
+    }
+
+    // What is asked for, unless something is still missing when all arguments are there.
+    fn finished(self) -> Result<Asked, Wrong> {
+        if let Some(w) = self.waits {
+            return Err(Wrong::Missing(w.option));
+        }
+        let source = self.source.ok_or(Wrong::Nothing)?;
+        let job = Job {
+            form: self.form_for(source),
+            parens: self.parens,
+            room: self.room,
+            space: self.space,
+            line: 1,
+            side: None,
+        };
+        Ok(Asked { source, job })
+    }
+}
+
+// All arguments.
+pub fn all_arguments<R: Env>(rt: &R, buffer: &mut [u8]) -> Result<Asked, Wrong> {
+    let mut asking = Asking::new();
+    for i in 1..usize::MAX {
+        match rt.arg(i, buffer) {
+            Ok(n) => asking.further(i, &buffer[..n])?,
+            Err(FillError::NotPresent) => break,
+            Err(_) => return Err(Wrong::Long(i)),
+        }
+    }
+    asking.finished()
 }

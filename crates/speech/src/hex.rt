@@ -1,116 +1,78 @@
 // Bytes that are given in hex, and how they are shown.
-ghost use Rattle.std.specs.Prelude.{◌<◌, ◌≤◌};
+ghost use Rattle.std.specs.Prelude.{◌<◌, IfSome, IfOk};
+ghost use Rattle.io.specs.Counts.{IsPrefixLen};
 
-use crate::put::{Shape, blanks, copy, least, more};
-use lines::line::bytes;
+use crate::put::{Shape, blanks, copy};
+use lines::line::Out;
 
-// The value of a digit; 16 for a blank, 17 for anything else.
-fn digit(b: u8) -> u8
-    ensures { result ≤ 17 }
+// Why a text is no key in hex.
+#[derive(Clone, Copy, Debug, PartialEq, Eq)]
+pub enum HexError {
+    NotHex,
+    HalfByte,
+}
+
+impl HexError {
+    // A line on that.
+    pub fn complain(self) {
+        let line: &[u8] = match self {
+            HexError::NotHex => {
+                b"typekey: the key is not in hex; typekey --help says how it is used\n"
+            }
+            HexError::HalfByte => {
+                b"typekey: the key has half a byte; typekey --help says how it is used\n"
+            }
+        };
+        io::write_all(2, line);
+    }
+}
+
+// The value of a digit.
+fn digit(b: u8) -> Option<u8>
+    ensures { IfSome result (λ d. d < 16) }
 {
     match b {
-        48..=57 => b - 48,
-        65..=70 => b - 55,
-        97..=102 => b - 87,
-        b' ' | 9..=13 => 16,
-        _ => 17,
+        b'0'..=b'9' => Some(b - b'0'),
+        b'A'..=b'F' => Some(b - b'A' + 10),
+        b'a'..=b'f' => Some(b - b'a' + 10),
+        _ => None,
     }
 }
 
-// How far the digits are taken: bytes made, the first digit of a byte or 16, and whether all was hex.
-#[derive(Clone, Copy)]
-pub struct Taken {
-    pub made: usize,
-    pub first: u8,
-    pub good: bool,
-}
-
-fn set_byte(bytes: &mut [u8], at: usize, b: u8) {
-    if at < bytes.len() {
-        bytes[at] = b;
-        return;
-    }
-}
-
-// One digit more.
-fn paired(key: &mut [u8], t: Taken, d: u8) -> Taken
-    requires { d < 16 }
+// The bytes that a text of digits stands for, two for a byte, blanks aside; how many there are, as far as there is room.
+pub fn digits(text: &[u8], key: &mut [u8]) -> Result<usize, HexError>
+    ensures { IfOk result (λ n. IsPrefixLen n key.new) }
 {
-    if 16 <= t.first {
-        return Taken {
-            made: t.made,
-            first: d,
-            good: t.good,
+    let mut made: usize = 0;
+    let mut high = None;
+    for &b in text {
+        if matches!(b, b' ' | 9..=13) {
+            continue;
+        }
+        let d = digit(b).ok_or(HexError::NotHex)?;
+        let Some(h) = high.take() else {
+            high = Some(d);
+            continue;
         };
+        if made < key.len() {
+            key[made] = h * 16 + d;
+            made += 1;
+        }
     }
-    set_byte(key, t.made, t.first * 16 + d);
-    Taken {
-        made: more(t.made),
-        first: 16,
-        good: t.good,
+    match high {
+        Some(_) => Err(HexError::HalfByte),
+        None => Ok(made),
     }
-}
-
-fn step(key: &mut [u8], t: Taken, b: u8) -> Taken {
-    let d = digit(b);
-    if d < 16 {
-        return paired(key, t, d);
-    }
-    if d == 16 {
-        return t;
-    }
-    Taken {
-        made: t.made,
-        first: t.first,
-        good: false,
-    }
-}
-
-// All digits of a text, in pairs.
-pub fn digits(text: &[u8], key: &mut [u8]) -> Taken {
-    let mut t = Taken {
-        made: 0,
-        first: 16,
-        good: true,
-    };
-    let mut i: usize = 0;
-    while i < text.len() {
-        t = step(key, t, text[i]);
-        i += 1;
-    }
-    t
-}
-
-// Whether digits were hex and whole bytes; if not, a line on that.
-pub fn is_hex(t: Taken) -> bool {
-    if !t.good {
-        io::write_all(
-            2,
-            b"typekey: the key is not in hex; typekey --help says how it is used\n",
-        );
-        return false;
-    }
-    if t.first != 16 {
-        io::write_all(
-            2,
-            b"typekey: the key has half a byte; typekey --help says how it is used\n",
-        );
-        return false;
-    }
-    true
 }
 
 // The key again, and a caret under the digit of a bit: at most 30 bytes of it before and behind.
-pub fn pointed(out: &mut [u8; 65536], at: usize, key: &[u8], bit: usize) -> usize
-    requires { at < 65536 }
-    ensures { result < 65536 }
-{
+pub fn pointed(out: &mut Out, key: &[u8], bit: usize) {
     let here = bit / 8;
-    let from = here - least(here, 30);
-    let to = least(here, key.len()) + least(key.len() - least(here, key.len()), 30);
-    let p = bytes(out, at, b"  ");
-    let q = copy(out, p, key, from, to, Shape::HEX);
-    let r = bytes(out, q, b"\n  ");
-    let s = blanks(out, r, 2 * least(here, 30) + bit % 8 / 4);
-    bytes(out, s, b"^\n")
+    let before = here.min(30);
+    let behind = here.min(key.len()).saturating_add(30).min(key.len());
+    out.bytes(b"  ");
+    copy(out, key, here - before, behind, Shape::Hex);
+    out.bytes(b"\n  ");
+    blanks(out, 2 * before + bit % 8 / 4);
+    out.bytes(b"^\n");
 }

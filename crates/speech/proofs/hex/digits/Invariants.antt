@@ -1,9 +1,6 @@
--- `hex::digits` is safe and ends: the key keeps its length, and the digits that are left fall. Assumes nothing.
-use Rattle.std.proofs.Common.{◌≡◌, ◌-◌, length}
+-- `hex::digits` is safe: the first digit of a byte is one, and the bytes made have their places. Assumes nothing.
+use Rattle.std.proofs.Common.{◌<◌, ◌≤◌, length, IfSome}
 use Rattle.speech.proofs.hex.digits.Given as goal
 
-abbrev pub invariant-loop-i : goal.invariant-loop-i
-invariant-loop-i l = (length l.key ≡ length l.initial.key)
-
-abbrev pub decreases-loop-i : goal.decreases-loop-i
-decreases-loop-i l = length l.text - l.i
+abbrev pub invariant-loop-b : goal.invariant-loop-b
+invariant-loop-b l = IfSome l.high (λ d. d < 16) × (l.made ≤ length l.key)

@@ -1,8 +1,0 @@
--- `cut::turns` is safe and ends: the turns that are left fall. Assumes nothing.
-use Rattle.intake.proofs.cut.turns.Given as goal
-
-abbrev pub invariant-loop-left : goal.invariant-loop-left
-invariant-loop-left l = Unit {0}
-
-abbrev pub decreases-loop-left : goal.decreases-loop-left
-decreases-loop-left l = l.left

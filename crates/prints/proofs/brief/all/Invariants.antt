@@ -1,9 +1,0 @@
--- `brief::all` is safe and ends: the place stays within the buffer, and the visits that are left fall. Assumes nothing.
-use Rattle.std.proofs.Common.{◌-◌, ◌<◌}
-use Rattle.prints.proofs.brief.all.Given as goal
-
-abbrev pub invariant-loop-i : goal.invariant-loop-i
-invariant-loop-i l = l.b.at < 65536
-
-abbrev pub decreases-loop-i : goal.decreases-loop-i
-decreases-loop-i l = l.end - l.i

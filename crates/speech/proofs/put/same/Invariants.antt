@@ -1,9 +1,0 @@
--- `put::same` is safe and ends: the bytes that are left fall. Assumes nothing.
-use Rattle.std.proofs.Common.{◌-◌}
-use Rattle.speech.proofs.put.same.Given as goal
-
-abbrev pub invariant-loop-i : goal.invariant-loop-i
-invariant-loop-i l = Unit {0}
-
-abbrev pub decreases-loop-i : goal.decreases-loop-i
-decreases-loop-i l = l.n - l.i
