@@ -5,7 +5,7 @@ use crate::say;
 use crate::seen::Seen;
 use crate::tag::Tag;
 use lines::line::Out;
-use speech::put::{Shape, pick};
+use speech::put::Shape;
 use visits::visits::{CHOICE, NAME, NODE, Visit};
 
 // The most visits of a node that are shown.
@@ -42,10 +42,12 @@ fn said(out: &mut Out, k: Known, word: &str) {
 
 // The words of a keyword, and of a literal that is not said by its spelling.
 fn plain(out: &mut Out, tag: Tag, number: usize) {
-    if tag == Tag::Keyword {
-        say::keyword(out, number);
-    } else {
-        pick(out, &["", "", "", "true", "false", "-", "-"], number);
+    match (tag, number) {
+        (Tag::Keyword, _) => say::keyword(out, number),
+        (_, 3) => out.bytes(b"true"),
+        (_, 4) => out.bytes(b"false"),
+        (_, 5 | 6) => out.byte(b'-'),
+        _ => {}
     }
 }
 

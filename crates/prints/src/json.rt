@@ -4,7 +4,7 @@ use crate::say;
 use crate::seen::{Seen, Whole};
 use crate::tag::Tag;
 use lines::line::Out;
-use noted::{Note, notes_of};
+use noted::Note;
 use speech::ask::Side;
 use speech::put::{Shape, copy, numbered, pick, times};
 use visits::visits::{CHOICE, NODE, WORDS};
@@ -164,13 +164,12 @@ fn note(out: &mut Out, text: &[u8], n: Note, line: usize) {
     out.byte(b'}');
 }
 
-// The first n diagnostics.
-pub fn diagnostics(out: &mut Out, notes: &[u64], n: usize, text: &[u8], line: usize) {
+// The diagnostics.
+pub fn diagnostics(out: &mut Out, notes: &[Note], text: &[u8], line: usize) {
     out.bytes(b",\"diagnostics\":[");
-    let list = notes_of(notes, n);
-    for (i, x) in list.iter().take(n).enumerate() {
+    for (i, n) in notes.iter().enumerate() {
         comma(out, i == 0);
-        note(out, text, *x, line);
+        note(out, text, *n, line);
     }
     out.byte(b']');
 }
@@ -187,10 +186,10 @@ pub fn end(out: &mut Out, token: usize, half: usize, place: Place, whole: bool) 
     out.byte(b'}');
 }
 
-// The key, of n bytes.
-pub fn key(out: &mut Out, key: &[u8], n: usize) {
+// The key.
+pub fn key(out: &mut Out, key: &[u8]) {
     out.bytes(b"{\"ok\":true,\"key\":\"");
-    copy(out, key, 0, n, Shape::Hex);
+    copy(out, key, 0, key.len(), Shape::Hex);
     out.byte(b'"');
 }
 

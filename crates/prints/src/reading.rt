@@ -12,7 +12,8 @@ use noted::{Note, notes_of};
 use speech::ask::{Form, Job};
 use speech::put::{Shape, copy, numbered};
 use words::cursor::{whole_kind, word_at};
-use words::limits::Tree;
+use words::kind::Kind;
+use words::limits::{Notes, Tree};
 use words::refusal::Refusal;
 use words::token;
 
@@ -29,7 +30,7 @@ struct Source<'a> {
 
 // Whether nothing is left.
 pub fn is_whole(tokens: &[u64], at: usize) -> bool {
-    whole_kind(tokens, at) == 0
+    whole_kind(tokens, at) == Kind::EOF
 }
 
 impl<'a> Source<'a> {
@@ -93,13 +94,6 @@ impl<'a> Source<'a> {
         self.other(out, n);
     }
 
-    // The first n diagnostics.
-    fn diagnostics(self, out: &mut Out, notes: &[u64], n: usize) {
-        for x in notes_of(notes, n).iter().take(n) {
-            self.note(out, *x);
-        }
-    }
-
     // A line on what was not read.
     fn rest(self, out: &mut Out, c: Counts) {
         if self.ends(c.at) {
@@ -121,20 +115,20 @@ impl<'a> Source<'a> {
 struct Reading<'a> {
     source: Source<'a>,
     tree: Whole<'a>,
-    notes: &'a [u64],
+    notes: &'a [Note],
     key: &'a [u8],
     counts: Counts,
 }
 
-// `ok` and the key, of n bytes.
-pub fn ok_key(out: &mut Out, key: &[u8], n: usize) {
+// `ok` and the key.
+pub fn ok_key(out: &mut Out, key: &[u8]) {
     out.bytes(b"ok ");
-    copy(out, key, 0, n, Shape::Hex);
+    copy(out, key, 0, key.len(), Shape::Hex);
 }
 
 // The line of a key: diagnostics and a rest are said behind it.
 fn key_line(out: &mut Out, source: Source, key: &[u8], c: Counts) {
-    ok_key(out, key, c.key);
+    ok_key(out, key);
     if c.notes != 0 {
         numbered(out, b" diagnostics ", c.notes);
     }
@@ -151,14 +145,16 @@ impl<'a> Reading<'a> {
         let c = self.counts;
         key_line(out, self.source, self.key, c);
         tree::tree(out, self.tree);
-        self.source.diagnostics(out, self.notes, c.notes);
+        for n in self.notes {
+            self.source.note(out, *n);
+        }
         self.source.rest(out, c);
     }
 
     fn json(self, out: &mut Out) {
         let c = self.counts;
         let from = self.source;
-        json::key(out, self.key, c.key);
+        json::key(out, self.key);
         json::end(
             out,
             c.at,
@@ -167,7 +163,7 @@ impl<'a> Reading<'a> {
             from.ends(c.at),
         );
         numbered(out, b",\"entered\":", c.entered);
-        json::diagnostics(out, self.notes, c.notes, from.text, from.line);
+        json::diagnostics(out, self.notes, from.text, from.line);
         json::tree(out, self.tree);
         out.bytes(b"}\n");
     }
@@ -205,6 +201,7 @@ pub fn granted(
     job: Job,
 ) {
     let source = Source::of(text, tokens, job);
+    let key = &key[..c.key.min(key.len())];
     if job.form == Form::Key {
         key_line(out, source, key, c);
         return;
@@ -217,10 +214,11 @@ pub fn granted(
         nodes: Some(nodes),
         size,
     };
+    let list = notes_of(notes, c.notes);
     let all = Reading {
         source,
         tree,
-        notes,
+        notes: &list[..c.notes.min(Notes::MOST)],
         key,
         counts: c,
     };

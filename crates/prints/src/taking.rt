@@ -57,7 +57,7 @@ pub fn refused(
 
 // `ok` and the key, on a line.
 fn ok_line(out: &mut Out, key: &[u8]) {
-    ok_key(out, key, key.len());
+    ok_key(out, key);
     out.byte(b'\n');
 }
 
@@ -65,7 +65,7 @@ fn ok_line(out: &mut Out, key: &[u8]) {
 fn formed(out: &mut Out, key: &[u8], t: Whole, form: Form) {
     match form {
         Form::Json => {
-            json::key(out, key, key.len());
+            json::key(out, key);
             json::tree(out, t);
             out.bytes(b"}\n");
         }

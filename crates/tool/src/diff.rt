@@ -4,6 +4,7 @@ use lines::given::argument;
 use lines::line::Out;
 use lines::sum::root;
 use prints::differing::HALF;
+use prints::seen::{Seen, Whole};
 use prints::tagged::walk;
 use prints::{differing, reading};
 use speech::ask::{Job, Side};
@@ -83,11 +84,12 @@ fn trees(
         ..
     } = room;
     let half = HALF.min(visits.len());
-    let n = walked(left, nodes, names, letters, visits);
-    let m = walked(right, nodes, &mut others, &mut marks, &mut visits[half..]);
-    differing::told(
-        out, list, names, letters, visits, n, &others, &marks, m, job.form,
-    );
+    let (first, second) = visits.split_at_mut(half);
+    let n = walked(left, nodes, names, letters, first);
+    let m = walked(right, nodes, &mut others, &mut marks, second);
+    let left = Whole::of(Seen::of(first, names, letters), n);
+    let right = Whole::of(Seen::of(second, &others, &marks), m);
+    differing::told(out, list, left, right, job.form);
     Ok(())
 }
 
