@@ -4,6 +4,7 @@ use Rattle.keys.specs.Bits.{Bits}
 use Rattle.keys.specs.Form.{Form, state}
 use Rattle.node_table.specs.Forms.{form_of, leads, entry_of, table_most}
 use Rattle.node_table.specs.declared.forms.Row.{Row}
+use Rattle.node_table.specs.declared.forms.Jump.{Jump}
 use Rattle.key_parts.specs.Runs.{Ran, choice_run}
 use Rattle.key_parts.specs.Place.{Halts, at_bit, Lent, bits_in}
 use Rattle.key_parts.specs.declared.refusal.Stop.{Stop}
@@ -37,6 +38,12 @@ pub record Picked (bs : Bits) (T : List ℕ) (steps w : ℕ) (fs : ℕ → Form)
 pub record PickedIn (bs : Bits) (T : List ℕ) (steps w : ℕ) (fs : ℕ → Form) (bit : ℕ) (r : Result Pick Stop) : Type 0 where
   pub stopped : IfErr r λ e. (n k m : ℕ) (K : ℕ → Bits → Ran) → Halts bs (choice_run w fs (state n k m (drop bit bs)) K) e
   pub picked : IfOk r λ c. Picked bs T steps w fs bit c
+
+-- A form is the one that a jump leads to.
+pub record Leads (T : List ℕ) (steps : ℕ) (f : Form) (j : Jump) : Type 0 where
+  pub to : f ≡ form_of T steps j.n j.form
+  pub in_table : j.form < table_most
+  pub few : j.n < table_most
 
 -- A choice among the forms that a row leads to, which it lists as `way` says.
 abbrev pub TakesChoice : (forms key : Lent) (steps : ℕ) (r : Row) (way bit : ℕ) (c : Result Pick Stop) → Type 0

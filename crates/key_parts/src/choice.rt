@@ -1,15 +1,18 @@
 // Choices taken from a key: tags and sorts, and what a node keeps of them.
-ghost use Rattle.std.specs.Prelude.{◌≡◌, ◌+◌, ◌-◌, ◌*◌, ◌^◌, ◌<◌, ◌≤◌, length};
+ghost use Rattle.std.specs.Prelude.{◌≡◌, ℕ, ◌+◌, ◌-◌, ◌*◌, ◌^◌, ◌<◌, ◌≤◌, length};
 ghost use Rattle.keys.specs.Limits.{longest_key, widest, choices_wide};
 ghost use Rattle.node_table.specs.Forms.{table_most};
-ghost use Rattle.key_parts.specs.Choice.{chosen, TakesChoice};
+ghost use Rattle.keys.specs.Bits.{bits_of_bytes};
+ghost use Rattle.keys.specs.Form.{Form};
+ghost use Rattle.node_table.specs.declared.forms.Jump.{Jump};
+ghost use Rattle.key_parts.specs.Choice.{chosen, Leads, PickedIn, TakesChoice};
 
 use crate::never;
 use crate::place::{Fill, Pos};
 use crate::refusal::{Refusal, Stop};
 use fields::reader;
 use node_table::forms;
-use node_table::forms::{Row, TABLE};
+use node_table::forms::{Jump, Row, TABLE};
 
 // A choice: the bit after it, its number, and what it leads to.
 #[derive(Clone, Copy)]
@@ -20,7 +23,39 @@ pub struct Pick {
     pub n: usize,
 }
 
-// A field that chooses: 10 where it is cut short or leads to no form.
+// A field of w bits that chooses, whose number leads where `jump` says: 10 where it is cut short or leads to no form.
+fn take_by<F: FnOnce(usize) -> Jump>(
+    forms: &[u16; TABLE],
+    key: &[u8],
+    steps: usize,
+    w: usize,
+    bit: usize,
+    jump: F,
+) -> Result<Pick, Stop>
+    requires { (length key.now ≤ longest_key) × (bit ≤ length key.now * 8) × (w ≤ widest) × ((t : ℕ) → t < table_most → F.pre jump t) × ((t : ℕ) (j : Jump) → F.post jump t j → j.form < table_most) }
+    ensures { (fs : ℕ → Form) → ((t : ℕ) (j : Jump) → F.post jump t j → Leads forms.now steps (fs t) j) → PickedIn (bits_of_bytes key.now) forms.now steps w fs bit result }
+{
+    let bad = Stop {
+        why: Refusal::BadKey,
+        bit,
+    };
+    let Some((n, next)) = reader::field_at(key, bit, w) else {
+        return Err(bad);
+    };
+    let number = n as usize;
+    let Jump { form, n } = jump(number);
+    if never::is_never(forms, steps, n, form) {
+        return Err(bad);
+    }
+    Ok(Pick {
+        bit: next,
+        number,
+        form,
+        n,
+    })
+}
+
+// A field that chooses, by its row.
 pub fn take_choice(
     forms: &[u16; TABLE],
     key: &[u8],
@@ -31,27 +66,10 @@ pub fn take_choice(
     requires { (length key.now ≤ longest_key) × (bit ≤ length key.now * 8) × (r.w ≤ widest) × (r.a < table_most) × (r.b < table_most) × (5 ≤ r.op) }
     ensures { TakesChoice forms key steps r (r.op - 5) bit result }
 {
-    let bad = Stop {
-        why: Refusal::BadKey,
-        bit,
-    };
-    let Some((n, next)) = reader::field_at(key, bit, r.w) else {
-        return Err(bad);
-    };
-    let number = n as usize;
-    let j = forms::jump_at(forms, r, number);
-    if never::is_never(forms, steps, j.n, j.form) {
-        return Err(bad);
-    }
-    Ok(Pick {
-        bit: next,
-        number,
-        form: j.form,
-        n: j.n,
-    })
+    take_by(forms, key, steps, r.w, bit, |t| forms::jump_at(forms, r, t))
 }
 
-// The tag of a class: 10 where it is cut short or there is no such row.
+// The tag of a class, among the rows that it lists.
 pub fn take_tag(
     forms: &[u16; TABLE],
     key: &[u8],
@@ -62,23 +80,8 @@ pub fn take_tag(
     requires { (length key.now ≤ longest_key) × (bit ≤ length key.now * 8) × (tags.w ≤ widest) × (tags.a < table_most) }
     ensures { TakesChoice forms key steps tags 0 bit result }
 {
-    let bad = Stop {
-        why: Refusal::BadKey,
-        bit,
-    };
-    let Some((n, next)) = reader::field_at(key, bit, tags.w) else {
-        return Err(bad);
-    };
-    let number = n as usize;
-    let j = forms::listed_at(forms, tags, number);
-    if never::is_none(forms, steps, j.form) {
-        return Err(bad);
-    }
-    Ok(Pick {
-        bit: next,
-        number,
-        form: j.form,
-        n: 1,
+    take_by(forms, key, steps, tags.w, bit, |t| {
+        forms::listed_at(forms, tags, t)
     })
 }
 
