@@ -13,19 +13,11 @@ use Rattle.keys.specs.Lines.{tagged, Of, of_one, of_word, of_choose, of_child, l
 use Rattle.fields.specs.Put.{far}
 use Rattle.node_table.specs.Forms.{spellings_then, spelling_if, nodes_then, Entry, entry_at, class_at, steps_of, listed, leads, form_by, form_of, grammar_of, entry_of, IsRow, Lists, Jumps, table_most}
 use Rattle.node_table.proofs.FormsLaws.{form_at_lem}
-use Rattle.node_table.specs.Moves.{Output, items, Moved, Moves, Noded, Spelled, form_at, cursor_of, mark, moved_to, beside_to, Ready, to_do, OwnStep, After, Begun}
+use Rattle.node_table.specs.Moves.{Output, Sound, items, Moved, Moves, Noded, Spelled, form_at, cursor_of, mark, moved_to, beside_to, Ready, to_do, OwnStep, After, Begun}
 use Rattle.node_table.specs.declared.forms.Row.{Row}
 use Rattle.node_table.specs.declared.forms.Jump.{Jump}
 use Rattle.node_table.specs.declared.moves.Mark.{Mark}
 use Rattle.node_table.specs.declared.moves.Walk.{Walk}
-
--- What is asked of an output: no items are put, and items after items; positions and lengths stay small.
-pub record Sound (O : Output) : Type 0 where
-  pub none : (to : ℕ) (k : List ℕ) → to ≤ far → length k * 8 ≤ far → O.Puts to [] to k k
-  pub append : {to to' to'' : ℕ} {a b : List O.Item} {k k' k'' : List ℕ} → O.Puts to a to' k k' → O.Puts to' b to'' k' k'' → O.Puts to (a ++ b) to'' k k''
-  pub short : {to to' : ℕ} {a : List O.Item} {k k' : List ℕ} → O.Puts to a to' k k' → length k * 8 ≤ far
-  pub stays : {to to' : ℕ} {a : List O.Item} {k k' : List ℕ} → O.Puts to a to' k k' → to' ≤ far
-  pub same : {to to' : ℕ} {a : List O.Item} {k k' : List ℕ} → O.Puts to a to' k k' → length k' ≡ length k
 
 -- ---- Steps follow one another
 
@@ -161,6 +153,15 @@ noded O L G N P left high d most c i m to k to₀ k₀ s' to' k' q h f p =
 pub noded_none : (O : Output) (G : Grammar) (N : List ℕ) (P : ℕ → List ℕ → Type 0) (left d most c i m to : ℕ) (k : List ℕ) → left ≡ 0 → length k * 8 ≤ far → to ≤ far → m ≤ most
     → Noded O G N P left d most c i m to k m to k
 noded_none O G N P left d most c i m to k z l h q = record { short = l; stays = h; same = refl; in_names = q; on = λ a o b e. absurd (omega arith) }
+
+-- The same, where the words, the items and the end are those.
+pub noded_as : {O : Output} {T T' N : List ℕ} {P : ℕ → List ℕ → Type 0} {left d most c i m to : ℕ} {k k' k1 k1' : List ℕ} {q q' : Mark} → T' ≡ T → k' ≡ k → q' ≡ q → k1' ≡ k1
+    → Noded O (grammar_of T) N P left d most c i m to k q.name q.to k1 → Noded O (grammar_of T') N P left d most c i m to k' q'.name q'.to k1'
+noded_as {O} {T} {T'} {N} {P} {left} {d} {most} {c} {i} {m} {to} {k} {k'} {k1} {k1'} {q} {q'} a b e f x =
+    subst (λ (z : List ℕ). Noded O (grammar_of z) N P left d most c i m to k' q'.name q'.to k1') (sym a)
+    (subst (λ (z : List ℕ). Noded O (grammar_of T) N P left d most c i m to z q'.name q'.to k1') (sym b)
+    (subst (λ (z : Mark). Noded O (grammar_of T) N P left d most c i m to k z.name z.to k1') (sym e)
+    (subst (λ (z : List ℕ). Noded O (grammar_of T) N P left d most c i m to k q.name q.to z) (sym f) x)))
 
 -- A name that is not there.
 pub spelled_none : (O : Output) (P : ℕ → List ℕ → Type 0) (most w d m to : ℕ) (k : List ℕ) → length k * 8 ≤ far → to ≤ far → m ≤ most → ((s : List ℕ) → P m s → ⊥)

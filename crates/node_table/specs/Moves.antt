@@ -1,6 +1,6 @@
 -- Walking a node by its form in line: what a walk puts out, its steps, and what its functions answer, whatever the output is.
 use Rattle.std.specs.Prelude.{◌≡◌, List, [], ◌++◌, ℕ, ◌+◌, ◌-◌, ◌*◌, ◌/◌, ◌^◌, ◌≤◌, ◌<◌, length}
-use Rattle.keys.specs.Limits.{half_word}
+use Rattle.keys.specs.Limits.{half_word, widest}
 use Rattle.keys.specs.Form.{Form, Grammar, width, branch, left, right, class}
 use Rattle.keys.specs.Store.{Run, done, chose, name, kid, called}
 use Rattle.keys.specs.Lines.{tagged, Of, levels}
@@ -20,6 +20,14 @@ pub record Output : Type 1 where
   pub node : (i d : ℕ) → List Item
   pub under : ℕ → ℕ
   pub Puts : (to : ℕ) → List Item → (to' : ℕ) (k k' : List ℕ) → Type 0
+
+-- What is asked of an output: no items are put, and items after items; positions and lengths stay small.
+pub record Sound (O : Output) : Type 0 where
+  pub none : (to : ℕ) (k : List ℕ) → to ≤ far → length k * 8 ≤ far → O.Puts to [] to k k
+  pub append : {to to' to'' : ℕ} {a b : List O.Item} {k k' k'' : List ℕ} → O.Puts to a to' k k' → O.Puts to' b to'' k' k'' → O.Puts to (a ++ b) to'' k k''
+  pub short : {to to' : ℕ} {a : List O.Item} {k k' : List ℕ} → O.Puts to a to' k k' → length k * 8 ≤ far
+  pub stays : {to to' : ℕ} {a : List O.Item} {k k' : List ℕ} → O.Puts to a to' k k' → to' ≤ far
+  pub same : {to to' : ℕ} {a : List O.Item} {k k' : List ℕ} → O.Puts to a to' k k' → length k' ≡ length k
 
 module _ (O : Output) (G : Grammar) (N : List ℕ) where
   -- The items of a run of a form in line, which the store holds from a place on.
@@ -100,6 +108,16 @@ pub record Ready (most : ℕ) (k : List ℕ) (s : Walk) : Type 0 where
   pub in_table : s.form < table_most
   pub few : s.n < table_most
   pub steps : s.steps < table_most
+
+-- Items may be put at a place: the numbers are small.
+abbrev pub MayPut : (k : List ℕ) (to : ℕ) → Type 0
+MayPut k to = (length k * 8 ≤ far) × (to ≤ far)
+
+-- A walk may go on behind a child: there is one, and the numbers are small.
+abbrev pub MayGoOn : (most : ℕ) (k : List ℕ) (w : ℕ) (s : Walk) (o : Mark) → Type 0
+MayGoOn most k w s o =
+    (length k * 8 ≤ far) × (o.to ≤ far) × (o.name ≤ most) × (w ≤ widest) × (s.child < half_word) × (s.form < table_most) × (0 < s.n) × (s.n < table_most)
+    × (s.steps < table_most)
 
 -- How much of a node is left to do at most.
 abbrev pub to_do : Walk → ℕ
