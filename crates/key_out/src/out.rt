@@ -9,6 +9,7 @@ ghost use Rattle.key_out.specs.Out.{key_bits, Keyed, MayGoOn, PutsNode, is_once,
 
 use fields::put;
 use keys::store;
+use keys::store::Name;
 use node_table::forms::{Row, TABLE};
 use node_table::moves::{Mark, Walk};
 use node_table::{forms, moves};
@@ -18,20 +19,17 @@ fn put_spelling(names: &[u64], text: &[u8], key: &mut [u8], w: usize, o: Mark) -
     requires { (length key.old * 8 ≤ far) × (o.to ≤ far) × (w ≤ widest) × (o.name ≤ length names.now) }
     ensures { Spelled key_bits (Spells names.now text.now) (length names.now) w 0 o.name o.to key.old result.name result.to key.new }
 {
-    let name = o.name;
-    if names.len() <= name {
+    if names.len() <= o.name {
         return o;
     }
-    let spelling = store::name_at(names, name);
-    let start = spelling.start;
-    let size = spelling.size;
+    let Name { start, size } = store::name_at(names, o.name);
     if text.len() < start + size {
         return o;
     }
     let next = put::put_number(key, o.to, w, size as u32);
     Mark {
         to: put::put_text(text, start, size, key, next),
-        name: name + 1,
+        name: o.name + 1,
     }
 }
 
@@ -48,16 +46,15 @@ fn put_chosen(
     ensures { OwnStep key_bits forms.now (Spells names.now text.now) (length names.now) 0 s key.old result key.new }
 {
     let c = moves::choice_of(s.word, r.w);
-    let to = put::put_number(key, s.to, r.w, c.number as u32);
+    let to = put::put_number(key, s.mark.to, r.w, c.number as u32);
     let j = forms::jump_at(forms, r, c.number);
     Walk {
-        to: to,
-        name: s.name,
+        mark: Mark { to, ..s.mark },
         word: c.word,
-        child: s.child,
         form: j.form,
         n: j.n,
         steps: s.steps - 1,
+        ..s
     }
 }
 
@@ -73,24 +70,17 @@ fn put_said(
     requires { Ready (length names.now) key.old s × IsRow (entry_at forms.now s.form) r × (r.w ≤ widest) × (0 < s.steps) × (r.op < 5) × (r.op ≡ 1 → ⊥) × (r.op ≡ 3 → s.n ≡ 0) }
     ensures { OwnStep key_bits forms.now (Spells names.now text.now) (length names.now) 0 s key.old result key.new }
 {
-    let op = r.op;
-    let n = s.n;
-    let o = Mark {
-        to: s.to,
-        name: s.name,
-    };
-    if op == forms::SPELLING {
-        let q = put_spelling(names, text, key, r.w, o);
-        return moves::moved(s, q, r.b, n, s.steps - 1);
+    if r.op == forms::SPELLING {
+        let q = put_spelling(names, text, key, r.w, s.mark);
+        s.moved(q, r.b, s.n, s.steps - 1)
+    } else if s.n == 0 {
+        s.moved(s.mark, r.b, 1, s.steps - 1)
+    } else if r.op == forms::SPELLINGS {
+        let q = put_spelling(names, text, key, r.w, s.mark);
+        s.moved(q, s.form, s.n - 1, s.steps)
+    } else {
+        s.moved(s.mark, s.form, s.n, 0)
     }
-    if n == 0 {
-        return moves::moved(s, o, r.b, 1, s.steps - 1);
-    }
-    if op == forms::SPELLINGS {
-        let q = put_spelling(names, text, key, r.w, o);
-        return moves::moved(s, q, s.form, n - 1, s.steps);
-    }
-    moves::moved(s, o, s.form, n, 0)
 }
 
 // A step of a node that goes into no child.
@@ -126,10 +116,10 @@ fn after_child(
 {
     let next = store::next_of(nodes, s.child);
     if w == 0 {
-        return moves::beside(s, o, next);
+        return s.beside(o, next);
     }
     let q = put_spelling(names, text, key, w, o);
-    moves::beside(s, q, next)
+    s.beside(q, next)
 }
 
 // A node's tag, and the walk behind it.
@@ -150,13 +140,12 @@ fn put_tag(
     let to = put::put_number(key, o.to, tags.w, tag.number as u32);
     let row = forms::listed_at(forms, tags, tag.number);
     Walk {
-        to: to,
-        name: o.name,
+        mark: Mark { to, ..o },
         word: tag.word,
         child: own.child,
         form: row.form,
         n: 1,
-        steps: forms::word_at(forms, 1),
+        steps: forms::word_at(forms, forms::STEPS),
     }
 }
 
@@ -178,16 +167,7 @@ const KEYWORDS: u64 = 16;
 fn is_once(class: usize, word: u64) -> bool
     ensures { result ≡ is_once class word }
 {
-    if class != forms::TYPE {
-        return false;
-    }
-    if word == NAME {
-        return true;
-    }
-    if word == STRING {
-        return true;
-    }
-    word % TAGS == KEYWORD
+    class == forms::TYPE && (word == NAME || word == STRING || word % TAGS == KEYWORD)
 }
 
 // Such a node: tag and choices in one field, and for a name or a string its spelling; behind a name that there are no arguments.
@@ -197,20 +177,20 @@ fn put_once(names: &[u64], text: &[u8], key: &mut [u8], word: u64, o: Mark) -> M
 {
     if word == NAME {
         let to = put::put_number(key, o.to, 18, 4097);
-        let p = put_spelling(names, text, key, 16, Mark { to, name: o.name });
+        let p = put_spelling(names, text, key, 16, Mark { to, ..o });
         return Mark {
             to: put::put_number(key, p.to, 1, 0),
-            name: p.name,
+            ..p
         };
     }
     if word == STRING {
         let to = put::put_number(key, o.to, 9, 24);
-        return put_spelling(names, text, key, 16, Mark { to, name: o.name });
+        return put_spelling(names, text, key, 16, Mark { to, ..o });
     }
     let number = KEYWORD * KEYWORDS + word / TAGS % KEYWORDS;
     Mark {
         to: put::put_number(key, o.to, 10, number as u32),
-        name: o.name,
+        ..o
     }
 }
 
@@ -236,34 +216,34 @@ fn put_node(
     while 0 < s.steps {
         let r = forms::row_at(forms, s.form);
         if r.op == forms::END {
-            return Mark {
-                to: s.to,
-                name: s.name,
-            };
+            return s.mark;
         }
-        if moves::into_child(r, s) {
-            let m = Mark {
-                to: s.to,
-                name: s.name,
-            };
+        if s.into_child(r) {
             let child = store::node_at(nodes, s.child);
             if is_once(r.a, child.word) {
-                let q = put_once(names, text, key, child.word, m);
+                let q = put_once(names, text, key, child.word, s.mark);
                 let t = after_child(nodes, names, text, key, r.w, s, q);
-                s = moves::past_last(r, t);
+                s = t.past_last(r);
             } else {
-                let q = put_node(forms, nodes, names, text, key, r.a, left - 1, s.child, m);
+                let q = put_node(
+                    forms,
+                    nodes,
+                    names,
+                    text,
+                    key,
+                    r.a,
+                    left - 1,
+                    s.child,
+                    s.mark,
+                );
                 let t = after_child(nodes, names, text, key, r.w, s, q);
-                s = moves::past_last(r, t);
+                s = t.past_last(r);
             }
         } else {
             s = put_own(forms, names, text, key, r, s);
         }
     }
-    Mark {
-        to: s.to,
-        name: s.name,
-    }
+    s.mark
 }
 
 // The root, at once if it can be.
@@ -300,7 +280,7 @@ pub fn put_key(
     ensures { Keyed nodes.now names.now text.now root tall (length key.old) result key.new }
 {
     let forms = forms::words();
-    store::clear_bytes(key, 0);
+    key.fill(0);
     let at = put::put_number(key, 0, forms::EDITION_WIDTH, forms::EDITION);
     let o = put_root(
         &forms,

@@ -171,9 +171,13 @@ pub record TakenBack : Type 0 where
   pub name_words : List ℕ
   pub text : List ℕ
 
+-- n words: the part used, then x.
+abbrev pub filled_with : {X : Type 0} → X → ℕ → List X → List X
+filled_with x n used = used ++ replicate (n - length used) x
+
 -- An output of n words: the part used, then zeros.
 abbrev pub filled : ℕ → List ℕ → List ℕ
-filled n used = used ++ replicate (n - length used) 0
+filled n used = filled_with 0 n used
 
 -- The outputs of a words for nodes, b words for names and c bytes of text: a tree with positions 0 and its spellings copied in order; all zeros on a refusal.
 abbrev pub lent : ℕ → ℕ → ℕ → Taken → TakenBack

@@ -1,12 +1,21 @@
 // The node store and the names: appending, linking, clearing, and what their words say.
 ghost use Rattle.std.specs.Prelude.{◌≡◌, [], ◌∷◌, ◌++◌, ◌+◌, ◌-◌, ◌*◌, ◌^◌, ◌<◌, ◌≤◌, ◌/◌, ◌%◌, length, take, set, get_or};
 ghost use Rattle.keys.specs.Limits.{tag_wide, record_words, half_word};
-ghost use Rattle.keys.specs.Store.{filled};
+ghost use Rattle.keys.specs.Store.{filled_with};
 ghost use Rattle.keys.specs.Words.{first_nodes, first_names};
 ghost use Rattle.keys.specs.Holds.{word_at, tag_in, after_tag, retagged, first_at, end_at, child_at, next_at, start_at, size_at};
 
 // The words of a node's record.
 pub const RECORD: usize = 4;
+
+// Where a record has a node's choices, its first and end byte, its first child and first name, and its next sibling.
+const CHOICES: usize = 0;
+
+const PLACE: usize = 1;
+
+const UNDER: usize = 2;
+
+const NEXT: usize = 3;
 
 // A word holds two numbers, each below this.
 const HALF: u64 = 4294967296;
@@ -19,7 +28,7 @@ fn halves(low: usize, high: usize) -> u64
     requires { (low < 2 ^ 63) × (high < 2 ^ 31) }
     ensures { result ≡ low + half_word * high }
 {
-    (low as u64) + HALF * (high as u64)
+    low as u64 + HALF * high as u64
 }
 
 // The record of a finished node, at the next place: its choices, its first and end byte, its first child and first name, no next sibling.
@@ -35,13 +44,9 @@ pub fn append_node(
     requires { (record_words * (at + 1) ≤ length nodes.old) × (first < 2 ^ 63) × (end < 2 ^ 31) × (child < 2 ^ 63) × (name < 2 ^ 31) }
     ensures { first_nodes nodes.new (at + 1) ≡ first_nodes nodes.old at ++ (choices ∷ (first + half_word * end) ∷ (child + half_word * name) ∷ 0 ∷ []) }
 {
+    let record = [choices, halves(first, end), halves(child, name), 0];
     let to = at * RECORD;
-    let place = halves(first, end);
-    let under = halves(child, name);
-    nodes[to] = choices;
-    nodes[to + 1] = place;
-    nodes[to + 2] = under;
-    nodes[to + 3] = 0;
+    nodes[to..to + RECORD].copy_from_slice(&record);
 }
 
 // A node's next sibling.
@@ -49,7 +54,7 @@ pub fn link_node(nodes: &mut [u64], at: usize, next: usize)
     requires { record_words * (at + 1) ≤ length nodes.old }
     ensures { nodes.new ≡ set nodes.old (record_words * at + 3) next }
 {
-    nodes[at * RECORD + 3] = next as u64;
+    nodes[at * RECORD + NEXT] = next as u64;
 }
 
 // A name's word, at the next place: a spelling's start and length; nothing is stored where there is no such place.
@@ -57,32 +62,17 @@ pub fn append_name(names: &mut [u64], at: usize, start: usize, count: usize)
     requires { (start < 2 ^ 31) × (count < 2 ^ 63) }
     ensures { first_names names.new (at + 1) ≡ take (length names.old) (first_names names.old at ++ ((start * half_word + count) ∷ [])) }
 {
-    let word = halves(count, start);
     if at < names.len() {
-        names[at] = word;
-        return;
+        names[at] = halves(count, start);
     }
 }
 
-// Zeros from a word on.
-pub fn clear_words(words: &mut [u64], from: usize)
-    ensures { words.new ≡ filled (length words.old) (take from words.old) }
+// From a word on, all of them are `zero`.
+pub fn clear<T: Copy>(words: &mut [T], from: usize, zero: T)
+    ensures { words.new ≡ filled_with zero (length words.old) (take from words.old) }
 {
-    let mut i = from;
-    while i < words.len() {
-        words[i] = 0;
-        i += 1;
-    }
-}
-
-// Zeros from a byte on.
-pub fn clear_bytes(bytes: &mut [u8], from: usize)
-    ensures { bytes.new ≡ filled (length bytes.old) (take from bytes.old) }
-{
-    let mut i = from;
-    while i < bytes.len() {
-        bytes[i] = 0;
-        i += 1;
+    for i in from..words.len() {
+        words[i] = zero;
     }
 }
 
@@ -92,7 +82,7 @@ pub fn clear_bytes(bytes: &mut [u8], from: usize)
 fn stored(words: &[u64], at: usize) -> u64
     ensures { result ≡ get_or words.now at 0 }
 {
-    if at < words.len() { words[at] } else { 0 }
+    words.get(at).copied().unwrap_or(0)
 }
 
 // The lower half of a word.
@@ -122,27 +112,18 @@ pub fn node_at(nodes: &[u64], at: usize) -> Node
     ensures { (result.word ≡ word_at nodes.now at) × (result.child ≡ child_at nodes.now at) × (result.child < half_word) }
 {
     Node {
-        word: stored(nodes, at * RECORD),
-        child: low(stored(nodes, at * RECORD + 2)),
+        word: stored(nodes, at * RECORD + CHOICES),
+        child: low(stored(nodes, at * RECORD + UNDER)),
     }
 }
 
-// The word of a node's choices, 0 past the last node.
-fn choices_word(nodes: &[u64], at: usize) -> u64
-    ensures { result ≡ word_at nodes.now at }
+// One of the words of a node's record, 0 past the last node.
+fn word_of(nodes: &[u64], at: usize, which: usize) -> u64
+    requires { which < record_words }
+    ensures { result ≡ get_or nodes.now (at * record_words + which) 0 }
 {
     if at <= nodes.len() / RECORD {
-        return stored(nodes, at * RECORD);
-    }
-    0
-}
-
-// The word of a node's first and end byte, 0 past the last node.
-fn place_word(nodes: &[u64], at: usize) -> u64
-    ensures { result ≡ get_or nodes.now (at * record_words + 1) 0 }
-{
-    if at <= nodes.len() / RECORD {
-        return stored(nodes, at * RECORD + 1);
+        return stored(nodes, at * RECORD + which);
     }
     0
 }
@@ -158,14 +139,14 @@ fn above_tag(word: u64) -> u64
 pub fn tag_at(nodes: &[u64], at: usize) -> usize
     ensures { (result ≡ tag_in (word_at nodes.now at)) × (result < 2 ^ tag_wide) }
 {
-    (choices_word(nodes, at) % TAGS) as usize
+    (word_of(nodes, at, CHOICES) % TAGS) as usize
 }
 
 // A node's choices after its tag, the first lowest.
 pub fn choices_at(nodes: &[u64], at: usize) -> u64
     ensures { result ≡ after_tag (word_at nodes.now at) }
 {
-    above_tag(choices_word(nodes, at))
+    above_tag(word_of(nodes, at, CHOICES))
 }
 
 // Another tag for a node, whose other choices stay.
@@ -173,9 +154,8 @@ pub fn retag(nodes: &mut [u64], at: usize, tag: usize)
     requires { (record_words * (at + 1) ≤ length nodes.old) × (tag < 2 ^ tag_wide) }
     ensures { nodes.new ≡ set nodes.old (record_words * at) (retagged (word_at nodes.old at) tag) }
 {
-    let i = at * RECORD;
-    let others = above_tag(nodes[i]);
-    nodes[i] = (tag as u64) + TAGS * others;
+    let i = at * RECORD + CHOICES;
+    nodes[i] = tag as u64 + TAGS * above_tag(nodes[i]);
 }
 
 // Where a node stands in the text: its first and its end byte.
@@ -189,7 +169,7 @@ pub struct Place {
 pub fn place_at(nodes: &[u64], at: usize) -> Place
     ensures { (result.first ≡ first_at nodes.now at) × (result.end ≡ end_at nodes.now at) × (result.first < half_word) × (result.end < half_word) }
 {
-    let word = place_word(nodes, at);
+    let word = word_of(nodes, at, PLACE);
     Place {
         first: low(word),
         end: high(word),
@@ -201,7 +181,7 @@ pub fn next_of(nodes: &[u64], at: usize) -> usize
     requires { at < half_word }
     ensures { (result ≡ next_at nodes.now at) × (result < half_word) }
 {
-    low(stored(nodes, at * RECORD + 3))
+    low(stored(nodes, at * RECORD + NEXT))
 }
 
 // Where a spelling stands in the text.

@@ -3,10 +3,10 @@ use mathlib.Core.Path.{◌≡◌, refl, sym, ap, ◌∙◌, subst}
 use mathlib.Core.Bool.{Bool, true, false, ◌&&◌}
 use mathlib.Core.List.{List, [], ◌∷◌, ◌++◌}
 use mathlib.Core.Logic.{◌⊎◌, inl, inr}
-use Prim.Native.Nat.{ℕ, zero, suc, ◌+◌, ◌-◌, ◌*◌, ◌≤◌, ◌<◌}
+use Prim.Native.Nat.{ℕ, zero, suc, ◌+◌, ◌≤◌, ◌<◌}
 use native.Mathlib.Nat.{add-zero, add-suc, suc-add}
 use native.Mathlib.Omega.{arith}
-use borrow.Author.Tests.{lt-ltb, le-ltb, le-leb, lt-leb, leb-true}
+use borrow.Author.Tests.{lt-ltb, le-ltb, leb-true}
 use lib.Dec.{leb, ltb, leb-zero, leb-suc-suc}
 use lib.ListN.{get_or, take, drop, replicate}
 use Rattle.keys.proofs.BitsLaws.{clash, le_or_lt}
@@ -14,9 +14,8 @@ use Rattle.keys.specs.Form.{Form, never, one, word, both, child}
 use Rattle.keys.specs.Limits.{Edition, count_wide, count_width, length_width, widest}
 use Rattle.keys.specs.Table.{when, times, one_of, type, under_rest, named_row, tag_width_of, table, rows, rows_of}
 use Rattle.keys.specs.Lines.{in_line, lined}
-use Rattle.node_table.specs.Forms.{spellings_then, nodes_then, listed, leads, Entry, entry, entry_from, entry_by, entry_at, steps_of, form_by, form_of, class_at, grammar_of, forms_of, classes_of, Narrow, entry_of, IsRow, Lists, Jumps, table_words, table_most}
+use Rattle.node_table.specs.Forms.{spellings_then, nodes_then, listed, Entry, entry, entry_by, entry_at, steps_of, form_by, form_of, class_at, grammar_of, forms_of, Narrow, entry_of, IsRow, Lists, table_words, table_most}
 use Rattle.node_table.specs.declared.forms.Row.{Row}
-use Rattle.node_table.specs.declared.forms.Jump.{Jump}
 
 -- Forms of a list, each with g after it.
 abbrev each_then : List Form → Form → List Form
@@ -184,56 +183,11 @@ form_at_lem T steps d n f q r p k i =
     ap (λ (x : ℕ). form_of T x n f) q ∙ ap (λ (x : Entry). form_by T (λ m g. form_of T d m g) n x x.op) (sym p.is)
     ∙ ap (form_by T (λ m g. form_of T d m g) n (entry_of r)) i
 
--- A row that was read where there is one, and where there is none.
-module _ (T : List ℕ) (f : ℕ) (r : Row) where
-  row_in_by : (p m : ℕ) → p < m → IsRow (entry_from T (f * 4)) r → IsRow (entry_by T f (ltb p m)) r
-  row_in_by p m h q = subst (λ (x : Bool). IsRow (entry_by T f x) r) (sym (lt-ltb p m h)) q
-
-  row_out_by : (p m : ℕ) → m ≤ p → IsRow (entry 0 0 0 0) r → IsRow (entry_by T f (ltb p m)) r
-  row_out_by p m h q = subst (λ (x : Bool). IsRow (entry_by T f x) r) (sym (le-ltb p m h)) q
-
-  pub row_in : f < forms_of T → IsRow (entry_from T (f * 4)) r → IsRow (entry_at T f) r
-  row_in h q = row_in_by f (forms_of T) h q
-
-  pub row_out : forms_of T ≤ f → IsRow (entry 0 0 0 0) r → IsRow (entry_at T f) r
-  row_out h q = row_out_by f (forms_of T) h q
-
-module _ (T : List ℕ) (c : ℕ) (r : Row) where
-  pub class_in : c < classes_of T → IsRow (entry_from T ((c + 1) * 4)) r → IsRow (class_at T c) r
-  class_in h q = row_in_by T (c + 1) r c (classes_of T) h q
-
-  pub class_out : classes_of T ≤ c → IsRow (entry 0 0 0 0) r → IsRow (class_at T c) r
-  class_out h q = row_out_by T (c + 1) r c (classes_of T) h q
-
--- Where a choice leads, by its operation.
+-- Where a number leads among the forms that a row lists.
 module _ (T : List ℕ) (r : Row) (t : ℕ) where
-  jumps : (k n f : ℕ) → r.op ≡ 5 + k → ((d : ℕ) → leads T (λ m g. form_of T d m g) (entry_of r) k t ≡ form_of T d n f) → f < table_most → n < table_most
-      → Jumps T r t (record { form = f; n = n })
-  jumps k n f e h p q =
-      let z : r.op - 5 ≡ k = omega arith in
-      record { is = λ d. ap (λ (x : ℕ). leads T (λ m g. form_of T d m g) (entry_of r) x t) z ∙ h d; form = p; few = q }
-
   pub lists_in : (f : ℕ) → t < r.b → f ≡ get_or T (r.a + t) 0 → f < table_most → Lists T r t (record { form = f; n = 1 })
   lists_in f h q p = record { is = λ d. listed_in T (λ g. form_of T d 1 g) r.a r.b t h ∙ ap (form_of T d 1) (sym q); form = p; once = refl }
 
   pub lists_out : (f : ℕ) → r.b ≤ t → f ≡ forms_of T → f < table_most → Lists T r t (record { form = f; n = 1 })
   lists_out f h q p =
       record { is = λ d. listed_out T (λ g. form_of T d 1 g) r.a r.b t h ∙ sym (past_end T d 1 f (omega arith)); form = p; once = refl }
-
-  pub jumps_listed : (j : Jump) → r.op ≡ 5 → Lists T r t j → Jumps T r t j
-  jumps_listed j e l = jumps 0 j.n j.form e l.is l.form (omega (arith, l.once))
-
-  pub jumps_times : r.op ≡ 6 → r.a ≤ t → r.b < table_most → t < table_most → Jumps T r t (record { form = r.b; n = t })
-  jumps_times e h p q = jumps 1 t r.b e (λ d. ap (λ (x : Bool). when x (form_of T d t r.b)) (le-leb r.a t h)) p q
-
-  pub jumps_few : (f : ℕ) → r.op ≡ 6 → t < r.a → f ≡ forms_of T → f < table_most → Jumps T r t (record { form = f; n = 1 })
-  jumps_few f e h q p =
-      jumps 1 1 f e (λ d. ap (λ (x : Bool). when x (form_of T d t r.b)) (lt-leb r.a t h) ∙ sym (past_end T d 1 f (omega arith))) p (omega arith)
-
-  pub jumps_on : 5 ≤ r.op → (r.op ≡ 5 → ⊥) → (r.op ≡ 6 → ⊥) → r.b < table_most → Jumps T r t (record { form = r.b; n = 1 })
-  jumps_on l e g p =
-      let z : r.op ≡ 5 + suc (suc (r.op - 7)) = above r.op l e g in
-      jumps (suc (suc (r.op - 7))) 1 r.b z (λ d. refl) p (omega arith)
-    where
-      above : (x : ℕ) → 5 ≤ x → (x ≡ 5 → ⊥) → (x ≡ 6 → ⊥) → x ≡ 5 + suc (suc (x - 7))
-      above x l e g = omega arith

@@ -13,19 +13,11 @@ use Rattle.keys.specs.Lines.{tagged, Of, of_one, of_word, of_choose, of_child, l
 use Rattle.fields.specs.Put.{far}
 use Rattle.node_table.specs.Forms.{spellings_then, spelling_if, nodes_then, Entry, entry_at, class_at, steps_of, listed, leads, form_by, form_of, grammar_of, entry_of, IsRow, Lists, Jumps, table_most}
 use Rattle.node_table.proofs.FormsLaws.{form_at_lem}
-use Rattle.node_table.specs.Moves.{Output, items, Moved, Moves, Noded, Spelled, form_at, cursor_of, mark, mark_of, moved_to, beside_to, Ready, to_do, OwnStep, After, Begun}
+use Rattle.node_table.specs.Moves.{Output, Sound, items, Moved, Moves, Noded, Spelled, form_at, cursor_of, mark, moved_to, beside_to, Ready, to_do, OwnStep, After, Begun}
 use Rattle.node_table.specs.declared.forms.Row.{Row}
 use Rattle.node_table.specs.declared.forms.Jump.{Jump}
 use Rattle.node_table.specs.declared.moves.Mark.{Mark}
 use Rattle.node_table.specs.declared.moves.Walk.{Walk}
-
--- What is asked of an output: no items are put, and items after items; positions and lengths stay small.
-pub record Sound (O : Output) : Type 0 where
-  pub none : (to : ℕ) (k : List ℕ) → to ≤ far → length k * 8 ≤ far → O.Puts to [] to k k
-  pub append : {to to' to'' : ℕ} {a b : List O.Item} {k k' k'' : List ℕ} → O.Puts to a to' k k' → O.Puts to' b to'' k' k'' → O.Puts to (a ++ b) to'' k k''
-  pub short : {to to' : ℕ} {a : List O.Item} {k k' : List ℕ} → O.Puts to a to' k k' → length k * 8 ≤ far
-  pub stays : {to to' : ℕ} {a : List O.Item} {k k' : List ℕ} → O.Puts to a to' k k' → to' ≤ far
-  pub same : {to to' : ℕ} {a : List O.Item} {k k' : List ℕ} → O.Puts to a to' k k' → length k' ≡ length k
 
 -- ---- Steps follow one another
 
@@ -162,6 +154,15 @@ pub noded_none : (O : Output) (G : Grammar) (N : List ℕ) (P : ℕ → List ℕ
     → Noded O G N P left d most c i m to k m to k
 noded_none O G N P left d most c i m to k z l h q = record { short = l; stays = h; same = refl; in_names = q; on = λ a o b e. absurd (omega arith) }
 
+-- The same, where the words, the items and the end are those.
+pub noded_as : {O : Output} {T T' N : List ℕ} {P : ℕ → List ℕ → Type 0} {left d most c i m to : ℕ} {k k' k1 k1' : List ℕ} {q q' : Mark} → T' ≡ T → k' ≡ k → q' ≡ q → k1' ≡ k1
+    → Noded O (grammar_of T) N P left d most c i m to k q.name q.to k1 → Noded O (grammar_of T') N P left d most c i m to k' q'.name q'.to k1'
+noded_as {O} {T} {T'} {N} {P} {left} {d} {most} {c} {i} {m} {to} {k} {k'} {k1} {k1'} {q} {q'} a b e f x =
+    subst (λ (z : List ℕ). Noded O (grammar_of z) N P left d most c i m to k' q'.name q'.to k1') (sym a)
+    (subst (λ (z : List ℕ). Noded O (grammar_of T) N P left d most c i m to z q'.name q'.to k1') (sym b)
+    (subst (λ (z : Mark). Noded O (grammar_of T) N P left d most c i m to k z.name z.to k1') (sym e)
+    (subst (λ (z : List ℕ). Noded O (grammar_of T) N P left d most c i m to k q.name q.to z) (sym f) x)))
+
 -- A name that is not there.
 pub spelled_none : (O : Output) (P : ℕ → List ℕ → Type 0) (most w d m to : ℕ) (k : List ℕ) → length k * 8 ≤ far → to ≤ far → m ≤ most → ((s : List ℕ) → P m s → ⊥)
     → Spelled O P most w d m to k m to k
@@ -183,8 +184,8 @@ module _ (O : Output) (L : Sound O) (T : List ℕ) (P : ℕ → List ℕ → Typ
   at : (n o : ℕ) → r.op ≡ o → form_of T s.steps n s.form ≡ form_by T after n (entry_of r) o
   at n o e = form_at_lem T s.steps (s.steps - 1) n s.form (one_more s.steps h) r i o e
 
-  pub own_choice : 5 ≤ r.op → (t x to' : ℕ) (k' : List ℕ) (j : Jump) → t ≡ s.word % 2 ^ r.w → x ≡ s.word / 2 ^ r.w → O.Puts s.to (O.choice r.w t d) to' k k' → Jumps T r t j
-      → OwnStep O T P most d s k (record { to = to'; name = s.name; word = x; child = s.child; form = j.form; n = j.n; steps = s.steps - 1 }) k'
+  pub own_choice : 5 ≤ r.op → (t x to' : ℕ) (k' : List ℕ) (j : Jump) → t ≡ s.word % 2 ^ r.w → x ≡ s.word / 2 ^ r.w → O.Puts s.mark.to (O.choice r.w t d) to' k k' → Jumps T r t j
+      → OwnStep O T P most d s k (record { mark = mark to' s.mark.name; word = x; child = s.child; form = j.form; n = j.n; steps = s.steps - 1 }) k'
   own_choice f t x to' k' j q v p u =
       record {
         ready =
@@ -200,9 +201,9 @@ module _ (O : Output) (L : Sound O) (T : List ℕ) (P : ℕ → List ℕ → Typ
         same = L.same p;
         less = omega (arith, u.few);
         on = λ G N high.
-            subst (λ (z : ℕ). Moves O G N P high d (form_at T s) (cursor_of s) s.to k (after j.n j.form) (cursor z s.child s.name) to' k') (sym v)
+            subst (λ (z : ℕ). Moves O G N P high d (form_at T s) (cursor_of s) s.mark.to k (after j.n j.form) (cursor z s.child s.mark.name) to' k') (sym v)
             (moves_as O L G N P high d (at s.n (suc (suc (suc (suc (suc (r.op - 5)))))) (five r.op f)) (sym (ap (leads T after (entry_of r) (r.op - 5)) (sym q) ∙ u.is (s.steps - 1)))
-            (moves_choice O L G N P high d r.w (leads T after (entry_of r) (r.op - 5)) (cursor_of s) s.to k to' k' (subst (λ (z : ℕ). O.Puts s.to (O.choice r.w z d) to' k k') q p)));
+            (moves_choice O L G N P high d r.w (leads T after (entry_of r) (r.op - 5)) (cursor_of s) s.mark.to k to' k' (subst (λ (z : ℕ). O.Puts s.mark.to (O.choice r.w z d) to' k k') q p)));
       }
     where
       five : (z : ℕ) → 5 ≤ z → z ≡ suc (suc (suc (suc (suc (z - 5)))))
@@ -210,7 +211,7 @@ module _ (O : Output) (L : Sound O) (T : List ℕ) (P : ℕ → List ℕ → Typ
 
   -- A spelling is put out, and the walk goes on at a form.
   spelling_then : (f n steps : ℕ) → f < table_most → n < table_most → steps < table_most → steps * table_most + n < to_do s → form_at T s ≡ both (word r.w) (form_of T steps n f)
-      → (m' to' : ℕ) (k' : List ℕ) → Spelled O P most r.w d s.name s.to k m' to' k'
+      → (m' to' : ℕ) (k' : List ℕ) → Spelled O P most r.w d s.mark.name s.mark.to k m' to' k'
       → OwnStep O T P most d s k (moved_to s (mark to' m') f n steps) k'
   spelling_then f n steps a b c z e m' to' k' x =
       record {
@@ -218,15 +219,15 @@ module _ (O : Output) (L : Sound O) (T : List ℕ) (P : ℕ → List ℕ → Typ
             record { short = omega (arith, x.short, x.same); near = x.stays; in_names = x.in_names; in_nodes = y.in_nodes; in_table = a; few = b; steps = c };
         same = x.same;
         less = z;
-        on = λ G N high. moves_as O L G N P high d e refl (moves_word O L G N P high d (form_of T steps n f) r.w most (cursor_of s) s.to k m' to' k' x);
+        on = λ G N high. moves_as O L G N P high d e refl (moves_word O L G N P high d (form_of T steps n f) r.w most (cursor_of s) s.mark.to k m' to' k' x);
       }
 
-  pub own_spelling : r.op ≡ 4 → (m' to' : ℕ) (k' : List ℕ) → Spelled O P most r.w d s.name s.to k m' to' k'
+  pub own_spelling : r.op ≡ 4 → (m' to' : ℕ) (k' : List ℕ) → Spelled O P most r.w d s.mark.name s.mark.to k m' to' k'
       → OwnStep O T P most d s k (moved_to s (mark to' m') r.b s.n (s.steps - 1)) k'
   own_spelling o m' to' k' x =
       spelling_then r.b s.n (s.steps - 1) i.next y.few (omega (arith, y.steps)) (omega arith) (at s.n 4 o) m' to' k' x
 
-  pub own_spellings : r.op ≡ 2 → (s.n ≡ 0 → ⊥) → (m' to' : ℕ) (k' : List ℕ) → Spelled O P most r.w d s.name s.to k m' to' k'
+  pub own_spellings : r.op ≡ 2 → (s.n ≡ 0 → ⊥) → (m' to' : ℕ) (k' : List ℕ) → Spelled O P most r.w d s.mark.name s.mark.to k m' to' k'
       → OwnStep O T P most d s k (moved_to s (mark to' m') s.form (s.n - 1) s.steps) k'
   own_spellings o z m' to' k' x =
       spelling_then s.form (s.n - 1) s.steps y.in_table (omega (arith, y.few)) y.steps (omega arith)
@@ -234,8 +235,8 @@ module _ (O : Output) (L : Sound O) (T : List ℕ) (P : ℕ → List ℕ → Typ
 
   -- Nothing is put out, and the walk goes on at a form.
   own_on : (f n steps : ℕ) → f < table_most → n < table_most → steps < table_most → steps * table_most + n < to_do s
-      → ((G : Grammar) (N : List ℕ) (high : ℕ) → Moves O G N P high d (form_at T s) (cursor_of s) s.to k (form_of T steps n f) (cursor_of s) s.to k)
-      → OwnStep O T P most d s k (moved_to s (mark s.to s.name) f n steps) k
+      → ((G : Grammar) (N : List ℕ) (high : ℕ) → Moves O G N P high d (form_at T s) (cursor_of s) s.mark.to k (form_of T steps n f) (cursor_of s) s.mark.to k)
+      → OwnStep O T P most d s k (moved_to s s.mark f n steps) k
   own_on f n steps a b c z e =
       record {
         ready = record { short = y.short; near = y.near; in_names = y.in_names; in_nodes = y.in_nodes; in_table = a; few = b; steps = c };
@@ -245,22 +246,22 @@ module _ (O : Output) (L : Sound O) (T : List ℕ) (P : ℕ → List ℕ → Typ
       }
 
   never_on : r.op ≡ 0 → (f n steps : ℕ) (G : Grammar) (N : List ℕ) (high : ℕ)
-      → Moves O G N P high d (form_at T s) (cursor_of s) s.to k (form_of T steps n f) (cursor_of s) s.to k
+      → Moves O G N P high d (form_at T s) (cursor_of s) s.mark.to k (form_of T steps n f) (cursor_of s) s.mark.to k
   never_on o f n steps G N high =
-      moves_as O L G N P high d (at s.n 0 o) refl (moves_never O L G N P high d (form_of T steps n f) (cursor_of s) s.to k y.short y.near refl)
+      moves_as O L G N P high d (at s.n 0 o) refl (moves_never O L G N P high d (form_of T steps n f) (cursor_of s) s.mark.to k y.short y.near refl)
 
   pub own_next : s.n ≡ 0 → r.op < 5 → (r.op ≡ 1 → ⊥) → (r.op ≡ 4 → ⊥)
-      → OwnStep O T P most d s k (moved_to s (mark s.to s.name) r.b 1 (s.steps - 1)) k
+      → OwnStep O T P most d s k (moved_to s s.mark r.b 1 (s.steps - 1)) k
   own_next z l a b = own_on r.b 1 (s.steps - 1) i.next (omega arith) (omega (arith, y.steps)) (omega arith) (λ G N high. by r.op refl l a b G N high)
     where
       skip : (o : ℕ) → r.op ≡ o → form_by T after 0 (entry_of r) o ≡ after 1 r.b → (G : Grammar) (N : List ℕ) (high : ℕ)
-          → Moves O G N P high d (form_at T s) (cursor_of s) s.to k (after 1 r.b) (cursor_of s) s.to k
+          → Moves O G N P high d (form_at T s) (cursor_of s) s.mark.to k (after 1 r.b) (cursor_of s) s.mark.to k
       skip o e q G N high =
           moves_as O L G N P high d (at s.n o e ∙ ap (λ (x : ℕ). form_by T after x (entry_of r) o) z ∙ q) refl
-          (moves_none O L G N P high d (after 1 r.b) (cursor_of s) s.to k y.short y.near)
+          (moves_none O L G N P high d (after 1 r.b) (cursor_of s) s.mark.to k y.short y.near)
 
       by : (o : ℕ) → r.op ≡ o → o < 5 → (o ≡ 1 → ⊥) → (o ≡ 4 → ⊥) → (G : Grammar) (N : List ℕ) (high : ℕ)
-          → Moves O G N P high d (form_at T s) (cursor_of s) s.to k (after 1 r.b) (cursor_of s) s.to k
+          → Moves O G N P high d (form_at T s) (cursor_of s) s.mark.to k (after 1 r.b) (cursor_of s) s.mark.to k
       by zero e l a b G N high = never_on e r.b 1 (s.steps - 1) G N high
       by (suc zero) e l a b G N high = absurd (a refl)
       by (suc (suc zero)) e l a b G N high = skip 2 e refl G N high
@@ -268,7 +269,7 @@ module _ (O : Output) (L : Sound O) (T : List ℕ) (P : ℕ → List ℕ → Typ
       by (suc (suc (suc (suc zero)))) e l a b G N high = absurd (b refl)
       by (suc (suc (suc (suc (suc o))))) e l a b G N high = absurd (omega arith)
 
-  pub own_stop : r.op ≡ 0 → OwnStep O T P most d s k (moved_to s (mark s.to s.name) s.form s.n 0) k
+  pub own_stop : r.op ≡ 0 → OwnStep O T P most d s k (moved_to s s.mark s.form s.n 0) k
   own_stop o = own_on s.form s.n 0 y.in_table y.few (omega arith) (omega arith) (never_on o s.form s.n 0)
 
 -- The same, where the walk that is answered is that one.
@@ -326,7 +327,7 @@ after_as {O} {N} {P} {most} {w} {d} {s} {o} {k} {q} {q'} {k'} e x = subst (λ (z
 pub begun : (O : Output) (L : Sound O) (T N : List ℕ) (P : ℕ → List ℕ → Type 0) (d c i : ℕ) (o : Mark) (k : List ℕ) (own kid : ℕ) (r : Row) (t x to₀ : ℕ) (k₀ : List ℕ) (to' : ℕ) (k' : List ℕ) (j : Jump) (steps : ℕ)
     → own ≡ word_at N i → kid ≡ child_at N i → kid < half_word → IsRow (class_at T c) r → t ≡ own % 2 ^ r.w → x ≡ own / 2 ^ r.w
     → O.Puts o.to (O.node i d) to₀ k k₀ → O.Puts to₀ (O.choice r.w t (O.under d)) to' k₀ k' → Lists T r t j → steps ≡ steps_of T → steps < table_most
-    → Begun O T N P d c i o k (record { to = to'; name = o.name; word = x; child = kid; form = j.form; n = 1; steps = steps }) k'
+    → Begun O T N P d c i o k (record { mark = mark to' o.name; word = x; child = kid; form = j.form; n = 1; steps = steps }) k'
 begun O L T N P d c i o k own kid r t x to₀ k₀ to' k' j steps a b e v q y f p u z l =
     record {
       ready = λ most h.
@@ -369,16 +370,16 @@ module _ (O : Output) (L : Sound O) (T N : List ℕ) (P : ℕ → List ℕ → T
   pub record Along (s : Walk) (k : List ℕ) : Type 0 where
     pub same : length k ≡ length k₀
     pub ready : Ready most k s
-    pub on : Moves O (grammar_of T) N P high d (form_at T s₀) (cursor_of s₀) s₀.to k₀ (form_at T s) (cursor_of s) s.to k
+    pub on : Moves O (grammar_of T) N P high d (form_at T s₀) (cursor_of s₀) s₀.mark.to k₀ (form_at T s) (cursor_of s) s.mark.to k
 
   pub along_none : Ready most k₀ s₀ → Along s₀ k₀
-  along_none h = record { same = refl; ready = h; on = moves_none O L (grammar_of T) N P high d (form_at T s₀) (cursor_of s₀) s₀.to k₀ h.short h.near }
+  along_none h = record { same = refl; ready = h; on = moves_none O L (grammar_of T) N P high d (form_at T s₀) (cursor_of s₀) s₀.mark.to k₀ h.short h.near }
 
   pub along_own : {s q : Walk} {k k' : List ℕ} → Along s k → OwnStep O T P most d s k q k' → Along q k'
   along_own p x = record { same = x.same ∙ p.same; ready = x.ready; on = moves_then O L (grammar_of T) N P high d p.on (x.on (grammar_of T) N high) }
 
   -- Behind the last child the walk goes on at the next form.
-  module _ (s q : Walk) (r : Row) (h : 0 < s.steps) (f : s.n ≡ 0 → q ≡ moved_to s (mark_of s) r.b 1 (s.steps - 1)) (g : (s.n ≡ 0 → ⊥) → q ≡ s) where
+  module _ (s q : Walk) (r : Row) (h : 0 < s.steps) (f : s.n ≡ 0 → q ≡ moved_to s s.mark r.b 1 (s.steps - 1)) (g : (s.n ≡ 0 → ⊥) → q ≡ s) where
     pub along_past : {k : List ℕ} → r.op ≡ 3 → IsRow (entry_at T s.form) r → Along s k → Along q k
     along_past {k} e i p = by s.n refl
       where
@@ -399,7 +400,7 @@ module _ (O : Output) (L : Sound O) (T N : List ℕ) (P : ℕ → List ℕ → T
     now_at : (n f : ℕ) → r.op ≡ f → form_of T s.steps n s.form ≡ form_by T (λ m g. form_of T (s.steps - 1) m g) n (entry_of r) f
     now_at n f e = form_at_lem T s.steps (s.steps - 1) n s.form (one_more s.steps h) r z f e
 
-    pub along_child : r.op ≡ 3 → 0 < s.n → {m : Mark} {q : Walk} {k1 k2 : List ℕ} → Noded O (grammar_of T) N P high d most r.a s.child s.name s.to k m.name m.to k1
+    pub along_child : r.op ≡ 3 → 0 < s.n → {m : Mark} {q : Walk} {k1 k2 : List ℕ} → Noded O (grammar_of T) N P high d most r.a s.child s.mark.name s.mark.to k m.name m.to k1
         → After O N P most r.w d s m k1 q k2 → Along q k2
     along_child e l {m} {q} {k1} {k2} x a =
         record {
@@ -407,7 +408,7 @@ module _ (O : Output) (L : Sound O) (T N : List ℕ) (P : ℕ → List ℕ → T
           ready = a.ready;
           on =
               moves_then O L (grammar_of T) N P high d (moves_as O L (grammar_of T) N P high d refl (sym here) p.on)
-              (moves_then O L (grammar_of T) N P high d (moves_node O L (grammar_of T) N P high d (spelling_if r.w others) r.a most (cursor_of s) s.to k m.name m.to k1 x)
+              (moves_then O L (grammar_of T) N P high d (moves_node O L (grammar_of T) N P high d (spelling_if r.w others) r.a most (cursor_of s) s.mark.to k m.name m.to k1 x)
               (moves_as O L (grammar_of T) N P high d refl there (a.on (grammar_of T) high others)));
         }
       where
@@ -422,25 +423,25 @@ module _ (O : Output) (L : Sound O) (T N : List ℕ) (P : ℕ → List ℕ → T
             ap₂ (λ (v y : ℕ). form_of T v y q.form) a.steps a.few ∙ ap (form_of T s.steps (s.n - 1)) a.form
             ∙ now_at (s.n - 1) 3 e
 
-    along_one : r.op ≡ 1 → Moves O (grammar_of T) N P high d (form_at T s₀) (cursor_of s₀) s₀.to k₀ one (cursor_of s) s.to k
+    along_one : r.op ≡ 1 → Moves O (grammar_of T) N P high d (form_at T s₀) (cursor_of s₀) s₀.mark.to k₀ one (cursor_of s) s.mark.to k
     along_one e = moves_as O L (grammar_of T) N P high d refl (sym (now_at s.n 1 e)) p.on
 
-  along_never : {s : Walk} {k : List ℕ} → Along s k → s.steps ≡ 0 → Moves O (grammar_of T) N P high d (form_at T s₀) (cursor_of s₀) s₀.to k₀ one (cursor_of s) s.to k
+  along_never : {s : Walk} {k : List ℕ} → Along s k → s.steps ≡ 0 → Moves O (grammar_of T) N P high d (form_at T s₀) (cursor_of s₀) s₀.mark.to k₀ one (cursor_of s) s.mark.to k
   along_never {s} {k} p e =
       moves_then O L (grammar_of T) N P high d (moves_as O L (grammar_of T) N P high d refl (ap (λ (x : ℕ). form_of T x s.n s.form) (sym e)) p.on)
-      (moves_never O L (grammar_of T) N P high d one (cursor_of s) s.to k p.ready.short p.ready.near refl)
+      (moves_never O L (grammar_of T) N P high d one (cursor_of s) s.mark.to k p.ready.short p.ready.near refl)
 
 -- From the node's tag to its end.
 module _ (O : Output) (L : Sound O) (T N : List ℕ) (P : ℕ → List ℕ → Type 0) (most high d : ℕ) (s₀ : Walk) (k₀ : List ℕ) (c i : ℕ) (o : Mark) (k₁ : List ℕ) (b : Begun O T N P d c i o k₁ s₀ k₀)
     (left : ℕ) (q : left ≡ suc high) {s : Walk} {k : List ℕ} (p : Along O L T N P most high (O.under d) s₀ k₀ s k) where
-  whole : Moves O (grammar_of T) N P high (O.under d) (form_at T s₀) (cursor_of s₀) s₀.to k₀ one (cursor_of s) s.to k
-      → Noded O (grammar_of T) N P left d most c i o.name o.to k₁ s.name s.to k
+  whole : Moves O (grammar_of T) N P high (O.under d) (form_at T s₀) (cursor_of s₀) s₀.mark.to k₀ one (cursor_of s) s.mark.to k
+      → Noded O (grammar_of T) N P left d most c i o.name o.to k₁ s.mark.name s.mark.to k
   whole x =
-      noded O L (grammar_of T) N P left high d most c i o.name o.to k₁ b.to₀ b.k₀ (cursor_of s) s.to k q p.ready.in_names b.first
+      noded O L (grammar_of T) N P left high d most c i o.name o.to k₁ b.to₀ b.k₀ (cursor_of s) s.mark.to k q p.ready.in_names b.first
       (moves_then O L (grammar_of T) N P high (O.under d) (b.on high) x)
 
-  pub walked : (r : Row) → IsRow (entry_at T s.form) r → 0 < s.steps → r.op ≡ 1 → Noded O (grammar_of T) N P left d most c i o.name o.to k₁ s.name s.to k
+  pub walked : (r : Row) → IsRow (entry_at T s.form) r → 0 < s.steps → r.op ≡ 1 → Noded O (grammar_of T) N P left d most c i o.name o.to k₁ s.mark.name s.mark.to k
   walked r z h e = whole (along_one O L T N P most high (O.under d) s₀ k₀ p r z h e)
 
-  pub walked_out : s.steps ≡ 0 → Noded O (grammar_of T) N P left d most c i o.name o.to k₁ s.name s.to k
+  pub walked_out : s.steps ≡ 0 → Noded O (grammar_of T) N P left d most c i o.name o.to k₁ s.mark.name s.mark.to k
   walked_out e = whole (along_never O L T N P most high (O.under d) s₀ k₀ p e)

@@ -1,6 +1,6 @@
 -- Walking a node by its form in line: what a walk puts out, its steps, and what its functions answer, whatever the output is.
 use Rattle.std.specs.Prelude.{◌≡◌, List, [], ◌++◌, ℕ, ◌+◌, ◌-◌, ◌*◌, ◌/◌, ◌^◌, ◌≤◌, ◌<◌, length}
-use Rattle.keys.specs.Limits.{half_word}
+use Rattle.keys.specs.Limits.{half_word, widest}
 use Rattle.keys.specs.Form.{Form, Grammar, width, branch, left, right, class}
 use Rattle.keys.specs.Store.{Run, done, chose, name, kid, called}
 use Rattle.keys.specs.Lines.{tagged, Of, levels}
@@ -20,6 +20,14 @@ pub record Output : Type 1 where
   pub node : (i d : ℕ) → List Item
   pub under : ℕ → ℕ
   pub Puts : (to : ℕ) → List Item → (to' : ℕ) (k k' : List ℕ) → Type 0
+
+-- What is asked of an output: no items are put, and items after items; positions and lengths stay small.
+pub record Sound (O : Output) : Type 0 where
+  pub none : (to : ℕ) (k : List ℕ) → to ≤ far → length k * 8 ≤ far → O.Puts to [] to k k
+  pub append : {to to' to'' : ℕ} {a b : List O.Item} {k k' k'' : List ℕ} → O.Puts to a to' k k' → O.Puts to' b to'' k' k'' → O.Puts to (a ++ b) to'' k k''
+  pub short : {to to' : ℕ} {a : List O.Item} {k k' : List ℕ} → O.Puts to a to' k k' → length k * 8 ≤ far
+  pub stays : {to to' : ℕ} {a : List O.Item} {k k' : List ℕ} → O.Puts to a to' k k' → to' ≤ far
+  pub same : {to to' : ℕ} {a : List O.Item} {k k' : List ℕ} → O.Puts to a to' k k' → length k' ≡ length k
 
 module _ (O : Output) (G : Grammar) (N : List ℕ) where
   -- The items of a run of a form in line, which the store holds from a place on.
@@ -77,33 +85,39 @@ form_at T s = form_of T s.steps s.n s.form
 
 -- The place in the store at which it is.
 abbrev pub cursor_of : Walk → Cursor
-cursor_of s = cursor s.word s.child s.name
+cursor_of s = cursor s.word s.child s.mark.name
 
 -- A position by its parts.
 abbrev pub mark : (to next : ℕ) → Mark
 mark to next = record { to = to; name = next }
 
--- The position at which a walk is.
-abbrev pub mark_of : Walk → Mark
-mark_of s = mark s.to s.name
-
 -- A walk with what was put out of it, at another form.
 abbrev pub moved_to : Walk → Mark → (form n steps : ℕ) → Walk
-moved_to s o form n steps = record { to = o.to; name = o.name; word = s.word; child = s.child; form = form; n = n; steps = steps }
+moved_to s o form n steps = record { mark = o; word = s.word; child = s.child; form = form; n = n; steps = steps }
 
 -- A walk with what was put out of it, at the next child.
 abbrev pub beside_to : Walk → Mark → (next : ℕ) → Walk
-beside_to s o next = record { to = o.to; name = o.name; word = s.word; child = next; form = s.form; n = s.n - 1; steps = s.steps }
+beside_to s o next = record { mark = o; word = s.word; child = next; form = s.form; n = s.n - 1; steps = s.steps }
 
 -- The numbers of a walk are small.
 pub record Ready (most : ℕ) (k : List ℕ) (s : Walk) : Type 0 where
   pub short : length k * 8 ≤ far
-  pub near : s.to ≤ far
-  pub in_names : s.name ≤ most
+  pub near : s.mark.to ≤ far
+  pub in_names : s.mark.name ≤ most
   pub in_nodes : s.child < half_word
   pub in_table : s.form < table_most
   pub few : s.n < table_most
   pub steps : s.steps < table_most
+
+-- Items may be put at a place: the numbers are small.
+abbrev pub MayPut : (k : List ℕ) (to : ℕ) → Type 0
+MayPut k to = (length k * 8 ≤ far) × (to ≤ far)
+
+-- A walk may go on behind a child: there is one, and the numbers are small.
+abbrev pub MayGoOn : (most : ℕ) (k : List ℕ) (w : ℕ) (s : Walk) (o : Mark) → Type 0
+MayGoOn most k w s o =
+    (length k * 8 ≤ far) × (o.to ≤ far) × (o.name ≤ most) × (w ≤ widest) × (s.child < half_word) × (s.form < table_most) × (0 < s.n) × (s.n < table_most)
+    × (s.steps < table_most)
 
 -- How much of a node is left to do at most.
 abbrev pub to_do : Walk → ℕ
@@ -114,7 +128,7 @@ pub record OwnStep (O : Output) (T : List ℕ) (P : ℕ → List ℕ → Type 0)
   pub ready : Ready most k' q
   pub same : length k' ≡ length k
   pub less : to_do q < to_do s
-  pub on : (G : Grammar) (N : List ℕ) (high : ℕ) → Moves O G N P high d (form_at T s) (cursor_of s) s.to k (form_at T q) (cursor_of q) q.to k'
+  pub on : (G : Grammar) (N : List ℕ) (high : ℕ) → Moves O G N P high d (form_at T s) (cursor_of s) s.mark.to k (form_at T q) (cursor_of q) q.mark.to k'
 
 -- What follows a child: a spelling if its length has any bits.
 pub record After (O : Output) (N : List ℕ) (P : ℕ → List ℕ → Type 0) (most w d : ℕ) (s : Walk) (o : Mark) (k : List ℕ) (q : Walk) (k' : List ℕ) : Type 0 where
@@ -124,7 +138,7 @@ pub record After (O : Output) (N : List ℕ) (P : ℕ → List ℕ → Type 0) (
   pub few : q.n ≡ s.n - 1
   pub steps : q.steps ≡ s.steps
   pub on : (G : Grammar) (high : ℕ) (g : Form)
-      → Moves O G N P high d (spelling_if w g) (cursor s.word (next_at N s.child) o.name) o.to k g (cursor_of q) q.to k'
+      → Moves O G N P high d (spelling_if w g) (cursor s.word (next_at N s.child) o.name) o.to k g (cursor_of q) q.mark.to k'
 
 -- What stands before a node's run is put out, and its tag; the walk stands behind it.
 pub record Begun (O : Output) (T N : List ℕ) (P : ℕ → List ℕ → Type 0) (d c i : ℕ) (o : Mark) (k : List ℕ) (q : Walk) (k' : List ℕ) : Type 0 where
@@ -134,4 +148,4 @@ pub record Begun (O : Output) (T N : List ℕ) (P : ℕ → List ℕ → Type 0)
   pub k₀ : List ℕ
   pub first : O.Puts o.to (O.node i d) to₀ k k₀
   pub on : (high : ℕ)
-      → Moves O (grammar_of T) N P high (O.under d) (tagged (grammar_of T) c) (cursor (word_at N i) (child_at N i) o.name) to₀ k₀ (form_at T q) (cursor_of q) q.to k'
+      → Moves O (grammar_of T) N P high (O.under d) (tagged (grammar_of T) c) (cursor (word_at N i) (child_at N i) o.name) to₀ k₀ (form_at T q) (cursor_of q) q.mark.to k'

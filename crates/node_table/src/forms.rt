@@ -14,10 +14,19 @@ pub const EDITION_WIDTH: usize = 4;
 // The words of a form.
 const ENTRY: usize = 4;
 
+// Where the table says how many steps its longest form has, how many classes there are, and how many forms.
+pub const STEPS: usize = 1;
+
+const CLASSES: usize = 2;
+
+const FORMS: usize = 3;
+
 // The class of a type.
 pub const TYPE: usize = 0;
 
-// The operations of a form: never is 0, and from CHOICE on each is a choice.
+// The operations of a form; from CHOICE on each is a choice. Numbers and no enum: a lent table may hold any, and IsRow says that a row is the table's words.
+pub const NEVER: usize = 0;
+
 pub const END: usize = 1;
 
 pub const SPELLINGS: usize = 2;
@@ -40,8 +49,8 @@ pub fn words() -> [u16; TABLE]
     tables::WORDS
 }
 
-// One form of the table.
-#[derive(Clone, Copy)]
+// One form of the table; none is all zeros.
+#[derive(Clone, Copy, Default)]
 pub struct Row {
     pub op: usize,
     pub w: usize,
@@ -49,17 +58,11 @@ pub struct Row {
     pub b: usize,
 }
 
-fn slim(x: u16) -> usize
-    ensures { (result ≡ x) × (result < table_most) }
-{
-    x as usize
-}
-
 // A word of the table, 0 past its end.
 pub fn word_at(forms: &[u16], at: usize) -> usize
     ensures { (result ≡ get_or forms.now at 0) × (result < table_most) }
 {
-    if at < forms.len() { slim(forms[at]) } else { 0 }
+    usize::from(forms.get(at).copied().unwrap_or(0))
 }
 
 // The four words from a place on, 0 past the end.
@@ -67,14 +70,6 @@ fn row_from(forms: &[u16], at: usize) -> Row
     requires { at ≤ 2 ^ 40 }
     ensures { IsRow (entry_from forms.now at) result }
 {
-    if at + 3 < forms.len() {
-        return Row {
-            op: slim(forms[at]),
-            w: slim(forms[at + 1]),
-            a: slim(forms[at + 2]),
-            b: slim(forms[at + 3]),
-        };
-    }
     Row {
         op: word_at(forms, at),
         w: word_at(forms, at + 1),
@@ -88,14 +83,10 @@ pub fn row_at(forms: &[u16], form: usize) -> Row
     requires { form < table_most }
     ensures { IsRow (entry_at forms.now form) result }
 {
-    if form < word_at(forms, 3) {
-        return row_from(forms, form * ENTRY);
-    }
-    Row {
-        op: 0,
-        w: 0,
-        a: 0,
-        b: 0,
+    if form < word_at(forms, FORMS) {
+        row_from(forms, form * ENTRY)
+    } else {
+        Row::default()
     }
 }
 
@@ -104,14 +95,10 @@ pub fn class_at(forms: &[u16], class: usize) -> Row
     requires { class < table_most }
     ensures { IsRow (class_at forms.now class) result }
 {
-    if class < word_at(forms, 2) {
-        return row_from(forms, (class + 1) * ENTRY);
-    }
-    Row {
-        op: 0,
-        w: 0,
-        a: 0,
-        b: 0,
+    if class < word_at(forms, CLASSES) {
+        row_from(forms, (class + 1) * ENTRY)
+    } else {
+        Row::default()
     }
 }
 
@@ -127,16 +114,12 @@ pub fn listed_at(forms: &[u16], r: Row, t: usize) -> Jump
     requires { (r.a < table_most) × (t < table_most) }
     ensures { Lists forms.now r t result }
 {
-    if t < r.b {
-        return Jump {
-            form: word_at(forms, r.a + t),
-            n: 1,
-        };
-    }
-    Jump {
-        form: word_at(forms, 3),
-        n: 1,
-    }
+    let form = if t < r.b {
+        word_at(forms, r.a + t)
+    } else {
+        word_at(forms, FORMS)
+    };
+    Jump { form, n: 1 }
 }
 
 // What the number t of a choice leads to.
@@ -144,18 +127,13 @@ pub fn jump_at(forms: &[u16], r: Row, t: usize) -> Jump
     requires { (r.a < table_most) × (r.b < table_most) × (t < table_most) × (5 ≤ r.op) }
     ensures { Jumps forms.now r t result }
 {
-    let op = r.op;
-    if op == CHOICE {
-        return listed_at(forms, r, t);
-    }
-    if op != TIMES {
-        return Jump { form: r.b, n: 1 };
-    }
-    if r.a <= t {
-        return Jump { form: r.b, n: t };
-    }
-    Jump {
-        form: word_at(forms, 3),
-        n: 1,
+    match r.op {
+        CHOICE => listed_at(forms, r, t),
+        TIMES if r.a <= t => Jump { form: r.b, n: t },
+        TIMES => Jump {
+            form: word_at(forms, FORMS),
+            n: 1,
+        },
+        _ => Jump { form: r.b, n: 1 },
     }
 }

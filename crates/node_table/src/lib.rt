@@ -4,3 +4,4 @@
 pub mod forms;
 pub mod moves;
 mod tables;
+pub mod walk;

@@ -1,7 +1,7 @@
 // Where a walk of a tree is, and its moves: what key out and the visits share.
 ghost use Rattle.std.specs.Prelude.{◌≡◌, true, false, ◌-◌, ◌/◌, ◌%◌, ◌≤◌, ◌<◌, ◌^◌};
 ghost use Rattle.keys.specs.Limits.{widest};
-ghost use Rattle.node_table.specs.Moves.{mark_of, moved_to, beside_to};
+ghost use Rattle.node_table.specs.Moves.{moved_to, beside_to};
 
 use crate::forms;
 use crate::forms::Row;
@@ -16,13 +16,59 @@ pub struct Mark {
 // The same inside a node: its choices still to come, its next child, its form, how often the form's first step is done, and the steps left.
 #[derive(Clone, Copy)]
 pub struct Walk {
-    pub to: usize,
-    pub name: usize,
+    pub mark: Mark,
     pub word: u64,
     pub child: usize,
     pub form: usize,
     pub n: usize,
     pub steps: usize,
+}
+
+impl Walk {
+    // The walk with what was put out of it, at another form.
+    pub fn moved(self, mark: Mark, form: usize, n: usize, steps: usize) -> Walk
+        ensures { result ≡ moved_to self mark form n steps }
+    {
+        Walk {
+            mark,
+            form,
+            n,
+            steps,
+            ..self
+        }
+    }
+
+    // The walk with what was put out of it, at the next child.
+    pub fn beside(self, mark: Mark, next: usize) -> Walk
+        requires { 0 < self.n }
+        ensures { result ≡ beside_to self mark next }
+    {
+        Walk {
+            mark,
+            child: next,
+            n: self.n - 1,
+            ..self
+        }
+    }
+
+    // The walk behind the last of its children, or as it is.
+    pub fn past_last(self, r: Row) -> Walk
+        requires { 0 < self.steps }
+        ensures { (self.n ≡ 0 → result ≡ moved_to self self.mark r.b 1 (self.steps - 1)) × ((self.n ≡ 0 → ⊥) → result ≡ self) }
+    {
+        if 0 < self.n {
+            self
+        } else {
+            self.moved(self.mark, r.b, 1, self.steps - 1)
+        }
+    }
+
+    // Does the next step go into a child?
+    pub fn into_child(self, r: Row) -> bool
+        ensures { (result ≡ true → (r.op ≡ 3) × (0 < self.n)) × (result ≡ false → r.op ≡ 3 → self.n ≡ 0) }
+    {
+        r.op == forms::NODES && 0 < self.n
+    }
 }
 
 // The first of a node's own choices: its number, and the choices after it.
@@ -43,63 +89,4 @@ pub fn choice_of(word: u64, w: usize) -> Chosen
         number: number as usize,
         word: rest,
     }
-}
-
-// The walk with what was put out of it, at another form.
-pub fn moved(s: Walk, o: Mark, form: usize, n: usize, steps: usize) -> Walk
-    ensures { result ≡ moved_to s o form n steps }
-{
-    Walk {
-        to: o.to,
-        name: o.name,
-        word: s.word,
-        child: s.child,
-        form: form,
-        n: n,
-        steps: steps,
-    }
-}
-
-// The walk with what was put out of it, at the next child.
-pub fn beside(s: Walk, o: Mark, next: usize) -> Walk
-    requires { 0 < s.n }
-    ensures { result ≡ beside_to s o next }
-{
-    Walk {
-        to: o.to,
-        name: o.name,
-        word: s.word,
-        child: next,
-        form: s.form,
-        n: s.n - 1,
-        steps: s.steps,
-    }
-}
-
-// The walk behind the last of its children, or as it is.
-pub fn past_last(r: Row, s: Walk) -> Walk
-    requires { 0 < s.steps }
-    ensures { (s.n ≡ 0 → result ≡ moved_to s (mark_of s) r.b 1 (s.steps - 1)) × ((s.n ≡ 0 → ⊥) → result ≡ s) }
-{
-    if 0 < s.n {
-        return s;
-    }
-    let o = Mark {
-        to: s.to,
-        name: s.name,
-    };
-    moved(s, o, r.b, 1, s.steps - 1)
-}
-
-// Does the next step go into a child?
-pub fn into_child(r: Row, s: Walk) -> bool
-    ensures { (result ≡ true → (r.op ≡ 3) × (0 < s.n)) × (result ≡ false → r.op ≡ 3 → s.n ≡ 0) }
-{
-    if r.op != forms::NODES {
-        return false;
-    }
-    if s.n == 0 {
-        return false;
-    }
-    true
 }

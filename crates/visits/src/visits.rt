@@ -31,7 +31,6 @@ fn set_word(words: &mut [u64], at: usize, word: u64)
 {
     if at < words.len() {
         words[at] = word;
-        return;
     }
 }
 
@@ -51,13 +50,12 @@ fn visit_name(names: &[u64], visits: &mut [u64], depth: usize, o: Mark) -> Mark
     requires { (length visits.old * 8 ≤ far) × (o.to ≤ far) × (o.name ≤ length names.now) }
     ensures { VisitsName names visits depth o result }
 {
-    let name = o.name;
-    if names.len() <= name {
+    if names.len() <= o.name {
         return o;
     }
     Mark {
-        to: put_visit(visits, o.to, NAME, name as u64, depth),
-        name: name + 1,
+        to: put_visit(visits, o.to, NAME, o.name as u64, depth),
+        name: o.name + 1,
     }
 }
 
@@ -74,16 +72,15 @@ fn visit_chosen(
     ensures { OwnStep visit_words forms.now (Named names.now) (length names.now) depth s visits.old result visits.new }
 {
     let c = moves::choice_of(s.word, r.w);
-    let to = put_visit(visits, s.to, CHOICE, c.number as u64, depth);
+    let to = put_visit(visits, s.mark.to, CHOICE, c.number as u64, depth);
     let j = forms::jump_at(forms, r, c.number);
     Walk {
-        to: to,
-        name: s.name,
+        mark: Mark { to, ..s.mark },
         word: c.word,
-        child: s.child,
         form: j.form,
         n: j.n,
         steps: s.steps - 1,
+        ..s
     }
 }
 
@@ -99,24 +96,17 @@ fn visit_said(
     requires { Ready (length names.now) visits.old s × IsRow (entry_at forms.now s.form) r × (0 < s.steps) × (r.op < 5) × (r.op ≡ 1 → ⊥) × (r.op ≡ 3 → s.n ≡ 0) }
     ensures { OwnStep visit_words forms.now (Named names.now) (length names.now) depth s visits.old result visits.new }
 {
-    let op = r.op;
-    let n = s.n;
-    let o = Mark {
-        to: s.to,
-        name: s.name,
-    };
-    if op == forms::SPELLING {
-        let q = visit_name(names, visits, depth, o);
-        return moves::moved(s, q, r.b, n, s.steps - 1);
+    if r.op == forms::SPELLING {
+        let q = visit_name(names, visits, depth, s.mark);
+        s.moved(q, r.b, s.n, s.steps - 1)
+    } else if s.n == 0 {
+        s.moved(s.mark, r.b, 1, s.steps - 1)
+    } else if r.op == forms::SPELLINGS {
+        let q = visit_name(names, visits, depth, s.mark);
+        s.moved(q, s.form, s.n - 1, s.steps)
+    } else {
+        s.moved(s.mark, s.form, s.n, 0)
     }
-    if n == 0 {
-        return moves::moved(s, o, r.b, 1, s.steps - 1);
-    }
-    if op == forms::SPELLINGS {
-        let q = visit_name(names, visits, depth, o);
-        return moves::moved(s, q, s.form, n - 1, s.steps);
-    }
-    moves::moved(s, o, s.form, n, 0)
 }
 
 // A step of a node that goes into no child.
@@ -152,10 +142,10 @@ fn after_child(
 {
     let next = store::next_of(nodes, s.child);
     if w == 0 {
-        return moves::beside(s, o, next);
+        return s.beside(o, next);
     }
     let q = visit_name(names, visits, depth, o);
-    moves::beside(s, q, next)
+    s.beside(q, next)
 }
 
 // A node and its tag, and the walk behind them.
@@ -178,13 +168,12 @@ fn visit_tag(
     let to = put_visit(visits, inside, CHOICE, tag.number as u64, depth + 1);
     let row = forms::listed_at(forms, tags, tag.number);
     Walk {
-        to: to,
-        name: o.name,
+        mark: Mark { to, ..o },
         word: tag.word,
         child: own.child,
         form: row.form,
         n: 1,
-        steps: forms::word_at(forms, 1),
+        steps: forms::word_at(forms, forms::STEPS),
     }
 }
 
@@ -210,12 +199,9 @@ fn visit_node(
     while 0 < s.steps {
         let r = forms::row_at(forms, s.form);
         if r.op == forms::END {
-            return Mark {
-                to: s.to,
-                name: s.name,
-            };
+            return s.mark;
         }
-        if moves::into_child(r, s) {
+        if s.into_child(r) {
             let q = visit_node(
                 forms,
                 nodes,
@@ -225,20 +211,14 @@ fn visit_node(
                 depth + 1,
                 left - 1,
                 s.child,
-                Mark {
-                    to: s.to,
-                    name: s.name,
-                },
+                s.mark,
             );
             s = after_child(nodes, names, visits, depth + 1, r.w, s, q);
         } else {
             s = visit_own(forms, names, visits, depth + 1, r, s);
         }
     }
-    Mark {
-        to: s.to,
-        name: s.name,
-    }
+    s.mark
 }
 
 // The visits of the type whose root is the node `root` and which is at most `tall` high, as many of their words as fit, and zeros; how many words they have.
@@ -247,8 +227,9 @@ pub fn walk(nodes: &[u64], names: &[u64], root: usize, tall: usize, visits: &mut
     ensures { Visited nodes.now names.now root tall (length visits.old) result visits.new }
 {
     let forms = forms::words();
-    store::clear_words(visits, 0);
-    let o = visit_node(
+    visits.fill(0);
+    let start = Mark { to: 0, name: 0 };
+    visit_node(
         &forms,
         nodes,
         names,
@@ -257,13 +238,13 @@ pub fn walk(nodes: &[u64], names: &[u64], root: usize, tall: usize, visits: &mut
         0,
         tall,
         root,
-        Mark { to: 0, name: 0 },
-    );
-    o.to
+        start,
+    )
+    .to
 }
 
 // A visit as a printer meets it; all 0 past the last.
-#[derive(Clone, Copy)]
+#[derive(Clone, Copy, Default)]
 pub struct Visit {
     pub kind: u64,
     pub number: usize,
@@ -275,11 +256,7 @@ pub fn visit_at(visits: &[u64], at: usize) -> Visit
     ensures { VisitAt visits.now at result.kind result.number result.depth }
 {
     if visits.len() / WORDS <= at {
-        return Visit {
-            kind: 0,
-            number: 0,
-            depth: 0,
-        };
+        return Visit::default();
     }
     let from = at * WORDS;
     Visit {

@@ -1,18 +1,19 @@
 -- A record of four words behind the nodes before it.
 use native.Mathlib.Omega.{arith}
-use lib.ListN.{length-set}
-use Rattle.keys.proofs.Cells.{four_stored, four_words}
+use mathlib.Core.Path.{◌≡◌, ◌∙◌, ap, ap₂}
+use mathlib.Core.List.{List, ◌++◌, ◌∷◌, []}
+use Prim.Native.Nat.{ℕ, ◌*◌}
+use lib.ListN.{length, take}
+use Rattle.std.proofs.lemmas.Slice.{take-put_mid}
+use Rattle.keys.specs.Words.{first_nodes}
 use Rattle.keys.proofs.store.append_node.Goals as goal
 
-pub bounds-nodes-to-2 : goal.bounds-nodes-to-2
-bounds-nodes-to-2 c = simp length-set (omega arith)
-
-pub bounds-nodes-to-3 : goal.bounds-nodes-to-3
-bounds-nodes-to-3 c = simp length-set (omega arith)
-
-pub bounds-nodes-to-4 : goal.bounds-nodes-to-4
-bounds-nodes-to-4 c = simp length-set (omega arith)
-
 pub returns : goal.returns
+unfolding first_nodes
 returns c =
-    four_words c.args.nodes.now _ c.args.at c.args.choices c.halves-place.ensures c.halves-under.ensures (four_stored c.args.nodes.now c.args.at c.args.choices _ _ 0 (omega arith))
+    let old = c.args.nodes.now in
+    let at = c.args.at in
+    let four : length c.copy_from_slice.new.self ≡ 4 = ap length c.copy_from_slice.ensures.after in
+    take-put_mid (at * 4) _ old c.copy_from_slice.new.self _ (omega (arith, four)) (omega arith)
+    ∙ ap₂ (λ (k : ℕ) (ws : List ℕ). take k old ++ ws) (omega arith)
+    (c.copy_from_slice.ensures.after ∙ ap₂ (λ (p u : ℕ). c.args.choices ∷ p ∷ u ∷ 0 ∷ []) c.halves.ensures c.halves-2.ensures)
