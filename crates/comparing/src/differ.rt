@@ -6,6 +6,7 @@ ghost use Rattle.comparing.specs.Call.{Differs};
 use keys::store;
 use node_table::forms;
 use sound_keys::sound;
+use walks::side::{Side, Sides};
 use walks::walk;
 use walks::walk::Both;
 use words::limits::Tree;
@@ -57,16 +58,17 @@ pub fn differ(left: &[u8], right: &[u8], list: &mut [u64]) -> Differing
         right: forms::EDITION_WIDTH,
         found: 0,
     };
-    let p = walk::walk_node(
-        &forms,
-        &others,
-        left,
-        right,
-        list,
-        forms::TYPE,
-        Tree::TALLEST,
-        start,
-    );
+    let sides = Sides {
+        left: Side {
+            forms: &forms,
+            key: left,
+        },
+        right: Side {
+            forms: &others,
+            key: right,
+        },
+    };
+    let p = walk::walk_node(&sides, list, forms::TYPE, Tree::TALLEST, start);
     if list.len() / PAIR < p.found {
         return declined(list, MANY_DIFFERENCES, NO_SIDE, 0);
     }

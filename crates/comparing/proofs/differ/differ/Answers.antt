@@ -18,9 +18,13 @@ pub returns-then-d-ne0 : goal.returns-then-d-ne0
 returns-then-d-ne0 c =
     bad_right c.args.left.now c.args.right.now c.args.list.now c.words-forms.result _ c.check_whole-c.ensures c.if-c-ne0.false c.words-others.result _ c.check_whole-d.ensures c.if-d-ne0.true _ c.declined-then-d-ne0.ensures.1 _ c.declined-then-d-ne0.ensures.0
 
+pub invariant_of-sides : goal.invariant_of-sides
+invariant_of-sides c =
+    record { short = c.check_whole-c.ensures.short c.if-c-ne0.false; narrow = subst Narrow (sym c.words-forms.ensures) words_narrow }
+
 pub walk_node-p-requires : goal.walk_node-p-requires
 walk_node-p-requires c =
-    (c.check_whole-c.ensures.short c.if-c-ne0.false, c.check_whole-d.ensures.short c.if-d-ne0.false, subst Narrow (sym c.words-forms.ensures) words_narrow, (c.words-others.ensures ∙ sym c.words-forms.ensures), omega arith, record { left = c.check_whole-c.ensures.long c.if-c-ne0.false; right = c.check_whole-d.ensures.long c.if-d-ne0.false; few = omega arith }, read_left c.args.left.now c.args.right.now c.args.list.now c.words-forms.result _ c.check_whole-c.ensures c.if-c-ne0.false, read_right c.args.left.now c.args.right.now c.args.list.now c.words-forms.result _ c.check_whole-c.ensures c.if-c-ne0.false _ (subst (λ (x : List ℕ). Wholly x c.args.right.now c.check_whole-d.result) (c.words-others.ensures ∙ sym c.words-forms.ensures) c.check_whole-d.ensures) c.if-d-ne0.false)
+    (omega arith, record { left = c.check_whole-c.ensures.long c.if-c-ne0.false; right = c.check_whole-d.ensures.long c.if-d-ne0.false; few = omega arith }, read_left c.args.left.now c.args.right.now c.args.list.now c.words-forms.result _ c.check_whole-c.ensures c.if-c-ne0.false, read_right c.args.left.now c.args.right.now c.args.list.now c.words-forms.result _ c.check_whole-c.ensures c.if-c-ne0.false _ (subst (λ (x : List ℕ). Wholly x c.args.right.now c.check_whole-d.result) (c.words-others.ensures ∙ sym c.words-forms.ensures) c.check_whole-d.ensures) c.if-d-ne0.false)
 
 pub returns-then-list-p : goal.returns-then-list-p
 returns-then-list-p c =
