@@ -2,6 +2,7 @@
 use mathlib.Core.Path.{◌≡◌, refl, sym, ap, ap₂, ◌∙◌, subst}
 use mathlib.Core.Bool.{Bool, true, false}
 use mathlib.Core.List.{List, [], ◌∷◌, append-nil}
+use Rattle.std.proofs.Common.{Result, Ok, Err, is_ok}
 use Prim.Native.Nat.{ℕ, zero, suc, ◌+◌, ◌-◌, ◌*◌, ◌^◌, ◌≤◌, ◌<◌}
 use native.Mathlib.Omega.{arith}
 use borrow.Author.Tests.{eq-eqb, ne_eqb}
@@ -20,12 +21,11 @@ use Rattle.node_table.proofs.FormsLaws.{form_at_lem}
 use Rattle.node_table.specs.declared.forms.Row.{Row as TableRow}
 use Rattle.node_table.specs.declared.forms.Jump.{Jump}
 use Rattle.differs.specs.Content.{Content, ends, chooses, enters, own, Pair, inside, differences}
-use Rattle.sound_keys.specs.Sound.{Scan, reads, fails, ◌⊕◌, after, then_read, as_node, read_allowed, read_whole, read_letters, read_length, read_choice, read_spelling, read_form, read_node, ComesTo}
-use Rattle.walks.specs.Walk.{Puts, beside_ends, beside_chooses, IsRead, Abreast, no_node, SpelledOn, SpelledAll, Walked, WalkedAll, Rested, Parted, left_bits, right_bits, grammar, left_nodes, right_nodes, form_at, LeftRead, RightRead, Within, AsksSpelling, AsksSpellings, AsksNodes, AsksNode, AsksApart, AsksRest, Spells, SpellsAll, Parts, Rests, Walks, WalksAll}
-use Rattle.sound_keys.specs.declared.sound.Check.{Check}
+use Rattle.sound_keys.specs.Sound.{Scan, reads, fails, ◌⊕◌, after, then_read, as_node, read_allowed, read_whole, read_letters, read_length, read_choice, read_spelling, read_form, read_node, ComesTo, Goes}
+use Rattle.walks.specs.Walk.{Puts, beside_ends, beside_chooses, IsRead, Abreast, no_node, SpelledOn, SpelledAll, Walked, WalkedAll, Rested, Parted, left_bits, right_bits, grammar, left_nodes, right_nodes, form_at, LeftRead, RightRead, Within, AsksSpelling, AsksSpellings, AsksNodes, AsksNode, AsksApart, AsksRest, Spells, SpellsAll, Ends, Parts, Rests, Walks, WalksAll}
+use Rattle.sound_keys.specs.declared.sound.Stop.{Stop}
 use Rattle.walks.specs.declared.side.Sides.{Sides}
 use Rattle.walks.specs.declared.walk.Both.{Both}
-use Rattle.walks.specs.declared.walk.Widths.{Widths}
 use Rattle.walks.proofs.Listed.{grows_none, grows_as, puts_grows, puts_over}
 use Rattle.walks.proofs.Walking.{beside_differ, beside_own, after_back, read_behind, then_back, along_none, along_then, told_one, inside_bits, inside_bytes}
 
@@ -104,36 +104,31 @@ module _ (bs : Bits) where
 
 -- ---- Passing over
 
--- A check of what is read comes to its end.
-checks_end : {all : ℕ} {x : Scan} {r : Check} → ComesTo all x r → (d : IsRead x) → x ≡ reads d.content r.bit
-checks_end {all} {x} {r} k d = by r.why refl
-  where
-    by : (n : ℕ) → r.why ≡ n → x ≡ reads d.content r.bit
-    by zero e =
-        let i = sym d.is ∙ k.went e in
-        let j : d.end ≡ r.bit = cc i in
-        d.is ∙ ap (reads d.content) j
-    by (suc n) e =
-        let i = sym d.is ∙ k.stopped (λ z. omega arith) in
-        clash (cc i)
+-- A check of what is read stops nowhere.
+pub checks_end : (all : ℕ) (x : Scan) (r : Result ℕ Stop) → ComesTo all x r → IsRead x → is_ok r ≡ true
+checks_end all x (Ok b) d e = refl
+checks_end all x (Err s) d e =
+    let i = sym d.is ∙ e.is in
+    clash (cc i)
+
+-- The right side by the left's words.
+right_ends : (s : Sides) (high steps bit : ℕ) (k : Jump) {end : ℕ} → Ends s.right high steps bit k end → Goes (length (right_bits s)) (read_form (right_bits s) (right_nodes s high) (form_at s steps k) bit) end
+right_ends s high steps bit k {end} d =
+    subst (λ (T : List ℕ). Goes (length (right_bits s)) (read_form (right_bits s) (read_node (right_bits s) (grammar_of T) high) (form_of T steps k.n k.form) bit) end) s.alike d
 
 -- Both sides are passed over.
-pub parted : (bs cs : Bits) (T U : List ℕ) → U ≡ T → (high steps : ℕ) (j k : Jump) (at first : Both) (l m : List ℕ) (c d : Check)
-    → ComesTo (length bs) (read_form bs (read_node bs (grammar_of T) high) (form_of T steps j.n j.form) at.left) c
-    → ComesTo (length cs) (read_form cs (read_node cs (grammar_of U) high) (form_of U steps k.n k.form) at.right) d
-    → IsRead (read_form bs (read_node bs (grammar_of T) high) (form_of T steps j.n j.form) at.left)
-    → IsRead (read_form cs (read_node cs (grammar_of T) high) (form_of T steps k.n k.form) at.right)
+pub parted : (s : Sides) (high steps : ℕ) (j k : Jump) (at : Both) {first : Both} {l m : List ℕ} {c d : ℕ}
+    → Ends s.left high steps at.left j c → Ends s.right high steps at.right k d
     → first.found < at.left → Puts l first.found first.left first.right m
-    → Parted bs cs (read_node bs (grammar_of T) high) (read_node cs (grammar_of T) high) (form_of T steps j.n j.form) (form_of T steps k.n k.form) at first
-    (record { left = c.bit; right = d.bit; found = first.found + 1 }) l m
-parted bs cs T U e high steps j k at first l m c d x y u v h p =
-    let y' : ComesTo (length cs) (read_form cs (read_node cs (grammar_of T) high) (form_of T steps k.n k.form) at.right) d = subst (λ (W : List ℕ). ComesTo (length cs) (read_form cs (read_node cs (grammar_of W) high) (form_of W steps k.n k.form) at.right) d) e y in
-    let z = later_form bs (read_node bs (grammar_of T) high) (later_node bs (grammar_of T) high) (form_of T steps j.n j.form) at.left u.content c.bit (checks_end x u) in
+    → Parts s high steps at j k first (record { left = c; right = d; found = first.found + 1 }) l m
+parted s high steps j k at {first} {l} {m} {c} {d} x e h p =
+    let y = right_ends s high steps at.right k e in
+    let z = later_form (left_bits s) (left_nodes s high) (later_node (left_bits s) (grammar s) high) (form_at s steps j) at.left x.content c x.is in
     record {
-      c = u.content;
-      d = v.content;
-      left = checks_end x u;
-      right = checks_end y' v;
+      c = x.content;
+      d = y.content;
+      left = x.is;
+      right = y.is;
       found = refl;
       puts = p;
       inside = record { left = x.in_key; right = y.in_key; few = omega arith };
@@ -267,9 +262,6 @@ module _ {s : Sides} {high steps : ℕ} {from : Jump} {at first : Both} {l : Lis
 
     wide_right : r'.w ≤ widest
     wide_right = omega (arith, wide_row, same_width)
-
-    abbrev widths : Widths
-    widths = record { left = r.w; right = r'.w }
 
     -- The form is not the one that nothing has.
     pub some_op : 1 ≤ r.op

@@ -5,7 +5,7 @@ ghost use Rattle.keys.specs.Bits.{take_bytes};
 ghost use Rattle.keys.specs.Key.{bytes_in};
 ghost use Rattle.walks.specs.Walk as walk;
 
-use crate::side::Sides;
+use crate::side::{Side, Sides};
 use node_table::forms;
 use node_table::forms::Jump;
 use sound_keys::sound;
@@ -106,6 +106,19 @@ fn walk_after(sides: &Sides, list: &mut [u64], w: Widths, p: Both) -> Both
     walk_spelling(sides, list, w, p)
 }
 
+// Where what is left of a node ends on a side, from a form on; it is there.
+fn end_of(side: &Side, high: usize, steps: usize, bit: usize, j: Jump) -> usize
+    requires { walk.AsksEnd side.now high steps bit j }
+    ensures { walk.Ends side.now high steps bit j result }
+{
+    let from = Spot {
+        bit,
+        form: j.form,
+        n: j.n,
+    };
+    sound::check_rest(side.forms, side.key, high, steps, from).unwrap()
+}
+
 // Two nodes one of whose choices differs: each side passes its own rest over, and what was found inside gives way to one pair.
 fn apart(
     sides: &Sides,
@@ -120,34 +133,10 @@ fn apart(
     requires { walk.AsksApart sides.now high steps at j k first }
     ensures { walk.Parts sides.now high steps at j k first result list.old list.new }
 {
-    let c = sound::check_rest(
-        sides.left.forms,
-        sides.left.key,
-        high,
-        steps,
-        Spot {
-            why: 0,
-            bit: at.left,
-            form: j.form,
-            n: j.n,
-        },
-    );
-    let d = sound::check_rest(
-        sides.right.forms,
-        sides.right.key,
-        high,
-        steps,
-        Spot {
-            why: 0,
-            bit: at.right,
-            form: k.form,
-            n: k.n,
-        },
-    );
     put_pair(list, first);
     Both {
-        left: c.bit,
-        right: d.bit,
+        left: end_of(&sides.left, high, steps, at.left, j),
+        right: end_of(&sides.right, high, steps, at.right, k),
         found: first.found + 1,
     }
 }

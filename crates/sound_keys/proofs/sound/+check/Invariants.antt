@@ -1,4 +1,4 @@
-use Prim.Native.Nat.{◌+◌, ◌*◌, ◌-◌}
+use Prim.Native.Nat.{◌+◌, ◌*◌}
 use Rattle.keys.specs.Bits.{bits_of_bytes}
 use Rattle.node_table.specs.Forms.{grammar_of}
 use Rattle.sound_keys.proofs.Nodes.{Turn, Going}
@@ -15,13 +15,7 @@ abbrev pub decreases-check_rest : goal.decreases-check_rest
 decreases-check_rest l = l.left * 3 + 2
 
 abbrev pub invariant-check_nodes-loop-i : goal.invariant-check_nodes-loop-i
-invariant-check_nodes-loop-i l = Turn (bits_of_bytes l.key) (read_node (bits_of_bytes l.key) (grammar_of l.forms) l.left) l.r.a l.r.w l.n l.initial.at l.i l.at
-
-abbrev pub decreases-check_nodes-loop-i : goal.decreases-check_nodes-loop-i
-decreases-check_nodes-loop-i l = l.n - l.i
+invariant-check_nodes-loop-i l = Turn (bits_of_bytes l.key) (read_node (bits_of_bytes l.key) (grammar_of l.forms) l.left) l.r.a l.r.w l.i-end l.initial.at l.i l.at
 
 abbrev pub invariant-check_rest-loop-depth : goal.invariant-check_rest-loop-depth
 invariant-check_rest-loop-depth l = Going (bits_of_bytes l.key) l.forms (read_node (bits_of_bytes l.key) (grammar_of l.forms) l.left) l.steps l.initial.s l.depth l.s
-
-abbrev pub decreases-check_rest-loop-depth : goal.decreases-check_rest-loop-depth
-decreases-check_rest-loop-depth l = l.depth

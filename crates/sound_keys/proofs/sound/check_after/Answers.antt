@@ -2,13 +2,9 @@
 use native.Mathlib.Omega.{arith}
 use Rattle.keys.specs.Bits.{bits_of_bytes}
 use Rattle.keys.proofs.BitsLaws.{length_bytes}
-use Rattle.sound_keys.proofs.Checking.{after_none, after_word}
+use Rattle.sound_keys.proofs.Checking.{after_none}
 use Rattle.sound_keys.proofs.sound.check_after.Goals as goal
 
 pub returns-then-w-eq0 : goal.returns-then-w-eq0
 returns-then-w-eq0 c =
-    after_none (bits_of_bytes c.args.key.now) c.args.w c.args.bit (omega (arith, c.requires.1, length_bytes c.args.key.now)) c.if-w-eq0.true _ c.stopped.ensures
-
-pub returns : goal.returns
-returns c =
-    after_word (bits_of_bytes c.args.key.now) c.args.w c.args.bit c.if-w-eq0.false _ c.check_spelling.ensures
+    after_none (bits_of_bytes c.args.key.now) c.args.w c.args.bit (omega (arith, c.requires.1, length_bytes c.args.key.now)) c.if-w-eq0.true

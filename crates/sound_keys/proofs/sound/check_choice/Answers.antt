@@ -3,22 +3,20 @@ use native.Mathlib.Omega.{arith}
 use mathlib.Core.Path.{sym, ap, ◌∙◌}
 use Prim.Native.Nat.{◌-◌}
 use Rattle.keys.specs.Bits.{bits_of_bytes}
-use Rattle.keys.proofs.BitsLaws.{length_bytes}
-use Rattle.fields.specs.declared.take.TakenField.TheVariants.{Number}
 use Rattle.keys.specs.Form.{is_never}
-use Rattle.fields.proofs.Chunks.{number_told}
+use Rattle.keys.proofs.BitsLaws.{length_bytes}
 use Rattle.node_table.specs.Forms.{leads, form_of, entry_of}
 use Rattle.sound_keys.proofs.Checking.{chosen_short, chosen_never, chosen_to}
 use Rattle.sound_keys.proofs.sound.check_choice.Goals as goal
 
 pub returns-in_default : goal.returns-in_default
 returns-in_default c =
-    chosen_short (bits_of_bytes c.args.key.now) c.args.forms.now c.args.steps c.args.r.w (leads c.args.forms.now (form_of c.args.forms.now c.args.steps) (entry_of c.args.r) (c.args.r.op - 5)) c.args.bit (omega (arith, length_bytes c.args.key.now, c.requires.1)) _ c.no_form.ensures (sym c.in_default.is ∙ c.take_field-taken.ensures)
+    chosen_short (bits_of_bytes c.args.key.now) c.args.forms.now c.args.steps c.args.r.w (leads c.args.forms.now (form_of c.args.forms.now c.args.steps) (entry_of c.args.r) (c.args.r.op - 5)) c.args.bit (omega (arith, length_bytes c.args.key.now, c.requires.1)) c.in_default.ensures c.bad_key.ensures
 
 pub returns-then-is_never : goal.returns-then-is_never
 returns-then-is_never c =
-    chosen_never (bits_of_bytes c.args.key.now) c.args.forms.now c.args.steps c.args.r.w (leads c.args.forms.now (form_of c.args.forms.now c.args.steps) (entry_of c.args.r) (c.args.r.op - 5)) c.args.bit (omega (arith, length_bytes c.args.key.now, c.requires.1)) c.slim-t.result (number_told (bits_of_bytes c.args.key.now) c.args.bit c.args.r.w c.slim-t.result (ap Number c.slim-t.ensures.0 ∙ sym c.in-Number.is ∙ c.take_field-taken.ensures)) _ c.no_form-then-is_never.ensures (ap is_never (c.jump_at-j.ensures.is c.args.steps) ∙ sym c.is_never.ensures ∙ c.if-is_never.true)
+    chosen_never (bits_of_bytes c.args.key.now) c.args.forms.now c.args.steps c.args.r.w (leads c.args.forms.now (form_of c.args.forms.now c.args.steps) (entry_of c.args.r) (c.args.r.op - 5)) c.args.bit (omega (arith, length_bytes c.args.key.now, c.requires.1)) c.in-Number.ensures (ap is_never (c.jump_at-j.ensures.is c.args.steps) ∙ sym c.is_never.ensures ∙ c.if-is_never.true) c.bad_key-then-is_never.ensures
 
 pub returns : goal.returns
 returns c =
-    chosen_to (bits_of_bytes c.args.key.now) c.args.forms.now c.args.steps c.args.r.w (leads c.args.forms.now (form_of c.args.forms.now c.args.steps) (entry_of c.args.r) (c.args.r.op - 5)) c.args.bit (omega (arith, length_bytes c.args.key.now, c.requires.1)) c.slim-t.result (number_told (bits_of_bytes c.args.key.now) c.args.bit c.args.r.w c.slim-t.result (ap Number c.slim-t.ensures.0 ∙ sym c.in-Number.is ∙ c.take_field-taken.ensures)) _ _ (ap is_never (c.jump_at-j.ensures.is c.args.steps) ∙ sym c.is_never.ensures ∙ c.if-is_never.false) (c.jump_at-j.ensures.is c.args.steps) c.jump_at-j.ensures.form c.jump_at-j.ensures.few
+    chosen_to (bits_of_bytes c.args.key.now) c.args.forms.now c.args.steps c.args.r.w (leads c.args.forms.now (form_of c.args.forms.now c.args.steps) (entry_of c.args.r) (c.args.r.op - 5)) c.args.bit (omega (arith, length_bytes c.args.key.now, c.requires.1)) c.in-Number.ensures (ap is_never (c.jump_at-j.ensures.is c.args.steps) ∙ sym c.is_never.ensures ∙ c.if-is_never.false) (c.jump_at-j.ensures.is c.args.steps) c.jump_at-j.ensures.form c.jump_at-j.ensures.few

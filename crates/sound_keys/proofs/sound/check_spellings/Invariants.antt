@@ -1,11 +1,7 @@
 -- n spellings, one after the other.
-use Prim.Native.Nat.{◌-◌}
 use Rattle.keys.specs.Bits.{bits_of_bytes}
 use Rattle.sound_keys.proofs.Checking.{Spelling}
 use Rattle.sound_keys.proofs.sound.check_spellings.Given as goal
 
 abbrev pub invariant-loop-i : goal.invariant-loop-i
 invariant-loop-i l = Spelling (bits_of_bytes l.key) l.w l.n l.bit l.i l.at
-
-abbrev pub decreases-loop-i : goal.decreases-loop-i
-decreases-loop-i l = l.n - l.i
