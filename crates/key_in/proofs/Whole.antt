@@ -21,7 +21,7 @@ use Rattle.keys.specs.Words.{first_nodes, first_names}
 use Rattle.keys.specs.Stored.{letters_in}
 use Rattle.fields.specs.Take.{answered}
 use Rattle.fields.specs.Reader.{remembered}
-use Rattle.fields.specs.declared.reader.Field.TheVariants.{Read, Cut}
+use Rattle.std.specs.Prelude.{Some, None}
 use Rattle.fields.proofs.Chunks.{Told}
 use Rattle.fields.proofs.ReaderLaws.{field_cut, read_told, read_next}
 use Rattle.node_table.specs.Forms.{grammar_of, table_words}
@@ -117,10 +117,10 @@ module _ (key : List ℕ) (n k m : ℕ) where
     abbrev K : ℕ → Bits → Result
     K t r = into (choice t) (take_form (take_node node_table tallest) (type_under newest t) (state n k m r))
 
-    pub whole_short : Cut ≡ remembered (answered (take_field 4 (drop 0 (bits_of_bytes key)))) (0 + 4) → (q : Pos) → q ≡ refused_at 10 0 → (N M Z : List ℕ) → WholeIn key n k m q N M Z
+    pub whole_short : None ≡ remembered (answered (take_field 4 (drop 0 (bits_of_bytes key)))) (0 + 4) → (q : Pos) → q ≡ refused_at 10 0 → (N M Z : List ℕ) → WholeIn key n k m q N M Z
     whole_short e q i N M Z = bad q i (early (ap (if_whole S (type_under newest) K) (field_cut (take_field 4 bs) (0 + 4) e))) N M Z
 
-    module _ (e next : ℕ) (i : Read e next ≡ remembered (answered (take_field 4 (drop 0 (bits_of_bytes key)))) (0 + 4)) where
+    module _ (e next : ℕ) (i : Some (e, next) ≡ remembered (answered (take_field 4 (drop 0 (bits_of_bytes key)))) (0 + 4)) where
       t : Told (bits_of_bytes key) 0 4 e
       t = read_told (bits_of_bytes key) 0 4 (0 + 4) e next i
 

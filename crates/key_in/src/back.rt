@@ -5,9 +5,8 @@ ghost use Rattle.keys.specs.Key.{refusal_place};
 ghost use Rattle.key_in.specs.Back as back;
 
 use fields::reader;
-use fields::reader::Field;
 use key_parts::place::{Fill, Pos};
-use key_parts::refusal::Refusal;
+use key_parts::refusal::Number;
 use key_parts::{choice, padding, place, step};
 use keys::store;
 use node_table::forms;
@@ -34,13 +33,13 @@ fn take_node(
     let tags = forms::class_at(forms, class);
     let tag = choice::take_tag(forms, key, steps, tags, bit);
     if tag.why != 0 {
-        return place::refused(Refusal::BAD_KEY, bit);
+        return place::refused(Number::BAD_KEY, bit);
     }
     if left == 0 {
-        return place::refused(Refusal::TOO_TALL, bit);
+        return place::refused(Number::TOO_TALL, bit);
     }
     if p.nodes == 0 {
-        return place::refused(Refusal::NO_ROOM, bit);
+        return place::refused(Number::NO_ROOM, bit);
     }
     let at = Pos {
         why: 0,
@@ -91,7 +90,7 @@ fn take_node(
         }
     }
     let q = s.at;
-    place::refused(Refusal::BAD_KEY, q.bit)
+    place::refused(Number::BAD_KEY, q.bit)
 }
 
 // n nodes, one after the other, a spelling after each if its length has any bits.
@@ -143,14 +142,13 @@ fn take_whole(key: &[u8], nodes: &mut [u64], names: &mut [u64], text: &mut [u8])
     ensures { back.TakesWhole key nodes names text result }
 {
     if Key::MOST < key.len() {
-        return place::refused(Refusal::BAD_KEY, 0);
+        return place::refused(Number::BAD_KEY, 0);
     }
-    let taken = reader::field_at(key, 0, forms::EDITION_WIDTH);
-    let Field::Read(e, next) = taken else {
-        return place::refused(Refusal::BAD_KEY, 0);
+    let Some((e, next)) = reader::field_at(key, 0, forms::EDITION_WIDTH) else {
+        return place::refused(Number::BAD_KEY, 0);
     };
     if e != forms::EDITION {
-        return place::refused(Refusal::BAD_KEY, 0);
+        return place::refused(Number::BAD_KEY, 0);
     }
     let words = forms::words();
     let start = Pos {
@@ -176,7 +174,7 @@ fn take_whole(key: &[u8], nodes: &mut [u64], names: &mut [u64], text: &mut [u8])
     }
     let end = padding::pad_end(key, q.bit);
     if end < key.len() * 8 {
-        return place::refused(Refusal::BAD_KEY, end);
+        return place::refused(Number::BAD_KEY, end);
     }
     q
 }
@@ -192,7 +190,7 @@ pub enum Answer {
 fn place_of(why: u32, bit: usize) -> usize
     ensures { result ≡ refusal_place (eqb why no_space) bit }
 {
-    if why == Refusal::NO_SPACE {
+    if why == Number::NO_SPACE {
         return 0;
     }
     bit

@@ -12,7 +12,7 @@ use Rattle.keys.specs.Words.{first_names}
 use Rattle.keys.proofs.Cells.{name_roomy}
 use Rattle.fields.specs.Take.{answered, Copied}
 use Rattle.fields.specs.Reader.{remembered}
-use Rattle.fields.specs.declared.reader.Field.TheVariants.{Read, Cut}
+use Rattle.std.specs.Prelude.{Some, None}
 use Rattle.fields.proofs.Chunks.{Told}
 use Rattle.fields.proofs.ReaderLaws.{read_told, read_next}
 use Rattle.key_parts.specs.Place.{state_at, Inside, refused_at}
@@ -37,11 +37,11 @@ module _ (key : List ℕ) (w : ℕ) (p : Pos) (M X : List ℕ) (h : Inside (bits
   bad : (n : ℕ) → 1 ≤ n → take_spelling w (state_at bs lm lx p) ≡ stop n (length (drop p.bit bs)) → (q : Pos) → q ≡ refused_at n p.bit → SpellingIn bs lm lx w p M X q M X
   bad n z e q i = spelling_bad bs lm lx w p M X n z h.in_key e q i
 
-  pub spell_short : Cut ≡ remembered (answered (take_field w (drop p.bit (bits_of_bytes key)))) (p.bit + w) → (q : Pos) → q ≡ refused_at 10 p.bit
+  pub spell_short : None ≡ remembered (answered (take_field w (drop p.bit (bits_of_bytes key)))) (p.bit + w) → (q : Pos) → q ≡ refused_at 10 p.bit
       → SpellingIn (bits_of_bytes key) (length M) (length X) w p M X q M X
   spell_short e q i = bad 10 (omega arith) (word_short bs p.bit w p.nodes (lm - p.names) (lx - p.chars) e) q i
 
-  module _ (n from : ℕ) (e : Read n from ≡ remembered (answered (take_field w (drop p.bit (bits_of_bytes key)))) (p.bit + w)) where
+  module _ (n from : ℕ) (e : Some (n, from) ≡ remembered (answered (take_field w (drop p.bit (bits_of_bytes key)))) (p.bit + w)) where
     t : Told (bits_of_bytes key) p.bit w n
     t = read_told bs p.bit w (p.bit + w) n from e
 

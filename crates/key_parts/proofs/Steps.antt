@@ -20,7 +20,7 @@ use Rattle.keys.specs.Stored.{Stored, Own}
 use Rattle.keys.proofs.StoredLaws.{stored_same, own_same, stored_name, own_name}
 use Rattle.fields.specs.Take.{answered}
 use Rattle.fields.specs.Reader.{remembered}
-use Rattle.fields.specs.declared.reader.Field.TheVariants.{Read, Cut}
+use Rattle.std.specs.Prelude.{Some, None}
 use Rattle.fields.proofs.Chunks.{Told, take_rest}
 use Rattle.fields.proofs.ReaderLaws.{field_cut, read_told, read_next}
 use Rattle.node_table.specs.Forms.{form_of, spellings_then, spelling_if, table_most}
@@ -188,7 +188,7 @@ module _ (bs : Bits) (bit w a k m : ℕ) where
   abbrev S : State
   S = state a k m (drop bit bs)
 
-  pub word_short : Cut ≡ remembered (answered (take_field w (drop bit bs))) (bit + w) → take_spelling w S ≡ stop bad_key (length (drop bit bs))
+  pub word_short : None ≡ remembered (answered (take_field w (drop bit bs))) (bit + w) → take_spelling w S ≡ stop bad_key (length (drop bit bs))
   word_short e = ap (take_length S) (field_cut (take_field w (drop bit bs)) (bit + w) e)
 
   module _ (n : ℕ) (t : Told bs bit w n) where
@@ -303,10 +303,10 @@ module _ (bs : Bits) (T : List ℕ) (steps w : ℕ) (fs : ℕ → Form) (bit : �
         few = omega arith;
       })
 
-  pub picked_short : {c : Pick} → c ≡ unpicked bit → Cut ≡ remembered (answered (take_field w (drop bit bs))) (bit + w) → Picked bs T steps w fs bit c
+  pub picked_short : {c : Pick} → c ≡ unpicked bit → None ≡ remembered (answered (take_field w (drop bit bs))) (bit + w) → Picked bs T steps w fs bit c
   picked_short u e = picked_bad (λ n k m K. ap (whole_run (state n k m (drop bit bs)) fs K) (field_cut (take_field w (drop bit bs)) (bit + w) e)) u
 
-  module _ (t next : ℕ) (read : Read t next ≡ remembered (answered (take_field w (drop bit bs))) (bit + w)) where
+  module _ (t next : ℕ) (read : Some (t, next) ≡ remembered (answered (take_field w (drop bit bs))) (bit + w)) where
     o : Told bs bit w t
     o = read_told bs bit w (bit + w) t next read
 

@@ -5,10 +5,9 @@ ghost use Rattle.node_table.specs.Forms.{table_most};
 ghost use Rattle.key_parts.specs.Choice.{unpicked, chosen, TakesChoice};
 
 use crate::place::{Fill, Pos};
-use crate::refusal::Refusal;
+use crate::refusal::Number;
 use crate::{never, place};
 use fields::reader;
-use fields::reader::Field;
 use node_table::forms;
 use node_table::forms::{Row, TABLE};
 
@@ -27,7 +26,7 @@ fn no_pick(bit: usize) -> Pick
     ensures { result ≡ unpicked bit }
 {
     Pick {
-        why: Refusal::BAD_KEY,
+        why: Number::BAD_KEY,
         bit,
         number: 0,
         form: 0,
@@ -40,8 +39,7 @@ pub fn take_choice(forms: &[u16; TABLE], key: &[u8], steps: usize, r: Row, bit: 
     requires { (length key.now ≤ longest_key) × (bit ≤ length key.now * 8) × (r.w ≤ widest) × (r.a < table_most) × (r.b < table_most) × (5 ≤ r.op) }
     ensures { TakesChoice forms key steps r (r.op - 5) bit result }
 {
-    let taken = reader::field_at(key, bit, r.w);
-    let Field::Read(n, next) = taken else {
+    let Some((n, next)) = reader::field_at(key, bit, r.w) else {
         return no_pick(bit);
     };
     let t = place::slim(n);
@@ -63,8 +61,7 @@ pub fn take_tag(forms: &[u16; TABLE], key: &[u8], steps: usize, tags: Row, bit: 
     requires { (length key.now ≤ longest_key) × (bit ≤ length key.now * 8) × (tags.w ≤ widest) × (tags.a < table_most) }
     ensures { TakesChoice forms key steps tags 0 bit result }
 {
-    let taken = reader::field_at(key, bit, tags.w);
-    let Field::Read(n, next) = taken else {
+    let Some((n, next)) = reader::field_at(key, bit, tags.w) else {
         return no_pick(bit);
     };
     let t = place::slim(n);
@@ -96,7 +93,7 @@ pub fn choose(s: Fill, w: usize, c: Pick) -> Fill
 {
     let p = s.at;
     if c.why != 0 {
-        return place::moved(s, place::refused(Refusal::BAD_KEY, p.bit));
+        return place::moved(s, place::refused(Number::BAD_KEY, p.bit));
     }
     let scale = power(s.shift);
     let at = Pos {

@@ -1,8 +1,18 @@
-// The refusals that taking back meets, by document 01's numbers.
-#[derive(Clone, Copy)]
-pub struct Refusal {}
+// Why taking a key back stops, and where.
+pub use words::refusal::Refusal;
 
-impl Refusal {
+// A refusal and the bit that it is met at.
+#[derive(Clone, Copy, Debug, PartialEq, Eq)]
+pub struct Stop {
+    pub why: Refusal,
+    pub bit: usize,
+}
+
+// The numbers of the refusals that taking back meets.
+#[derive(Clone, Copy)]
+pub struct Number {}
+
+impl Number {
     pub const TOO_TALL: u32 = 6;
 
     pub const NO_ROOM: u32 = 8;

@@ -3,8 +3,7 @@ ghost use Rattle.key_parts.specs.Spelling.{AsksSpelling, TakesSpelling, AsksSpel
 
 use crate::place;
 use crate::place::Pos;
-use crate::refusal::Refusal;
-use fields::reader::Field;
+use crate::refusal::Number;
 use fields::{reader, take};
 use keys::store;
 
@@ -14,24 +13,23 @@ pub fn take_spelling(key: &[u8], names: &mut [u64], text: &mut [u8], w: usize, p
     ensures { TakesSpelling key names text w p result }
 {
     let bit = p.bit;
-    let taken = reader::field_at(key, bit, w);
-    let Field::Read(n, from) = taken else {
-        return place::refused(Refusal::BAD_KEY, bit);
+    let Some((n, from)) = reader::field_at(key, bit, w) else {
+        return place::refused(Number::BAD_KEY, bit);
     };
     let count = place::slim(n);
     if count == 0 {
-        return place::refused(Refusal::BAD_KEY, bit);
+        return place::refused(Number::BAD_KEY, bit);
     }
     if (key.len() * 8 - from) / 8 < count {
-        return place::refused(Refusal::BAD_KEY, bit);
+        return place::refused(Number::BAD_KEY, bit);
     }
     let chars = p.chars;
     let named = p.names;
     if text.len() - chars < count {
-        return place::refused(Refusal::NO_SPACE, bit);
+        return place::refused(Number::NO_SPACE, bit);
     }
     if names.len() <= named {
-        return place::refused(Refusal::NO_SPACE, bit);
+        return place::refused(Number::NO_SPACE, bit);
     }
     take::copy_bytes(key, from, text, chars, count);
     store::append_name(names, named, chars, count);

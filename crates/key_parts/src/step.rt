@@ -5,7 +5,7 @@ ghost use Rattle.key_parts.specs.Spelling.{AsksSpellings};
 ghost use Rattle.key_parts.specs.Step.{AsksPlain, TakesPlain, Linked, TakesAfter};
 
 use crate::place::{Fill, Pos};
-use crate::refusal::Refusal;
+use crate::refusal::Number;
 use crate::{choice, place, spelling};
 use keys::store;
 use node_table::forms;
@@ -55,7 +55,7 @@ pub fn take_plain(
             n: s.n,
         };
     }
-    place::moved(s, place::refused(Refusal::BAD_KEY, p.bit))
+    place::moved(s, place::refused(Number::BAD_KEY, p.bit))
 }
 
 // The walk after a child: it is the first, or the next of the child before it.
