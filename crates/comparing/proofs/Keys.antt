@@ -22,7 +22,7 @@ use Rattle.keys.proofs.Theorems.{exactly}
 use Rattle.differs.specs.Content.{content_of, Pair, differences}
 use Rattle.differs.specs.Differ.{checked, found, Differed, reported, besides, begins, differ}
 use Rattle.sound_keys.specs.Sound.{said, verdict}
-use Rattle.sound_keys.specs.declared.sound.Stop.{Stop}
+use Rattle.key_parts.specs.declared.refusal.Stop.{Stop}
 use Rattle.differs.proofs.Theorems.{none_same}
 
 -- ---- Room enough

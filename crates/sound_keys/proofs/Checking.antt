@@ -11,7 +11,7 @@ use Rattle.keys.proofs.BitsLaws.{length_bytes}
 use Rattle.keys.specs.Form.{Form, word, both, child, is_never}
 use Rattle.keys.specs.Limits.{bad_key}
 use Rattle.fields.specs.Take.{answered}
-use Rattle.fields.specs.declared.take.TakenField.TheVariants.{Number, Short}
+use Rattle.std.proofs.Common.{Some, None}
 use Rattle.fields.proofs.Chunks.{Told, number_told, field_short}
 use Rattle.node_table.specs.Forms.{form_of, form_by, leads, entry_of, spellings_then, spelling_if}
 use Rattle.node_table.specs.declared.forms.Row.{Row}
@@ -19,7 +19,7 @@ use Rattle.key_parts.proofs.NeverLaws.{before_one}
 use Rattle.key_parts.proofs.Steps.{bytes_cut, bytes_whole}
 use Rattle.differs.specs.Content.{Content, ends, chooses, spells, enters}
 use Rattle.sound_keys.specs.Sound.{Scan, reads, fails, ◌⊕◌, after, then_read, read_allowed, read_whole, read_letters, read_length, read_spelling, read_form, Stops, Goes, Passes, bad_at, SpellingsOn, AfterOn, Chosen, Unchosen, ChoiceOn, form_by_row, Stepped, PlainOn}
-use Rattle.sound_keys.specs.declared.sound.Stop.{Stop}
+use Rattle.key_parts.specs.declared.refusal.Stop.{Stop}
 use Rattle.sound_keys.specs.declared.sound.Spot.{Spot}
 
 -- ---- Contents and outcomes
@@ -78,10 +78,10 @@ module _ (key : List ℕ) (w bit : ℕ) (h : bit ≤ length key * 8) where
   inside : bit ≤ length (bits_of_bytes key)
   inside = omega (arith, length_bytes key)
 
-  pub spell_short : Short ≡ answered (take_field w (drop bit (bits_of_bytes key))) → {s : Stop} → s ≡ bad_at bit → Stops (length (bits_of_bytes key)) (read_spelling (bits_of_bytes key) w bit) s
+  pub spell_short : None ≡ answered (take_field w (drop bit (bits_of_bytes key))) → {s : Stop} → s ≡ bad_at bit → Stops (length (bits_of_bytes key)) (read_spelling (bits_of_bytes key) w bit) s
   spell_short e i = stops_bad inside (ap (read_length w bit) (field_short (take_field w (drop bit (bits_of_bytes key))) e)) i
 
-  module _ {n : ℕ} (e : Number n ≡ answered (take_field w (drop bit (bits_of_bytes key)))) where
+  module _ {n : ℕ} (e : Some n ≡ answered (take_field w (drop bit (bits_of_bytes key)))) where
     t : Told (bits_of_bytes key) bit w n
     t = number_told (bits_of_bytes key) bit w n e
 
@@ -159,10 +159,10 @@ after_none bs w bit h z X g = subst (λ (x : ℕ). Passes bs X (spelling_if x g)
 -- ---- A choice
 
 module _ (bs : Bits) (T : List ℕ) (steps w : ℕ) (fs : ℕ → Form) (bit : ℕ) (h : bit ≤ length bs) where
-  pub chosen_short : Short ≡ answered (take_field w (drop bit bs)) → {s : Stop} → s ≡ bad_at bit → Unchosen bs w fs bit s
+  pub chosen_short : None ≡ answered (take_field w (drop bit bs)) → {s : Stop} → s ≡ bad_at bit → Unchosen bs w fs bit s
   chosen_short e i = record { in_key = h; is = λ K. ap (read_whole bit fs K) (field_short (take_field w (drop bit bs)) e); place = i }
 
-  module _ {t : ℕ} (e : Number t ≡ answered (take_field w (drop bit bs))) where
+  module _ {t : ℕ} (e : Some t ≡ answered (take_field w (drop bit bs))) where
     o : Told bs bit w t
     o = number_told bs bit w t e
 

@@ -14,7 +14,7 @@ use Rattle.node_table.proofs.FormsLaws.{form_at_lem}
 use Rattle.node_table.specs.declared.forms.Row.{Row}
 use Rattle.differs.specs.Content.{ends, chooses, enters}
 use Rattle.sound_keys.specs.Sound.{Scan, fails, ◌⊕◌, after, as_node, read_choice, read_form, read_node, Stops, Goes, ComesTo, Passes, Spotted, AfterOn, Chosen, Unchosen, form_by_row}
-use Rattle.sound_keys.specs.declared.sound.Stop.{Stop}
+use Rattle.key_parts.specs.declared.refusal.Stop.{Stop}
 use Rattle.sound_keys.specs.declared.sound.Spot.{Spot}
 use Rattle.sound_keys.proofs.Checking.{on_none, on_then, on_stop, on_first, first_stop, stops_bad}
 

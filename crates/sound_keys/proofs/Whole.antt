@@ -1,9 +1,10 @@
 -- A whole key: its length, its edition, its tree and its last bits.
 use mathlib.Core.Path.{◌≡◌, refl, sym, ap, ap₂, ◌∙◌, subst}
-use mathlib.Core.Bool.{Bool}
+use mathlib.Core.Bool.{Bool, true, false}
 use mathlib.Core.List.{List}
-use Rattle.std.proofs.Common.{Result as Outcome, Ok, Err}
-use Prim.Native.Nat.{ℕ, zero, suc, ◌+◌, ◌-◌, ◌*◌, ◌%◌, ◌≤◌, ◌<◌}
+use Rattle.std.proofs.Common.{Result as Outcome, Ok, Err, Option, Some, None, not, eqb, eqb-true}
+use Rattle.std.specs.Option.{option_eq}
+use Prim.Native.Nat.{ℕ, zero, suc, ◌-◌, ◌*◌, ◌%◌, ◌≤◌, ◌<◌}
 use native.Mathlib.Nat.{le_refl}
 use native.Mathlib.Omega.{arith}
 use borrow.Author.Tests.{le-leb}
@@ -11,12 +12,11 @@ use lib.ListN.{length, drop, length-drop}
 use Rattle.words.specs.Refusal.{number_of}
 use Rattle.keys.specs.Bits.{Bits, take_field, bits_of_bytes}
 use Rattle.keys.proofs.BitsLaws.{clash, length_bytes}
-use Rattle.keys.specs.Form.{Value, choice, child, Grammar, is_never, State, state, Result, into, allowed, if_whole, take_form, take_node}
+use Rattle.keys.specs.Form.{Value, choice, child, Grammar, State, state, Result, into, if_whole, take_form, take_node}
 use Rattle.keys.specs.Limits.{longest_key, tallest, newest, count_width, bad_key}
 use Rattle.keys.specs.Table.{type_under, whole_key}
 use Rattle.keys.specs.Key.{padding, closed, refused, refusal_place, outcome, node_table, take_within}
 use Rattle.fields.specs.Take.{answered}
-use Rattle.fields.specs.declared.take.TakenField.TheVariants.{Number}
 use Rattle.fields.proofs.Chunks.{Told, number_told}
 use Rattle.node_table.specs.Forms.{grammar_of, table_words}
 use Rattle.node_table.proofs.FormsLaws.{words_are}
@@ -25,7 +25,7 @@ use Rattle.key_parts.proofs.Rows.{table_fine}
 use Rattle.differs.specs.Content.{content_of}
 use Rattle.differs.specs.Differ.{checked}
 use Rattle.sound_keys.specs.Sound.{reads, fails, read_node, Stops, Goes, bad_at, said, verdict, Wholly}
-use Rattle.sound_keys.specs.declared.sound.Stop.{Stop}
+use Rattle.key_parts.specs.declared.refusal.Stop.{Stop}
 use Rattle.sound_keys.proofs.Lined.{lined_read}
 use Rattle.sound_keys.proofs.Roomy.{Eager, eager_never, eager_word, eager_choose, eager_both, Same, same_got, same_stop, same_node}
 
@@ -42,6 +42,17 @@ eager_table (suc (suc (suc (suc (suc zero))))) (suc t) e = eager_never
 eager_table (suc (suc (suc (suc (suc (suc zero)))))) t e = absurd (omega arith)
 eager_table (suc (suc (suc (suc (suc (suc (suc c))))))) t e = eager_never
 
+-- An option that is known to be a number.
+is_some : (o : Option ℕ) (n : ℕ) → false ≡ not (option_eq eqb o (Some n)) → o ≡ Some n
+is_some None n e = clash (cc)
+is_some (Some m) n e = ap Some (by (eqb m n) refl)
+  where
+    by : (b : Bool) → eqb m n ≡ b → m ≡ n
+    by true i = eqb-true m n i
+    by false i =
+        let z = e ∙ ap not i in
+        clash (cc z)
+
 module _ (T key : List ℕ) where
   abbrev bs : Bits
   bs = bits_of_bytes key
@@ -56,20 +67,17 @@ module _ (T key : List ℕ) where
     abbrev K : ℕ → Bits → Result
     K t r = into (choice t) (take_form (take_node node_table tallest) (type_under newest t) (state (length key * 8) (length key * 8) (length key) r))
 
-    module _ {e : ℕ} (i : Number e ≡ answered (take_field 4 (drop 0 (bits_of_bytes key)))) where
-      t : Told (bits_of_bytes key) 0 4 e
-      t = number_told (bits_of_bytes key) 0 4 e i
+    module _ {o : Option ℕ} (a : o ≡ answered (take_field 4 (drop 0 (bits_of_bytes key)))) (e : false ≡ not (option_eq eqb o (Some 1))) where
+      t : Told (bits_of_bytes key) 0 4 1
+      t = number_told (bits_of_bytes key) 0 4 1 (sym (is_some o 1 e) ∙ a)
 
       pub whole_four : 4 ≤ length key * 8
       whole_four = omega (arith, t.within (omega arith), length_bytes key)
 
-      in_edition : take_form (take_node node_table tallest) whole_key S ≡ allowed S K e (drop (0 + 4) (bits_of_bytes key)) (is_never (type_under newest e))
-      in_edition = ap (if_whole S (type_under newest) K) t.is
-
-      module _ (z : e ≡ 1) (w : T ≡ table_words count_width) where
+      module _ (w : T ≡ table_words count_width) where
         in_tree : take_form (take_node node_table tallest) whole_key S
             ≡ into (choice 1) (take_node node_table tallest 0 (state (length key * 8) (length key * 8) (length key) (drop 4 (bits_of_bytes key))))
-        in_tree = in_edition ∙ ap (λ (x : ℕ). allowed S K x (drop (0 + 4) bs) (is_never (type_under newest x))) z
+        in_tree = ap (if_whole S (type_under newest) K) t.is
 
         -- Reading by the words and taking with room enough.
         agrees : Same (bits_of_bytes key) node_table (child 0) 4 (take_node node_table tallest 0 (state (length key * 8) (length key * 8) (length key) (drop 4 (bits_of_bytes key)))) (read_node (bits_of_bytes key) (grammar_of T) tallest 0 4)

@@ -11,7 +11,7 @@ use Rattle.node_table.specs.declared.forms.Row.{Row as TableRow}
 use Rattle.differs.specs.Content.{Content, ends, chooses, spells, enters, content_of}
 use Rattle.differs.specs.Differ.{checked}
 use Rattle.sound_keys.specs.declared.sound.Spot.{Spot}
-use Rattle.sound_keys.specs.declared.sound.Stop.{Stop}
+use Rattle.key_parts.specs.declared.refusal.Stop.{Stop}
 
 -- What reading comes to: a content and the bit behind it; or a refusal, its number and its bit.
 pub data Scan : Type 0 where

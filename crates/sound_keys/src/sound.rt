@@ -8,19 +8,11 @@ ghost use Rattle.differs.specs.Differ.{checked};
 ghost use Rattle.sound_keys.specs.Sound as check;
 
 use fields::take;
-use fields::take::TakenField;
+use key_parts::refusal::{Refusal, Stop};
 use key_parts::{never, padding};
 use node_table::forms;
 use node_table::forms::Row;
 use words::limits::{Key, Tree};
-use words::refusal::Refusal;
-
-// A refusal and the bit that it is met at.
-#[derive(Clone, Copy, Debug, PartialEq, Eq)]
-pub struct Stop {
-    pub why: Refusal,
-    pub bit: usize,
-}
 
 // A place inside a node: its bit, its next form, and how many times that form's first step is done.
 #[derive(Clone, Copy)]
@@ -45,7 +37,7 @@ fn check_spelling(key: &[u8], w: usize, bit: usize) -> Result<usize, Stop>
     requires { (length key.now ≤ longest_key) × (bit ≤ length key.now * 8) × (w ≤ widest) }
     ensures { check.ComesTo (length (bits_of_bytes key.now)) (check.read_spelling (bits_of_bytes key.now) w bit) result }
 {
-    let TakenField::Number(n) = take::take_field(key, bit, w) else {
+    let Some(n) = take::take_field(key, bit, w) else {
         return Err(bad_key(bit));
     };
     let count = n as usize;
@@ -73,7 +65,7 @@ fn check_choice(forms: &[u16], key: &[u8], steps: usize, r: Row, bit: usize) -> 
     requires { (length key.now ≤ longest_key) × (bit ≤ length key.now * 8) × Sized r × (5 ≤ r.op) }
     ensures { check.Chooses forms.now key.now steps r bit result }
 {
-    let TakenField::Number(n) = take::take_field(key, bit, r.w) else {
+    let Some(n) = take::take_field(key, bit, r.w) else {
         return Err(bad_key(bit));
     };
     let j = forms::jump_at(forms, r, n as usize);
@@ -198,10 +190,7 @@ pub fn check_whole(forms: &[u16], key: &[u8]) -> Result<(), Stop>
     if Key::MOST < key.len() {
         return Err(bad_key(0));
     }
-    let TakenField::Number(e) = take::take_field(key, 0, forms::EDITION_WIDTH) else {
-        return Err(bad_key(0));
-    };
-    if e != forms::EDITION {
+    if take::take_field(key, 0, forms::EDITION_WIDTH) != Some(forms::EDITION) {
         return Err(bad_key(0));
     }
     let behind = check_node(forms, key, forms::TYPE, Tree::TALLEST, forms::EDITION_WIDTH)?;

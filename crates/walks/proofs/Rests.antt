@@ -14,7 +14,7 @@ use Rattle.keys.specs.Limits.{widest}
 use Rattle.keys.proofs.BitsLaws.{clash, length_bytes}
 use Rattle.keys.specs.Form.{Form, never, one, word, choose, both, child, Grammar, is_never}
 use Rattle.fields.specs.Take.{answered}
-use Rattle.fields.specs.declared.take.TakenField.TheVariants.{Number}
+use Rattle.std.proofs.Common.{Some}
 use Rattle.fields.proofs.Chunks.{Told, number_told}
 use Rattle.node_table.specs.Forms.{Entry, form_of, form_by, leads, grammar_of, entry_of, entry_at, class_at, steps_of, IsRow, Lists, Jumps, spellings_then, spelling_if, nodes_then}
 use Rattle.node_table.proofs.FormsLaws.{form_at_lem}
@@ -23,7 +23,7 @@ use Rattle.node_table.specs.declared.forms.Jump.{Jump}
 use Rattle.differs.specs.Content.{Content, ends, chooses, enters, own, Pair, inside, differences}
 use Rattle.sound_keys.specs.Sound.{Scan, reads, fails, ◌⊕◌, after, then_read, as_node, read_allowed, read_whole, read_letters, read_length, read_choice, read_spelling, read_form, read_node, ComesTo, Goes}
 use Rattle.walks.specs.Walk.{Puts, beside_ends, beside_chooses, IsRead, Abreast, no_node, SpelledOn, SpelledAll, Walked, WalkedAll, Rested, Parted, left_bits, right_bits, grammar, left_nodes, right_nodes, form_at, LeftRead, RightRead, Within, AsksSpelling, AsksSpellings, AsksNodes, AsksNode, AsksApart, AsksRest, Spells, SpellsAll, Ends, Parts, Rests, Walks, WalksAll}
-use Rattle.sound_keys.specs.declared.sound.Stop.{Stop}
+use Rattle.key_parts.specs.declared.refusal.Stop.{Stop}
 use Rattle.walks.specs.declared.side.Sides.{Sides}
 use Rattle.walks.specs.declared.walk.Both.{Both}
 use Rattle.walks.proofs.Listed.{grows_none, grows_as, puts_grows, puts_over}
@@ -390,7 +390,7 @@ module _ {s : Sides} {high steps : ℕ} {from : Jump} {at first : Both} {l : Lis
       pub choice_right : (p.right + r'.w ≤ length s.right.key.now * 8) × (r'.w ≤ widest)
       choice_right = (omega (arith, choice_ends, same_width, length_bytes s.right.key.now), wide_right)
 
-      module _ {t u : ℕ} (x : Number t ≡ answered (take_field r.w (drop p.left (left_bits s)))) (y : Number u ≡ answered (take_field r'.w (drop p.right (right_bits s)))) where
+      module _ {t u : ℕ} (x : Some t ≡ answered (take_field r.w (drop p.left (left_bits s)))) (y : Some u ≡ answered (take_field r'.w (drop p.right (right_bits s)))) where
         t_is : t ≡ left_chose.number
         t_is = told_one left_chose.told x
 
@@ -492,7 +492,7 @@ module _ (bs : Bits) (T : List ℕ) (high class a : ℕ) (R : IsRead (read_node 
     pub tag_within : a ≤ length bs → a + tags.w ≤ length bs
     tag_within h = let x = chose.told.within h in omega (arith, wide)
 
-    module _ (steps : ℕ) (s : steps ≡ steps_of T) (t : ℕ) (x : Number t ≡ answered (take_field tags.w (drop a bs))) (j : Jump) (w : Lists T tags t j) where
+    module _ (steps : ℕ) (s : steps ≡ steps_of T) (t : ℕ) (x : Some t ≡ answered (take_field tags.w (drop a bs))) (j : Jump) (w : Lists T tags t j) where
       tag_is : t ≡ chose.number
       tag_is = told_one chose.told (x ∙ ap (λ (b : ℕ). answered (take_field b (drop a bs))) wide)
 
@@ -568,9 +568,9 @@ module _ (s : Sides) (high class : ℕ) (p : Both) (asked : AsksNode s class hig
   abbrev behind : Both
   behind = record { left = p.left + tags.w; right = p.right + marks.w; found = p.found }
 
-  module _ {steps t u : ℕ} (y : steps ≡ steps_of s.left.forms.now) (x : Number t ≡ answered (take_field tags.w (drop p.left (left_bits s)))) (z : Number u ≡ answered (take_field marks.w (drop p.right (right_bits s)))) {j : Jump} (w : Lists s.left.forms.now tags t j) where
-    z_tags : Number u ≡ answered (take_field tags.w (drop p.right (right_bits s)))
-    z_tags = subst (λ (o : TableRow). Number u ≡ answered (take_field o.w (drop p.right (right_bits s)))) e z
+  module _ {steps t u : ℕ} (y : steps ≡ steps_of s.left.forms.now) (x : Some t ≡ answered (take_field tags.w (drop p.left (left_bits s)))) (z : Some u ≡ answered (take_field marks.w (drop p.right (right_bits s)))) {j : Jump} (w : Lists s.left.forms.now tags t j) where
+    z_tags : Some u ≡ answered (take_field tags.w (drop p.right (right_bits s)))
+    z_tags = subst (λ (o : TableRow). Some u ≡ answered (take_field o.w (drop p.right (right_bits s)))) e z
 
     left_whole : left_nodes s high class p.left ≡ as_node p.left (after (chooses t ends) (read_form (left_bits s) (left_nodes s (high - 1)) (form_at s steps j) (p.left + tags.w)))
     left_whole = node_whole (left_bits s) s.left.forms.now high class p.left asked.2 tags i steps y t x j w

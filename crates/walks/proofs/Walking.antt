@@ -14,7 +14,7 @@ use Rattle.keys.proofs.BitsLaws.{clash, length_bytes, bytes_back}
 use Rattle.keys.specs.Form.{Form, one, word, both, child, Grammar}
 use Rattle.keys.specs.Key.{bytes_in}
 use Rattle.fields.specs.Take.{answered}
-use Rattle.fields.specs.declared.take.TakenField.TheVariants.{Number}
+use Rattle.std.proofs.Common.{Some}
 use Rattle.fields.proofs.Chunks.{Told, number_told, take_rest}
 use Rattle.node_table.specs.Forms.{spellings_then, spelling_if, nodes_then}
 use Rattle.key_parts.proofs.Steps.{bytes_whole}
@@ -150,7 +150,7 @@ word_good bs w a h r = long (take_field w (drop a bs)) refl
     long (field (suc m) q) i = letters m q i (take_bytes (suc m) q) refl
 
 -- The number that was taken is the one that is there.
-pub told_one : {bs : Bits} {a w n m : ℕ} → Told bs a w n → Number m ≡ answered (take_field w (drop a bs)) → m ≡ n
+pub told_one : {bs : Bits} {a w n m : ℕ} → Told bs a w n → Some m ≡ answered (take_field w (drop a bs)) → m ≡ n
 told_one t e =
     let i = e ∙ ap answered t.is in
     cc i
@@ -252,7 +252,7 @@ word_within key w a h r =
     omega (arith, x.fits, length_bytes key)
 
 -- Its bytes are, too.
-pub word_ends : (key : List ℕ) (w a : ℕ) → a ≤ length key * 8 → IsRead (read_spelling (bits_of_bytes key) w a) → (n : ℕ) → Number n ≡ answered (take_field w (drop a (bits_of_bytes key)))
+pub word_ends : (key : List ℕ) (w a : ℕ) → a ≤ length key * 8 → IsRead (read_spelling (bits_of_bytes key) w a) → (n : ℕ) → Some n ≡ answered (take_field w (drop a (bits_of_bytes key)))
     → a + w + n * 8 ≤ length key * 8
 word_ends key w a h r n e =
     let x = word_good (bits_of_bytes key) w a (omega (arith, length_bytes key)) r in
@@ -260,7 +260,7 @@ word_ends key w a h r n e =
 
 module _ (left right : List ℕ) (w v : ℕ) (p : Both) (h : Inside (length left * 8) (length right * 8) p)
     (r : IsRead (read_spelling (bits_of_bytes left) w p.left)) (s : IsRead (read_spelling (bits_of_bytes right) v p.right)) (l : List ℕ)
-    (n : ℕ) (i : Number n ≡ answered (take_field w (drop p.left (bits_of_bytes left)))) (m : ℕ) (j : Number m ≡ answered (take_field v (drop p.right (bits_of_bytes right)))) (b : Bool)
+    (n : ℕ) (i : Some n ≡ answered (take_field w (drop p.left (bits_of_bytes left)))) (m : ℕ) (j : Some m ≡ answered (take_field v (drop p.right (bits_of_bytes right)))) (b : Bool)
     (e : b ≡ same (bytes_in (take_bytes n (drop (p.left + w) (bits_of_bytes left)))) (bytes_in (take_bytes m (drop (p.right + v) (bits_of_bytes right))))) where
   x : Word (bits_of_bytes left) w p.left
   x = word_good (bits_of_bytes left) w p.left (inside_bits left right h).left r

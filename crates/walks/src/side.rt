@@ -4,7 +4,6 @@ ghost use Rattle.std.proofs.Props.{props};
 ghost use Rattle.keys.specs.Limits.{longest_key, widest};
 ghost use Rattle.keys.specs.Bits.{bits_of_bytes, take_field};
 ghost use Rattle.fields.specs.Take.{answered};
-ghost use Rattle.fields.specs.declared.take.TakenField.TheVariants.{Number};
 ghost use Rattle.node_table.specs.Forms.{Narrow, IsRow, entry_at, class_at, table_most};
 
 use fields::take;
@@ -24,7 +23,7 @@ impl Side<'_> {
     // A field that is there.
     pub fn number(&self, bit: usize, w: usize) -> usize
         requires { (bit + w ≤ length self.now.key.now * 8) × (w ≤ widest) }
-        ensures { (Number result ≡ answered (take_field w (drop bit (bits_of_bytes self.now.key.now)))) × (result < 2 ^ 32) }
+        ensures { (Some result ≡ answered (take_field w (drop bit (bits_of_bytes self.now.key.now)))) × (result < 2 ^ 32) }
     {
         take::number_at(self.key, bit, w) as usize
     }

@@ -15,8 +15,8 @@ returns-in_default c =
 
 pub returns-then-is_never : goal.returns-then-is_never
 returns-then-is_never c =
-    chosen_never (bits_of_bytes c.args.key.now) c.args.forms.now c.args.steps c.args.r.w (leads c.args.forms.now (form_of c.args.forms.now c.args.steps) (entry_of c.args.r) (c.args.r.op - 5)) c.args.bit (omega (arith, length_bytes c.args.key.now, c.requires.1)) c.in-Number.ensures (ap is_never (c.jump_at-j.ensures.is c.args.steps) ∙ sym c.is_never.ensures ∙ c.if-is_never.true) c.bad_key-then-is_never.ensures
+    chosen_never (bits_of_bytes c.args.key.now) c.args.forms.now c.args.steps c.args.r.w (leads c.args.forms.now (form_of c.args.forms.now c.args.steps) (entry_of c.args.r) (c.args.r.op - 5)) c.args.bit (omega (arith, length_bytes c.args.key.now, c.requires.1)) c.in-Some.ensures (ap is_never (c.jump_at-j.ensures.is c.args.steps) ∙ sym c.is_never.ensures ∙ c.if-is_never.true) c.bad_key-then-is_never.ensures
 
 pub returns : goal.returns
 returns c =
-    chosen_to (bits_of_bytes c.args.key.now) c.args.forms.now c.args.steps c.args.r.w (leads c.args.forms.now (form_of c.args.forms.now c.args.steps) (entry_of c.args.r) (c.args.r.op - 5)) c.args.bit (omega (arith, length_bytes c.args.key.now, c.requires.1)) c.in-Number.ensures (ap is_never (c.jump_at-j.ensures.is c.args.steps) ∙ sym c.is_never.ensures ∙ c.if-is_never.false) (c.jump_at-j.ensures.is c.args.steps) c.jump_at-j.ensures.form c.jump_at-j.ensures.few
+    chosen_to (bits_of_bytes c.args.key.now) c.args.forms.now c.args.steps c.args.r.w (leads c.args.forms.now (form_of c.args.forms.now c.args.steps) (entry_of c.args.r) (c.args.r.op - 5)) c.args.bit (omega (arith, length_bytes c.args.key.now, c.requires.1)) c.in-Some.ensures (ap is_never (c.jump_at-j.ensures.is c.args.steps) ∙ sym c.is_never.ensures ∙ c.if-is_never.false) (c.jump_at-j.ensures.is c.args.steps) c.jump_at-j.ensures.form c.jump_at-j.ensures.few

@@ -10,15 +10,15 @@ returns-in_default c =
 
 pub overflow_sub-key : goal.overflow_sub-key
 overflow_sub-key c =
-    spell_within c.args.key.now c.args.w c.args.bit c.requires.1 c.in-Number.ensures
+    spell_within c.args.key.now c.args.w c.args.bit c.requires.1 c.in-Some.ensures
 
 pub returns-then-count-eq0 : goal.returns-then-count-eq0
 returns-then-count-eq0 c =
     elim c.then-count-eq0.branch [
-      | then-count-eq0-via-then-count-eq0 w ↦ spell_zero c.args.key.now c.args.w c.args.bit c.requires.1 c.in-Number.ensures w.if-count-eq0.true c.bad_key-then-count-eq0.ensures
-      | then-count-eq0-via-else-count-eq0+then-key-from w ↦ spell_cut c.args.key.now c.args.w c.args.bit c.requires.1 c.in-Number.ensures w.if-count-eq0.false w.if-key-from.true c.bad_key-then-count-eq0.ensures
+      | then-count-eq0-via-then-count-eq0 w ↦ spell_zero c.args.key.now c.args.w c.args.bit c.requires.1 c.in-Some.ensures w.if-count-eq0.true c.bad_key-then-count-eq0.ensures
+      | then-count-eq0-via-else-count-eq0+then-key-from w ↦ spell_cut c.args.key.now c.args.w c.args.bit c.requires.1 c.in-Some.ensures w.if-count-eq0.false w.if-key-from.true c.bad_key-then-count-eq0.ensures
     ]
 
 pub returns : goal.returns
 returns c =
-    spell_done c.args.key.now c.args.w c.args.bit c.requires.1 c.in-Number.ensures c.if-count-eq0.false (omega (arith, c.if-key-from.false))
+    spell_done c.args.key.now c.args.w c.args.bit c.requires.1 c.in-Some.ensures c.if-count-eq0.false (omega (arith, c.if-key-from.false))

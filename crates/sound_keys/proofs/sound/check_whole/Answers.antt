@@ -10,11 +10,11 @@ use Rattle.sound_keys.proofs.sound.check_whole.Goals as goal
 
 pub check_node-requires : goal.check_node-requires
 check_node-requires c =
-    (c.if-key-gt-MOST.false, whole_four c.args.forms.now c.args.key.now c.if-key-gt-MOST.false c.in-Number.ensures, omega arith, subst Narrow (sym c.requires) words_narrow)
+    (c.if-key-gt-MOST.false, whole_four c.args.forms.now c.args.key.now c.if-key-gt-MOST.false c.take_field.ensures c.if-ne.ensures, omega arith, subst Narrow (sym c.requires) words_narrow)
 
 pub returns-in_err-behind : goal.returns-in_err-behind
 returns-in_err-behind c =
-    let p = err_from_is_err_and c.from_residual.result c.from_residual.ensures.1 in rw (p.1, p.2) (whole_stop c.args.forms.now c.args.key.now c.if-key-gt-MOST.false c.in-Number.ensures c.if-e-ne-EDITION.false c.requires c.in_err-behind.ensures)
+    let p = err_from_is_err_and c.from_residual.result c.from_residual.ensures.1 in rw (p.1, p.2) (whole_stop c.args.forms.now c.args.key.now c.if-key-gt-MOST.false c.take_field.ensures c.if-ne.ensures c.requires c.in_err-behind.ensures)
 
 pub pad_end-end-requires : goal.pad_end-end-requires
 pad_end-end-requires c =
@@ -22,8 +22,8 @@ pad_end-end-requires c =
 
 pub returns-then-end-key : goal.returns-then-end-key
 returns-then-end-key c =
-    whole_left c.args.forms.now c.args.key.now c.if-key-gt-MOST.false c.in-Number.ensures c.if-e-ne-EDITION.false c.requires c.in_ok-behind.ensures c.pad_end-end.ensures c.if-end-key.true c.bad_key-then-end-key.ensures
+    whole_left c.args.forms.now c.args.key.now c.if-key-gt-MOST.false c.take_field.ensures c.if-ne.ensures c.requires c.in_ok-behind.ensures c.pad_end-end.ensures c.if-end-key.true c.bad_key-then-end-key.ensures
 
 pub returns : goal.returns
 returns c =
-    whole_done c.args.forms.now c.args.key.now c.if-key-gt-MOST.false c.in-Number.ensures c.if-e-ne-EDITION.false c.requires c.in_ok-behind.ensures c.pad_end-end.ensures c.if-end-key.false
+    whole_done c.args.forms.now c.args.key.now c.if-key-gt-MOST.false c.take_field.ensures c.if-ne.ensures c.requires c.in_ok-behind.ensures c.pad_end-end.ensures c.if-end-key.false
