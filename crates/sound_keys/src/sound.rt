@@ -54,7 +54,7 @@ fn check_spellings(key: &[u8], w: usize, n: usize, bit: usize) -> Result<usize, 
     ensures { check.SpellingsOn (bits_of_bytes key.now) w n bit result }
 {
     let mut at = bit;
-    for i in 0..n {
+    for _ in 0..n {
         at = check_spelling(key, w, at)?;
     }
     Ok(at)
@@ -175,7 +175,7 @@ fn check_nodes(forms: &[u16], key: &[u8], left: usize, r: Row, s: Spot) -> Resul
     ensures { check.NodesOn (bits_of_bytes key.now) (grammar_of forms.now) left r s result }
 {
     let mut at = s.bit;
-    for i in 0..s.n {
+    for _ in 0..s.n {
         at = check_node(forms, key, r.a, left, at)?;
         at = check_after(key, r.w, at)?;
     }

@@ -89,7 +89,7 @@ fn walk_spellings(sides: &Sides, list: &mut [u64], w: Widths, n: usize, p: Both)
     ensures { walk.SpellsAll sides.now w n p result list.old list.new }
 {
     let mut q = p;
-    for i in 0..n {
+    for _ in 0..n {
         q = walk_spelling(sides, list, w, q);
     }
     q
@@ -236,7 +236,7 @@ fn walk_nodes(
     ensures { walk.WalksAll sides.now high class w n p result list.old list.new }
 {
     let mut q = p;
-    for i in 0..n {
+    for _ in 0..n {
         q = walk_node(sides, list, class, high, q);
         q = walk_after(sides, list, w, q);
     }

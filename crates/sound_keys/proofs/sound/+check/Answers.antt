@@ -28,17 +28,17 @@ pub check_node-returns : goal.check_node-returns
 check_node-returns t c =
     node_done (bits_of_bytes c.args.key.now) c.args.forms.now c.args.class c.args.bit c.word_at-steps.ensures.0 c.class_at.ensures c.in_ok-tag.ensures c.args.left (c.args.left - 1) (before_one c.args.left c.if-left-eq0.false) _ c.check_rest.ensures
 
-pub check_nodes-loop-i-init : goal.check_nodes-loop-i-init
-check_nodes-loop-i-init t c =
+pub check_nodes-loop-init : goal.check_nodes-loop-init
+check_nodes-loop-init t c =
     turn_none (bits_of_bytes c.args.key.now) (read_node (bits_of_bytes c.args.key.now) (grammar_of c.args.forms.now) c.args.left) c.args.r.a c.args.r.w c.args.s.n c.args.s.bit (omega (arith, c.requires.1.in_key, length_bytes c.args.key.now))
 
 pub check_nodes-check_node-requires : goal.check_nodes-check_node-requires
 check_nodes-check_node-requires t c =
-    (omega arith, (c.requires.0, omega (arith, c.loop-i.invariant.in_key, length_bytes c.args.key.now), c.requires.2.a, c.requires.3))
+    (omega arith, (c.requires.0, omega (arith, c.loop.invariant.in_key, length_bytes c.args.key.now), c.requires.2.a, c.requires.3))
 
 pub check_nodes-returns-in_err-at : goal.check_nodes-returns-in_err-at
 check_nodes-returns-in_err-at t c =
-    let p = err_from_is_err_and c.from_residual.result c.from_residual.ensures.1 in rw (p.1, p.2) (turn_stop c.loop-i.invariant c.loop-i-test.true c.in_err-at.ensures)
+    let p = err_from_is_err_and c.from_residual.result c.from_residual.ensures.1 in rw (p.1, p.2) (turn_stop c.loop.invariant c.loop-test.true c.in_err-at.ensures)
 
 pub check_nodes-check_after-requires : goal.check_nodes-check_after-requires
 check_nodes-check_after-requires t c =
@@ -46,11 +46,11 @@ check_nodes-check_after-requires t c =
 
 pub check_nodes-returns-in_err-at-2 : goal.check_nodes-returns-in_err-at-2
 check_nodes-returns-in_err-at-2 t c =
-    let p = err_from_is_err_and c.from_residual-in_err-at-2.result c.from_residual-in_err-at-2.ensures.1 in rw (p.1, p.2) (turn_off c.loop-i.invariant c.loop-i-test.true c.in_ok-at.ensures c.in_err-at-2.ensures)
+    let p = err_from_is_err_and c.from_residual-in_err-at-2.result c.from_residual-in_err-at-2.ensures.1 in rw (p.1, p.2) (turn_off c.loop.invariant c.loop-test.true c.in_ok-at.ensures c.in_err-at-2.ensures)
 
-pub check_nodes-loop-i-preserved : goal.check_nodes-loop-i-preserved
-check_nodes-loop-i-preserved t c =
-    turn_more c.loop-i.invariant c.loop-i-test.true c.in_ok-at.ensures c.in_ok-at-2.ensures
+pub check_nodes-loop-preserved : goal.check_nodes-loop-preserved
+check_nodes-loop-preserved t c =
+    turn_more c.loop.invariant c.loop-test.true c.in_ok-at.ensures c.in_ok-at-2.ensures
 
 pub check_rest-loop-depth-init : goal.check_rest-loop-depth-init
 check_rest-loop-depth-init t c =

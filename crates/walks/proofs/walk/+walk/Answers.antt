@@ -31,21 +31,21 @@ pub walk_node-returns : goal.walk_node-returns
 walk_node-returns t c =
     rest_walks c.args.sides.now c.args.high c.args.class c.args.p c.requires c.tags.ensures.0 c.tags.ensures.1 c.word_at-steps.ensures.0 c.number-t.ensures.0 c.number-u.ensures.0 c.listed_at-j.ensures c.if-t-u.false c.walk_rest.ensures
 
-pub walk_nodes-loop-i-init : goal.walk_nodes-loop-i-init
-walk_nodes-loop-i-init t c =
+pub walk_nodes-loop-init : goal.walk_nodes-loop-init
+walk_nodes-loop-init t c =
     turn_none (left_bits c.args.sides.now) (right_bits c.args.sides.now) (grammar c.args.sides.now) c.args.high c.args.class c.args.w.left c.args.w.right c.args.n c.args.p c.args.list.now (inside_bits c.args.sides.now.left.key.now c.args.sides.now.right.key.now c.requires.3)
 
 pub walk_nodes-walk_node-q-requires : goal.walk_nodes-walk_node-q-requires
 walk_nodes-walk_node-q-requires t c =
-    (omega arith, (c.requires.0, inside_bytes c.args.sides.now.left.key.now c.args.sides.now.right.key.now (c.loop-i.invariant.on one one).inside, node_left c.loop-i.invariant c.loop-i-test.true c.requires.4, node_right c.loop-i.invariant c.loop-i-test.true c.requires.5))
+    (omega arith, (c.requires.0, inside_bytes c.args.sides.now.left.key.now c.args.sides.now.right.key.now (c.loop.invariant.on one one).inside, node_left c.loop.invariant c.loop-test.true c.requires.4, node_right c.loop.invariant c.loop-test.true c.requires.5))
 
 pub walk_nodes-walk_after-q-requires : goal.walk_nodes-walk_after-q-requires
 walk_nodes-walk_after-q-requires t c =
-    (c.requires.1, c.requires.2, inside_bytes c.args.sides.now.left.key.now c.args.sides.now.right.key.now c.walk_node-q.ensures.inside, next_left c.loop-i.invariant c.loop-i-test.true c.walk_node-q.ensures c.requires.4, next_right c.loop-i.invariant c.loop-i-test.true c.walk_node-q.ensures c.requires.5)
+    (c.requires.1, c.requires.2, inside_bytes c.args.sides.now.left.key.now c.args.sides.now.right.key.now c.walk_node-q.ensures.inside, next_left c.loop.invariant c.loop-test.true c.walk_node-q.ensures c.requires.4, next_right c.loop.invariant c.loop-test.true c.walk_node-q.ensures c.requires.5)
 
-pub walk_nodes-loop-i-preserved : goal.walk_nodes-loop-i-preserved
-walk_nodes-loop-i-preserved t c =
-    turn_more c.loop-i.invariant c.loop-i-test.true c.walk_node-q.ensures c.walk_after-q.ensures
+pub walk_nodes-loop-preserved : goal.walk_nodes-loop-preserved
+walk_nodes-loop-preserved t c =
+    turn_more c.loop.invariant c.loop-test.true c.walk_node-q.ensures c.walk_after-q.ensures
 
 pub walk_rest-loop-depth-init : goal.walk_rest-loop-depth-init
 walk_rest-loop-depth-init t c =

@@ -13,8 +13,8 @@ decreases-walk_nodes l = l.high * 3 + 1
 abbrev pub decreases-walk_rest : goal.decreases-walk_rest
 decreases-walk_rest l = l.high * 3 + 2
 
-abbrev pub invariant-walk_nodes-loop-i : goal.invariant-walk_nodes-loop-i
-invariant-walk_nodes-loop-i l = Turn (left_bits l.sides) (right_bits l.sides) (grammar l.sides) l.high l.class l.w.left l.w.right l.n l.initial.q l.initial.list l.i l.q l.list
+abbrev pub invariant-walk_nodes-loop : goal.invariant-walk_nodes-loop
+invariant-walk_nodes-loop l = Turn (left_bits l.sides) (right_bits l.sides) (grammar l.sides) l.high l.class l.w.left l.w.right l.n l.initial.q l.initial.list l.counter l.q l.list
 
 abbrev pub invariant-walk_rest-loop-depth : goal.invariant-walk_rest-loop-depth
 invariant-walk_rest-loop-depth l = Coming l.sides l.high l.steps l.initial.f l.initial.p l.first l.initial.list l.depth l.f l.p l.list
