@@ -7,7 +7,8 @@ ghost use Rattle.comparing.specs.Call.{Differs};
 use keys::store;
 use node_table::forms;
 use sound_keys::sound;
-use walks::side::{Side, Sides};
+use sound_keys::source::Source;
+use walks::sides::Sides;
 use walks::walk;
 use walks::walk::Both;
 use words::limits::Tree;
@@ -51,11 +52,11 @@ pub fn differ(left: &[u8], right: &[u8], list: &mut [u64]) -> Differing
         return declined(list, stop.why, RIGHT, stop.bit);
     }
     let sides = Sides {
-        left: Side {
+        left: Source {
             forms: &forms,
             key: left,
         },
-        right: Side {
+        right: Source {
             forms: &others,
             key: right,
         },

@@ -10,6 +10,7 @@ use Rattle.node_table.specs.Forms.{form_of, form_by, leads, grammar_of, entry_of
 use Rattle.node_table.specs.declared.forms.Row.{Row as TableRow}
 use Rattle.differs.specs.Content.{Content, ends, chooses, spells, enters, content_of}
 use Rattle.differs.specs.Differ.{checked}
+use Rattle.sound_keys.specs.declared.source.Source.{Source}
 use Rattle.sound_keys.specs.declared.sound.Spot.{Spot}
 use Rattle.key_parts.specs.declared.refusal.Stop.{Stop}
 
@@ -117,15 +118,31 @@ abbrev pub Onward : (bs : Bits) (X : ℕ → ℕ → Scan) (f g : Form) (a : ℕ
 Onward bs X f g a (Ok bit) = Passes bs X f g a bit
 Onward bs X f g a (Err s) = Stops (length bs) (read_form bs X f a) s
 
+-- The bits of a source.
+abbrev pub bits : Source → Bits
+bits s = bits_of_bytes s.key.now
+
+-- Its nodes, with room for so many one above the other.
+abbrev pub nodes_of : Source → (left : ℕ) → ℕ → ℕ → Scan
+nodes_of s left = read_node (bits s) (grammar_of s.forms.now) left
+
+-- What is left of a node from a form on, its first step done n times.
+abbrev pub rest_of : Source → (left steps n form bit : ℕ) → Scan
+rest_of s left steps n form bit = read_form (bits s) (nodes_of s left) (form_of s.forms.now steps n form) bit
+
 -- A place inside a node, in the key and in the table.
-pub record Spotted (all : ℕ) (s : Spot) : Type 0 where
-  pub in_key : s.bit ≤ all
+pub record Spotted (source : Source) (s : Spot) : Type 0 where
+  pub in_key : s.bit ≤ length source.key.now * 8
   pub in_table : s.form < 2 ^ 32
   pub few : s.n < 2 ^ 32
 
 -- 10 at a bit.
 abbrev pub bad_at : ℕ → Stop
 bad_at bit = record { why = BadKey; bit = bit }
+
+-- A spelling.
+abbrev pub SpellingOn : Source → (w bit : ℕ) → Result ℕ Stop → Type 0
+SpellingOn s w bit r = ComesTo (length (bits s)) (read_spelling (bits s) w bit) r
 
 -- n spellings, and then any form.
 abbrev pub SpellingsOn : (bs : Bits) (w n bit : ℕ) → Result ℕ Stop → Type 0
@@ -171,9 +188,21 @@ abbrev pub PlainOn : (bs : Bits) (T : List ℕ) (steps : ℕ) (r : TableRow) (s 
 PlainOn bs T steps r s (Ok q) = Stepped bs T steps r s q
 PlainOn bs T steps r s (Err t) = (X : ℕ → ℕ → Scan) → Stops (length bs) (read_form bs X (form_by_row T steps r s.n) s.bit) t
 
+-- A node.
+abbrev pub NodeOn : Source → (left class bit : ℕ) → Result ℕ Stop → Type 0
+NodeOn s left class bit r = ComesTo (length (bits s)) (nodes_of s left class bit) r
+
+-- What is left of a node from a form on.
+abbrev pub RestOn : Source → (left steps : ℕ) (from : Spot) → Result ℕ Stop → Type 0
+RestOn s left steps from r = ComesTo (length (bits s)) (rest_of s left steps from.n from.form from.bit) r
+
 -- n nodes, a spelling after each if its length has any bits, and then any form.
-abbrev pub NodesOn : (bs : Bits) (G : Grammar) (left : ℕ) (r : TableRow) (s : Spot) → Result ℕ Stop → Type 0
-NodesOn bs G left r s q = (g : Form) → Onward bs (read_node bs G left) (nodes_then s.n r.a r.w g) g s.bit q
+abbrev pub NodesOn : Source → (left : ℕ) (r : TableRow) (s : Spot) → Result ℕ Stop → Type 0
+NodesOn source left r s q = (g : Form) → Onward (bits source) (nodes_of source left) (nodes_then s.n r.a r.w g) g s.bit q
+
+-- A choice among the forms that a row leads to.
+abbrev pub Chooses : Source → (steps : ℕ) (r : TableRow) (bit : ℕ) → Result Spot Stop → Type 0
+Chooses s steps r bit q = ChoiceOn (bits s) s.forms.now steps r.w (leads s.forms.now (form_of s.forms.now steps) (entry_of r) (r.op - 5)) bit q
 
 -- What the check answers, in numbers.
 abbrev pub said : Result (Unit {0}) Stop → Result (Unit {0}) (ℕ × ℕ)
@@ -198,14 +227,3 @@ pub record Good (T key : List ℕ) : Type 0 where
 abbrev pub Wholly : (T key : List ℕ) → Result (Unit {0}) Stop → Type 0
 Wholly T key (Ok u) = Good T key
 Wholly T key (Err s) = checked key ≡ refused (number_of s.why) s.bit
-
--- ---- The same over the words of a table and the bytes of a key
-
--- A choice among the forms that a row leads to.
-abbrev pub Chooses : (T key : List ℕ) (steps : ℕ) (r : TableRow) (bit : ℕ) → Result Spot Stop → Type 0
-Chooses T key steps r bit q = ChoiceOn (bits_of_bytes key) T steps r.w (leads T (form_of T steps) (entry_of r) (r.op - 5)) bit q
-
--- What is left of a node from a form on.
-abbrev pub ReadsRest : (T key : List ℕ) (left steps : ℕ) (from : Spot) → Result ℕ Stop → Type 0
-ReadsRest T key left steps from r =
-    ComesTo (length (bits_of_bytes key)) (read_form (bits_of_bytes key) (read_node (bits_of_bytes key) (grammar_of T) left) (form_of T steps from.n from.form) from.bit) r

@@ -1,12 +1,12 @@
 // Is this a key? A check that goes through it once and stores nothing.
-ghost use Rattle.std.specs.Prelude.{◌≡◌, ◌-◌, ◌*◌, ◌^◌, ◌<◌, ◌≤◌, length};
-ghost use Rattle.keys.specs.Limits.{longest_key, widest, count_width};
-ghost use Rattle.keys.specs.Bits.{bits_of_bytes};
-ghost use Rattle.node_table.specs.Forms.{grammar_of, table_words, Narrow};
+ghost use Rattle.std.specs.Prelude.{◌≡◌, ◌*◌, ◌^◌, ◌<◌, ◌≤◌, length};
+ghost use Rattle.keys.specs.Limits.{widest, count_width};
+ghost use Rattle.node_table.specs.Forms.{table_words};
 ghost use Rattle.key_parts.specs.Widths.{Sized};
 ghost use Rattle.differs.specs.Differ.{checked};
 ghost use Rattle.sound_keys.specs.Sound as check;
 
+use crate::source::Source;
 use fields::take;
 use key_parts::refusal::{Refusal, Stop};
 use key_parts::{never, padding};
@@ -32,158 +32,149 @@ fn bad_key(bit: usize) -> Stop
     }
 }
 
-// A spelling: 10 where it is cut short or has no byte.
-fn check_spelling(key: &[u8], w: usize, bit: usize) -> Result<usize, Stop>
-    requires { (length key.now ≤ longest_key) × (bit ≤ length key.now * 8) × (w ≤ widest) }
-    ensures { check.ComesTo (length (bits_of_bytes key.now)) (check.read_spelling (bits_of_bytes key.now) w bit) result }
-{
-    let Some(n) = take::take_field(key, bit, w) else {
-        return Err(bad_key(bit));
-    };
-    let count = n as usize;
-    let from = bit + w;
-    if count == 0 || (key.len() * 8 - from) / 8 < count {
-        return Err(bad_key(bit));
+// Each passes what stands at a bit, to the bit behind it.
+impl Source<'_> {
+    // A spelling: 10 where it is cut short or has no byte.
+    fn check_spelling(&self, w: usize, bit: usize) -> Result<usize, Stop>
+        requires { (bit ≤ length self.now.key.now * 8) × (w ≤ widest) }
+        ensures { check.SpellingOn self.now w bit result }
+    {
+        let Some(n) = take::take_field(self.key, bit, w) else {
+            return Err(bad_key(bit));
+        };
+        let count = n as usize;
+        let from = bit + w;
+        if count == 0 || (self.key.len() * 8 - from) / 8 < count {
+            return Err(bad_key(bit));
+        }
+        Ok(from + count * 8)
     }
-    Ok(from + count * 8)
-}
 
-// n spellings.
-fn check_spellings(key: &[u8], w: usize, n: usize, bit: usize) -> Result<usize, Stop>
-    requires { (length key.now ≤ longest_key) × (bit ≤ length key.now * 8) × (w ≤ widest) }
-    ensures { check.SpellingsOn (bits_of_bytes key.now) w n bit result }
-{
-    let mut at = bit;
-    for _ in 0..n {
-        at = check_spelling(key, w, at)?;
+    // n spellings.
+    fn check_spellings(&self, w: usize, n: usize, bit: usize) -> Result<usize, Stop>
+        requires { (bit ≤ length self.now.key.now * 8) × (w ≤ widest) }
+        ensures { check.SpellingsOn (check.bits self.now) w n bit result }
+    {
+        let mut at = bit;
+        for _ in 0..n {
+            at = self.check_spelling(w, at)?;
+        }
+        Ok(at)
     }
-    Ok(at)
-}
 
-// A field that chooses: 10 where it is cut short or leads to no form.
-fn check_choice(forms: &[u16], key: &[u8], steps: usize, r: Row, bit: usize) -> Result<Spot, Stop>
-    requires { (length key.now ≤ longest_key) × (bit ≤ length key.now * 8) × Sized r × (5 ≤ r.op) }
-    ensures { check.Chooses forms.now key.now steps r bit result }
-{
-    let Some(n) = take::take_field(key, bit, r.w) else {
-        return Err(bad_key(bit));
-    };
-    let j = forms::jump_at(forms, r, n as usize);
-    if never::is_never(forms, steps, j.n, j.form) {
-        return Err(bad_key(bit));
+    // A field that chooses: 10 where it is cut short or leads to no form.
+    fn check_choice(&self, steps: usize, r: Row, bit: usize) -> Result<Spot, Stop>
+        requires { (bit ≤ length self.now.key.now * 8) × Sized r × (5 ≤ r.op) }
+        ensures { check.Chooses self.now steps r bit result }
+    {
+        let Some(n) = take::take_field(self.key, bit, r.w) else {
+            return Err(bad_key(bit));
+        };
+        let j = forms::jump_at(self.forms, r, n as usize);
+        if never::is_never(self.forms, steps, j.n, j.form) {
+            return Err(bad_key(bit));
+        }
+        Ok(Spot {
+            bit: bit + r.w,
+            form: j.form,
+            n: j.n,
+        })
     }
-    Ok(Spot {
-        bit: bit + r.w,
-        form: j.form,
-        n: j.n,
-    })
-}
 
-// A step that goes into no child.
-fn check_plain(forms: &[u16], key: &[u8], steps: usize, r: Row, s: Spot) -> Result<Spot, Stop>
-    requires { (length key.now ≤ longest_key) × check.Spotted (length key.now * 8) s × Sized r × (r.op ≡ 1 → ⊥) × (r.op ≡ 3 → ⊥) }
-    ensures { check.PlainOn (bits_of_bytes key.now) forms.now steps r s result }
-{
-    match r.op {
-        forms::SPELLINGS => Ok(Spot {
-            bit: check_spellings(key, r.w, s.n, s.bit)?,
-            form: r.b,
-            n: 1,
-        }),
-        forms::SPELLING => Ok(Spot {
-            bit: check_spelling(key, r.w, s.bit)?,
-            form: r.b,
-            n: s.n,
-        }),
-        forms::CHOICE.. => check_choice(forms, key, steps, r, s.bit),
-        _ => Err(bad_key(s.bit)),
-    }
-}
-
-// The spelling after a child, if its length has any bits.
-fn check_after(key: &[u8], w: usize, bit: usize) -> Result<usize, Stop>
-    requires { (length key.now ≤ longest_key) × (bit ≤ length key.now * 8) × (w ≤ widest) }
-    ensures { check.AfterOn (bits_of_bytes key.now) w bit result }
-{
-    if w == 0 {
-        return Ok(bit);
-    }
-    check_spelling(key, w, bit)
-}
-
-// A node of a class, with room for `left` nodes one above the other: it meets 10 at its tag, 6, then its fields in order.
-#[cycle(check)]
-fn check_node(
-    forms: &[u16],
-    key: &[u8],
-    class: usize,
-    left: usize,
-    bit: usize,
-) -> Result<usize, Stop>
-    requires { (length key.now ≤ longest_key) × (bit ≤ length key.now * 8) × (class < 2 ^ 32) × Narrow forms.now }
-    ensures { check.ComesTo (length (bits_of_bytes key.now)) (check.read_node (bits_of_bytes key.now) (grammar_of forms.now) left class bit) result }
-{
-    let steps = forms::word_at(forms, 1);
-    let tags = Row {
-        op: forms::CHOICE,
-        ..forms::class_at(forms, class)
-    };
-    let tag = check_choice(forms, key, steps, tags, bit)?;
-    if left == 0 {
-        return Err(Stop {
-            why: Refusal::TooTall,
-            bit,
-        });
-    }
-    check_rest(forms, key, left - 1, steps, tag)
-}
-
-// What is left of a node from a form on.
-#[cycle(check)]
-pub fn check_rest(
-    forms: &[u16],
-    key: &[u8],
-    left: usize,
-    steps: usize,
-    from: Spot,
-) -> Result<usize, Stop>
-    requires { (length key.now ≤ longest_key) × check.Spotted (length key.now * 8) from × Narrow forms.now }
-    ensures { check.ReadsRest forms.now key.now left steps from result }
-{
-    let mut s = from;
-    for depth in (0..steps).rev() {
-        let r = forms::row_at(forms, s.form);
+    // A step that goes into no child.
+    fn check_plain(&self, steps: usize, r: Row, s: Spot) -> Result<Spot, Stop>
+        requires { check.Spotted self.now s × Sized r × (r.op ≡ 1 → ⊥) × (r.op ≡ 3 → ⊥) }
+        ensures { check.PlainOn (check.bits self.now) self.now.forms.now steps r s result }
+    {
         match r.op {
-            forms::END => return Ok(s.bit),
-            forms::NODES => {
-                s = Spot {
-                    bit: check_nodes(forms, key, left, r, s)?,
-                    form: r.b,
-                    n: 1,
-                };
-            }
-            _ => s = check_plain(forms, key, depth, r, s)?,
+            forms::SPELLINGS => Ok(Spot {
+                bit: self.check_spellings(r.w, s.n, s.bit)?,
+                form: r.b,
+                n: 1,
+            }),
+            forms::SPELLING => Ok(Spot {
+                bit: self.check_spelling(r.w, s.bit)?,
+                form: r.b,
+                n: s.n,
+            }),
+            forms::CHOICE.. => self.check_choice(steps, r, s.bit),
+            _ => Err(bad_key(s.bit)),
         }
     }
-    Err(bad_key(s.bit))
-}
 
-// Nodes one after the other, a spelling after each if its length has any bits.
-#[cycle(check)]
-fn check_nodes(forms: &[u16], key: &[u8], left: usize, r: Row, s: Spot) -> Result<usize, Stop>
-    requires { (length key.now ≤ longest_key) × check.Spotted (length key.now * 8) s × Sized r × Narrow forms.now }
-    ensures { check.NodesOn (bits_of_bytes key.now) (grammar_of forms.now) left r s result }
-{
-    let mut at = s.bit;
-    for _ in 0..s.n {
-        at = check_node(forms, key, r.a, left, at)?;
-        at = check_after(key, r.w, at)?;
+    // The spelling after a child, if its length has any bits.
+    fn check_after(&self, w: usize, bit: usize) -> Result<usize, Stop>
+        requires { (bit ≤ length self.now.key.now * 8) × (w ≤ widest) }
+        ensures { check.AfterOn (check.bits self.now) w bit result }
+    {
+        if w == 0 {
+            return Ok(bit);
+        }
+        self.check_spelling(w, bit)
     }
-    Ok(at)
+
+    // A node of a class, with room for `left` nodes one above the other: it meets 10 at its tag, 6, then its fields in order.
+    #[cycle(check)]
+    fn check_node(&self, class: usize, left: usize, bit: usize) -> Result<usize, Stop>
+        requires { (bit ≤ length self.now.key.now * 8) × (class < 2 ^ 32) }
+        ensures { check.NodeOn self.now left class bit result }
+    {
+        let steps = forms::word_at(self.forms, 1);
+        let tags = Row {
+            op: forms::CHOICE,
+            ..forms::class_at(self.forms, class)
+        };
+        let tag = self.check_choice(steps, tags, bit)?;
+        if left == 0 {
+            return Err(Stop {
+                why: Refusal::TooTall,
+                bit,
+            });
+        }
+        self.check_rest(left - 1, steps, tag)
+    }
+
+    // What is left of a node from a form on.
+    #[cycle(check)]
+    pub fn check_rest(&self, left: usize, steps: usize, from: Spot) -> Result<usize, Stop>
+        requires { check.Spotted self.now from }
+        ensures { check.RestOn self.now left steps from result }
+    {
+        let mut s = from;
+        for depth in (0..steps).rev() {
+            let r = forms::row_at(self.forms, s.form);
+            match r.op {
+                forms::END => return Ok(s.bit),
+                forms::NODES => {
+                    s = Spot {
+                        bit: self.check_nodes(left, r, s)?,
+                        form: r.b,
+                        n: 1,
+                    };
+                }
+                _ => s = self.check_plain(depth, r, s)?,
+            }
+        }
+        Err(bad_key(s.bit))
+    }
+
+    // Nodes one after the other, a spelling after each if its length has any bits.
+    #[cycle(check)]
+    fn check_nodes(&self, left: usize, r: Row, s: Spot) -> Result<usize, Stop>
+        requires { check.Spotted self.now s × Sized r }
+        ensures { check.NodesOn self.now left r s result }
+    {
+        let mut at = s.bit;
+        for _ in 0..s.n {
+            at = self.check_node(r.a, left, at)?;
+            at = self.check_after(r.w, at)?;
+        }
+        Ok(at)
+    }
 }
 
 // A whole key by the table: not too long, its edition, its tree, zero bits to the byte and no byte more.
-pub fn check_whole(forms: &[u16], key: &[u8]) -> Result<(), Stop>
+pub fn check_whole<'a>(forms: &'a [u16], key: &'a [u8]) -> Result<(), Stop>
     requires { forms.now ≡ table_words count_width }
     ensures { check.Wholly forms.now key.now result }
 {
@@ -193,7 +184,8 @@ pub fn check_whole(forms: &[u16], key: &[u8]) -> Result<(), Stop>
     if take::take_field(key, 0, forms::EDITION_WIDTH) != Some(forms::EDITION) {
         return Err(bad_key(0));
     }
-    let behind = check_node(forms, key, forms::TYPE, Tree::TALLEST, forms::EDITION_WIDTH)?;
+    let source = Source { forms, key };
+    let behind = source.check_node(forms::TYPE, Tree::TALLEST, forms::EDITION_WIDTH)?;
     let end = padding::pad_end(key, behind);
     if end < key.len() * 8 {
         return Err(bad_key(end));

@@ -24,7 +24,7 @@ use Rattle.differs.specs.Content.{Content, ends, chooses, enters, own, Pair, ins
 use Rattle.sound_keys.specs.Sound.{Scan, reads, fails, ◌⊕◌, after, then_read, as_node, read_allowed, read_whole, read_letters, read_length, read_choice, read_spelling, read_form, read_node, ComesTo, Goes}
 use Rattle.walks.specs.Walk.{Puts, beside_ends, beside_chooses, IsRead, Abreast, no_node, SpelledOn, SpelledAll, Walked, WalkedAll, Rested, Parted, left_bits, right_bits, grammar, left_nodes, right_nodes, form_at, LeftRead, RightRead, Within, AsksSpelling, AsksSpellings, AsksNodes, AsksNode, AsksApart, AsksRest, Spells, SpellsAll, Ends, Parts, Rests, Walks, WalksAll}
 use Rattle.key_parts.specs.declared.refusal.Stop.{Stop}
-use Rattle.walks.specs.declared.side.Sides.{Sides}
+use Rattle.walks.specs.declared.sides.Sides.{Sides}
 use Rattle.walks.specs.declared.walk.Both.{Both}
 use Rattle.walks.proofs.Listed.{grows_none, grows_as, puts_grows, puts_over}
 use Rattle.walks.proofs.Walking.{beside_differ, beside_own, after_back, read_behind, then_back, along_none, along_then, told_one, inside_bits, inside_bytes}

@@ -1,16 +1,16 @@
 -- The walk of two keys together: what stands in the list, and what its functions answer (02, W9).
 use Rattle.std.specs.Prelude.{List, [], ◌∷◌, ◌++◌, ◌≡◌, ℕ, ◌+◌, ◌*◌, ◌^◌, ◌≤◌, ◌<◌, length, take}
 use Rattle.words.specs.Test.{same}
-use Rattle.keys.specs.Bits.{Bits, bits_of_bytes}
+use Rattle.keys.specs.Bits.{Bits}
 use Rattle.keys.specs.Limits.{widest}
 use Rattle.keys.specs.Form.{Form, one, word, both, Grammar}
 use Rattle.node_table.specs.Forms.{form_of, grammar_of, spellings_then, spelling_if, nodes_then}
 use Rattle.node_table.specs.declared.forms.Jump.{Jump}
 use Rattle.differs.specs.Content.{Content, ends, chooses, spells, enters, own, Pair, inside, differences}
 use Rattle.differs.specs.Differ.{words_of}
-use Rattle.sound_keys.specs.Sound.{Scan, reads, fails, after, read_form, read_node, read_spelling, Goes}
-use Rattle.walks.specs.declared.side.Side.{Side}
-use Rattle.walks.specs.declared.side.Sides.{Sides}
+use Rattle.sound_keys.specs.Sound.{Scan, reads, fails, after, read_form, read_node, read_spelling, Goes, bits, rest_of}
+use Rattle.sound_keys.specs.declared.source.Source.{Source}
+use Rattle.walks.specs.declared.sides.Sides.{Sides}
 use Rattle.walks.specs.declared.walk.Both.{Both}
 use Rattle.walks.specs.declared.walk.Widths.{Widths}
 
@@ -118,11 +118,11 @@ pub record Parted (bs cs : Bits) (X Y : ℕ → ℕ → Scan) (f f' : Form) (at 
 
 -- The bits of the left key.
 abbrev pub left_bits : Sides → Bits
-left_bits s = bits_of_bytes s.left.key.now
+left_bits s = bits s.left
 
 -- The bits of the right key.
 abbrev pub right_bits : Sides → Bits
-right_bits s = bits_of_bytes s.right.key.now
+right_bits s = bits s.right
 
 -- The forms of both keys.
 abbrev pub grammar : Sides → Grammar
@@ -168,10 +168,10 @@ abbrev pub AsksAfter : Sides → Widths → (p : Both) → Type 0
 AsksAfter s w p = (w.left ≤ widest) × (w.right ≡ w.left) × Within s p × LeftRead s no_node (spelling_if w.left one) p × RightRead s no_node (spelling_if w.right one) p
 
 -- What is left of a node is there on one side, from a form on.
-abbrev pub AsksEnd : Side → (high steps bit : ℕ) → Jump → Type 0
+abbrev pub AsksEnd : Source → (high steps bit : ℕ) → Jump → Type 0
 AsksEnd s high steps bit j =
     (bit ≤ length s.key.now * 8) × (j.form < 2 ^ 32) × (j.n < 2 ^ 32)
-    × IsRead (read_form (bits_of_bytes s.key.now) (read_node (bits_of_bytes s.key.now) (grammar_of s.forms.now) high) (form_of s.forms.now steps j.n j.form) bit)
+    × IsRead (rest_of s high steps j.n j.form bit)
 
 -- What is left of two nodes is there on each side, and no more pairs were found before them than bits passed.
 abbrev pub AsksApart : Sides → (high steps : ℕ) (at : Both) (j k : Jump) (first : Both) → Type 0
@@ -209,9 +209,9 @@ SpellsAll s w n p q l m = SpelledAll (left_bits s) (right_bits s) w.left w.right
 abbrev pub SpellsAfter : Sides → Widths → (p q : Both) (l m : List ℕ) → Type 0
 SpellsAfter s w p q l m = SpelledAfter (left_bits s) (right_bits s) w.left w.right p q l m
 
-abbrev pub Ends : Side → (high steps bit : ℕ) → Jump → (end : ℕ) → Type 0
+abbrev pub Ends : Source → (high steps bit : ℕ) → Jump → (end : ℕ) → Type 0
 Ends s high steps bit j end =
-    Goes (length (bits_of_bytes s.key.now)) (read_form (bits_of_bytes s.key.now) (read_node (bits_of_bytes s.key.now) (grammar_of s.forms.now) high) (form_of s.forms.now steps j.n j.form) bit) end
+    Goes (length (bits s)) (rest_of s high steps j.n j.form bit) end
 
 abbrev pub Parts : Sides → (high steps : ℕ) (at : Both) (j k : Jump) (first q : Both) (l m : List ℕ) → Type 0
 Parts s high steps at j k first q l m = Parted (left_bits s) (right_bits s) (left_nodes s high) (right_nodes s high) (form_at s steps j) (form_at s steps k) at first q l m

@@ -1,5 +1,5 @@
 // Two keys walked side by side.
 #![tactic(auto)]
 
-pub mod side;
+pub mod sides;
 pub mod walk;

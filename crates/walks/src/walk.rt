@@ -5,11 +5,11 @@ ghost use Rattle.keys.specs.Bits.{take_bytes};
 ghost use Rattle.keys.specs.Key.{bytes_in};
 ghost use Rattle.walks.specs.Walk as walk;
 
-use crate::side::{Side, Sides};
+use crate::sides::Sides;
 use node_table::forms;
 use node_table::forms::Jump;
-use sound_keys::sound;
 use sound_keys::sound::Spot;
+use sound_keys::source::Source;
 
 // Where a walk is: the bits in both keys, and how many pairs were found.
 #[derive(Clone, Copy)]
@@ -107,7 +107,7 @@ fn walk_after(sides: &Sides, list: &mut [u64], w: Widths, p: Both) -> Both
 }
 
 // Where what is left of a node ends on a side, from a form on; it is there.
-fn end_of(side: &Side, high: usize, steps: usize, bit: usize, j: Jump) -> usize
+fn end_of(side: &Source, high: usize, steps: usize, bit: usize, j: Jump) -> usize
     requires { walk.AsksEnd side.now high steps bit j }
     ensures { walk.Ends side.now high steps bit j result }
 {
@@ -116,7 +116,7 @@ fn end_of(side: &Side, high: usize, steps: usize, bit: usize, j: Jump) -> usize
         form: j.form,
         n: j.n,
     };
-    sound::check_rest(side.forms, side.key, high, steps, from).unwrap()
+    side.check_rest(high, steps, from).unwrap()
 }
 
 // Two nodes one of whose choices differs: each side passes its own rest over, and what was found inside gives way to one pair.

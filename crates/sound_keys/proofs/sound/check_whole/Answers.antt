@@ -8,9 +8,13 @@ use Rattle.node_table.proofs.FormsLaws.{words_narrow}
 use Rattle.sound_keys.proofs.Whole.{whole_four, whole_stop, whole_left, whole_done}
 use Rattle.sound_keys.proofs.sound.check_whole.Goals as goal
 
+pub invariant_of-source : goal.invariant_of-source
+invariant_of-source c =
+    record { short = c.if-key-gt-MOST.false; narrow = subst Narrow (sym c.requires) words_narrow }
+
 pub check_node-requires : goal.check_node-requires
 check_node-requires c =
-    (c.if-key-gt-MOST.false, whole_four c.args.forms.now c.args.key.now c.if-key-gt-MOST.false c.take_field.ensures c.if-ne.ensures, omega arith, subst Narrow (sym c.requires) words_narrow)
+    (whole_four c.args.forms.now c.args.key.now c.if-key-gt-MOST.false c.take_field.ensures c.if-ne.ensures, omega arith)
 
 pub returns-in_err-behind : goal.returns-in_err-behind
 returns-in_err-behind c =

@@ -1,17 +1,17 @@
 use native.Mathlib.Omega.{arith}
 use Rattle.std.proofs.lemmas.Result.{err_from_is_err_and}
-use Rattle.keys.specs.Bits.{bits_of_bytes}
 use Rattle.keys.proofs.BitsLaws.{length_bytes}
+use Rattle.sound_keys.specs.Sound.{bits}
 use Rattle.sound_keys.proofs.Checking.{spelling_none, spelling_more, spelling_stop, spelling_all}
-use Rattle.sound_keys.proofs.sound.check_spellings.Goals as goal
+use Rattle.sound_keys.proofs.source.Source.check_spellings.Goals as goal
 
 pub loop-init : goal.loop-init
 loop-init c =
-    spelling_none (bits_of_bytes c.args.key.now) c.args.w c.args.n c.args.bit (omega (arith, c.requires.1, length_bytes c.args.key.now))
+    spelling_none (bits c.args.self.now) c.args.w c.args.n c.args.bit (omega (arith, c.requires.0, length_bytes c.args.self.now.key.now))
 
 pub check_spelling-requires : goal.check_spelling-requires
 check_spelling-requires c =
-    (c.requires.0, omega (arith, c.loop.invariant.in_key, length_bytes c.args.key.now), c.requires.2)
+    (omega (arith, c.loop.invariant.in_key, length_bytes c.args.self.now.key.now), c.requires.1)
 
 pub returns-in_err-at : goal.returns-in_err-at
 returns-in_err-at c =
