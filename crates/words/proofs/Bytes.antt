@@ -2,7 +2,7 @@
 use mathlib.Core.Path.{◌≡◌, refl, sym, ap, ap₂, ◌∙◌}
 use mathlib.Core.Bool.{Bool, true, false, ◌||◌}
 use mathlib.Core.List.{List, [], ◌∷◌, ◌++◌}
-use Prim.Native.Nat.{ℕ, zero, suc, ◌+◌, ◌-◌, ◌≤◌, ◌<◌}
+use Prim.Native.Nat.{ℕ, suc, ◌+◌, ◌-◌, ◌≤◌, ◌<◌}
 use native.Mathlib.Nat.{add-zero, sub-zero}
 use native.Mathlib.Omega.{arith}
 use borrow.Author.Tests.{eq-eqb, ne_eqb, eqb-true}
@@ -145,21 +145,3 @@ same_long (x ∷ s) (y ∷ t) h = by (eqb x y) (same_long s t (λ q. h (ap suc q
     by : (b : Bool) → false ≡ same s t → false ≡ (b and same s t)
     by true e = e
     by false e = refl
-
--- ---- parts that are there
--- a part that is as long as it says lies inside
-pub part_inside : (l : List ℕ) (at n : ℕ) → length (part l at n) ≡ n → 1 ≤ n → at + n ≤ length l
-part_inside l at n e h = omega (arith, taken_less n (drop at l), length-drop at l)
-  where
-    taken_less : (m : ℕ) (xs : List ℕ) → length (take m xs) ≤ length xs
-    taken_less zero xs = omega arith
-    taken_less (suc m) [] = omega arith
-    taken_less (suc m) (x ∷ xs) = omega (arith, taken_less m xs)
-
--- three bytes
-pub part_three : (l : List ℕ) (at : ℕ) → at + 3 ≤ length l → part l at 3 ≡ get_or l at 0 ∷ get_or l (at + 1) 0 ∷ get_or l (at + 2) 0 ∷ []
-part_three l at h =
-    rest_all l at 3 ∙ rest_cons l at 3 0 (omega arith) h
-    ∙ ap₂ (λ (a : ℕ) (s : List ℕ). get_or l a 0 ∷ s) (add-zero at)
-    (rest_cons l at 3 1 (omega arith) h ∙ ap (λ (s : List ℕ). get_or l (at + 1) 0 ∷ s)
-    (rest_cons l at 3 2 (omega arith) h ∙ ap (λ (s : List ℕ). get_or l (at + 2) 0 ∷ s) (rest_none l at 3 3 (omega arith))))
