@@ -161,11 +161,11 @@ pub enum Class {
     Other = 6,
 }
 
-// The table over the 256 kind numbers. A call that asks often takes it once and lends it.
-pub fn class_words() -> [u16; 256]
-    ensures { result ≡ class_words }
+// The table over the 256 kind numbers.
+pub fn class_words() -> &'static [u16; 256]
+    ensures { result.now ≡ class_words }
 {
-    CLASSES
+    &CLASSES
 }
 
 // Whether a kind has the class of a bit.
