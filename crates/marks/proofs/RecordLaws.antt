@@ -1,10 +1,11 @@
 -- The records of diagnostics are their words behind the tallies, and are copied one word after the other.
 use mathlib.Core.Path.{◌≡◌, refl, sym, ap, ap₂, ◌∙◌}
 use mathlib.Core.List.{List, [], ◌∷◌, ◌++◌, append-nil}
-use Prim.Native.Nat.{ℕ, zero, suc, ◌+◌, ◌*◌, ◌<◌}
+use Prim.Native.Nat.{ℕ, zero, suc, ◌+◌, ◌*◌, ◌≤◌, ◌<◌}
 use native.Mathlib.Omega.{arith}
-use lib.ListN.{length, take, set, get_or, length-set}
-use lib.Seq.{take-suc-set, append_snoc}
+use lib.ListN.{length, take, drop, get_or}
+use Rattle.std.proofs.Math.Seq.{take-suc, take-append_seam, append_snoc}
+use Rattle.std.proofs.lemmas.List.{length-append, length-drop, length-take-le, get_or-drop}
 use Rattle.keys.specs.Store.{filled}
 use Rattle.rules.specs.Notes.{Note, note_width, note_words}
 use Rattle.marks.specs.State.{tallies, note_at, note_from, notes_of}
@@ -47,30 +48,27 @@ note_words_lem O (suc n) =
     ∙ ap (λ (r : List ℕ). r ++ note_words (note_from O (note_at n) ∷ [])) (note_words_lem O n)
     ∙ sym (words_append (notes_of O n) (note_from O (note_at n)))
 
--- Of the words behind the tallies of O, i were copied to the front of N, which then is N'.
-pub record Copying (O N : List ℕ) (i : ℕ) (N' : List ℕ) : Type 0 where
-  pub same : length N' ≡ length N
-  pub front : take i N' ≡ behind O i
-
-pub copying_none : (O N : List ℕ) → Copying O N 0 N
+-- They are a part of the words.
+behind_part : (O : List ℕ) (i : ℕ) → tallies + i ≤ length O → behind O i ≡ take i (drop tallies O)
 unfolding behind
-copying_none O N = record { same = refl; front = refl }
+behind_part O zero h = refl
+behind_part O (suc i) h =
+    let l : i < length (drop tallies O) = omega (arith, length-drop tallies O) in
+    ap₂ (λ (r : List ℕ) (x : ℕ). r ++ (x ∷ [])) (behind_part O i (omega arith)) (sym (get_or-drop tallies O i 0))
+    ∙ sym (take-suc (drop tallies O) i 0 l)
 
-pub copying_more : {O N N' : List ℕ} {i : ℕ} → i < length N → Copying O N i N' → Copying O N (i + 1) (set N' i (get_or O (tallies + i) 0))
-unfolding behind
-copying_more {O} {N} {N'} {i} b c =
-    let v = get_or O (tallies + i) 0 in
-    record {
-      same = length-set N' i v ∙ c.same;
-      front =
-          ap (λ (k : ℕ). take k (set N' i v)) (let z : i + 1 ≡ suc i = omega arith in z)
-          ∙ take-suc-set N' i v (omega (arith, c.same))
-          ∙ ap (λ (r : List ℕ). r ++ (v ∷ [])) c.front
-          ∙ ap (behind O) (let z : suc i ≡ i + 1 = omega arith in z);
-    }
+-- Words over the front of others, of which just those are kept.
+kept_front : (F N : List ℕ) (n : ℕ) → length F ≡ n → n ≤ length N → filled (length (F ++ drop n N)) (take n (F ++ drop n N)) ≡ filled (length N) F
+kept_front F N n e h =
+    ap₂ filled
+    (let l : length (F ++ drop n N) ≡ length N = omega (arith, length-append F (drop n N), length-drop n N) in l)
+    (ap (λ (k : ℕ). take k (F ++ drop n N)) (sym e) ∙ take-append_seam F (drop n N))
 
--- All words of n diagnostics were, and zeros follow.
-pub copying_all : {O N N' : List ℕ} {i : ℕ} (n : ℕ) → i ≡ n * note_width → Copying O N i N'
-    → filled (length N') (take (n * note_width) N') ≡ filled (length N) (note_words (notes_of O n))
-copying_all {O} {N} {N'} n e c =
-    ap₂ filled c.same (ap (λ (k : ℕ). take k N') (sym e) ∙ c.front ∙ ap (behind O) e ∙ note_words_lem O n)
+-- The words of n diagnostics were copied, and zeros follow.
+pub copied : (O N F : List ℕ) (n k : ℕ) → k ≡ n * note_width → tallies + n * note_width ≤ length O → n * note_width ≤ length N → F ≡ take k (drop tallies O)
+    → filled (length (F ++ drop (n * note_width) N)) (take (n * note_width) (F ++ drop (n * note_width) N)) ≡ filled (length N) (note_words (notes_of O n))
+copied O N F n k f a b z =
+    let w = n * note_width in
+    let e : F ≡ take w (drop tallies O) = z ∙ ap (λ (x : ℕ). take x (drop tallies O)) f in
+    let l : length F ≡ w = omega (arith, ap length e, length-take-le w (drop tallies O) (omega (arith, length-drop tallies O))) in
+    kept_front F N w l b ∙ ap (filled (length N)) (e ∙ sym (behind_part O w a) ∙ note_words_lem O n)

@@ -51,11 +51,10 @@ pub fn list_end(
     if a.why != 0 {
         return Listed::refused(a.why, a.m);
     }
-    let q = a.m;
     Listed {
         why: 0,
         there: true,
         kids: k,
-        m: q,
+        m: a.m,
     }
 }

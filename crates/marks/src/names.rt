@@ -24,9 +24,8 @@ pub fn spell(words: &[u64], names: &mut [u64], m: Mark) -> Mark
     Mark {
         at: m.at + 1,
         half: 0,
-        used: m.used,
         named: m.named + 1,
-        noted: m.noted,
+        ..m
     }
 }
 
@@ -46,10 +45,7 @@ pub fn name(words: &[u64], classes: &[u16; 256], names: &mut [u64], class: usize
 fn reserved(kind: usize) -> bool
     ensures { result ≡ rule.reserved kind }
 {
-    if kind < Kind::ANY {
-        return false;
-    }
-    kind <= Kind::UNKNOWN
+    Kind::ANY <= kind && kind <= Kind::UNKNOWN
 }
 
 // One binding word that is bound to a type; diagnostic 13 if it is reserved.

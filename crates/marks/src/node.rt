@@ -106,17 +106,13 @@ pub fn put(
         k.first,
         b.name,
     );
-    let q = Mark {
-        at: m.at,
-        half: m.half,
-        used: m.used + 1,
-        named: m.named,
-        noted: m.noted,
-    };
     Answer {
         why: 0,
         high: k.high + 1,
-        m: q,
+        m: Mark {
+            used: m.used + 1,
+            ..m
+        },
     }
 }
 
@@ -163,19 +159,7 @@ pub fn opt_list(there: bool, count: usize) -> usize
     ensures value { result ≡ opt_list there count }
     ensures upper_bound { result < list_choices }
 {
-    if there {
-        return 1 + 2 * count;
-    }
-    0
-}
-
-fn larger(a: usize, b: usize) -> usize
-    ensures { result ≡ max a b }
-{
-    if a < b {
-        return b;
-    }
-    a
+    if there { 1 + 2 * count } else { 0 }
 }
 
 // One child more: its nodes are those from `before` to `used`, the last of them its root.
@@ -196,7 +180,7 @@ pub fn link(nodes: &mut [u64], k: Kids, before: usize, used: usize, high: usize)
     Kids {
         first: k.first,
         count: k.count + 1,
-        high: larger(k.high, high),
+        high: k.high.max(high),
     }
 }
 
@@ -205,8 +189,5 @@ pub fn opt_bit(there: bool) -> usize
     ensures value { result ≡ unit there }
     ensures upper_bound { result ≤ 1 }
 {
-    if there {
-        return 1;
-    }
-    0
+    usize::from(there)
 }

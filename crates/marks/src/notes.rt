@@ -89,21 +89,14 @@ pub fn report_both(
     ensures reports { Reports true given (note_both number place.first place.end other.first other.end) m notes.old result notes.new }
     ensures noted { Noted given m result }
 {
-    if Notes::MOST <= m.noted {
-        return Answer::refused(Refusal::MANY_NOTES, m);
-    }
-    if given.records <= m.noted {
+    if Notes::MOST <= m.noted || given.records <= m.noted {
         return Answer::refused(Refusal::MANY_NOTES, m);
     }
     append_note(notes, m.noted, number, place, other);
-    let q = Mark {
-        at: m.at,
-        half: m.half,
-        used: m.used,
-        named: m.named,
+    Answer::taken(Mark {
         noted: m.noted + 1,
-    };
-    Answer::taken(q)
+        ..m
+    })
 }
 
 // A diagnostic of one place: the second has no bytes.
@@ -150,10 +143,6 @@ pub fn copy_notes(noting: &[u64; Noting::WORDS], count: usize, notes: &mut [u64]
     ensures { notes.new ≡ filled (length notes.old) (note_words (notes_of noting.now count)) }
 {
     let words = count * Noting::RECORD;
-    let mut i: usize = 0;
-    while i < words {
-        notes[i] = noting[Noting::TALLIES + i];
-        i += 1;
-    }
+    notes[..words].copy_from_slice(&noting[Noting::TALLIES..Noting::TALLIES + words]);
     clear_words(notes, words);
 }

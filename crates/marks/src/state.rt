@@ -27,6 +27,18 @@ pub struct Mark {
     pub noted: usize,
 }
 
+impl Mark {
+    // Its cursor alone.
+    pub fn cursor(self) -> Cursor
+        ensures { result ≡ record { at = self.at; half = self.half } }
+    {
+        Cursor {
+            at: self.at,
+            half: self.half,
+        }
+    }
+}
+
 // Where a node begins: its first byte, and the number of its first name.
 #[derive(Clone, Copy)]
 pub struct Begin {
@@ -159,11 +171,7 @@ pub fn kind_at(words: &[u64], m: Mark) -> usize
     ensures value { result ≡ kind_at words.now m.at m.half }
     ensures upper_bound { result ≤ 255 * (length words.now - m.at) }
 {
-    let c = Cursor {
-        at: m.at,
-        half: m.half,
-    };
-    c.kind(words)
+    m.cursor().kind(words)
 }
 
 // The kind of the whole token n further on.
@@ -179,11 +187,7 @@ pub fn kind_after(words: &[u64], m: Mark, n: usize) -> usize
 pub fn on_line(words: &[u64], m: Mark) -> bool
     ensures { result ≡ same_line words.now m.at m.half }
 {
-    let c = Cursor {
-        at: m.at,
-        half: m.half,
-    };
-    c.same_line(words)
+    m.cursor().same_line(words)
 }
 
 // Whether no line break stands before the token after the cursor's.
@@ -200,11 +204,7 @@ pub fn first_byte(words: &[u64], m: Mark) -> usize
     ensures value { result ≡ first_byte words.now m.at m.half }
     ensures upper_bound { result < 2 ^ 32 }
 {
-    let c = Cursor {
-        at: m.at,
-        half: m.half,
-    };
-    c.first_byte(words)
+    m.cursor().first_byte(words)
 }
 
 // The end byte of what was taken last.
@@ -213,11 +213,7 @@ pub fn end_byte(words: &[u64], m: Mark) -> usize
     ensures value { result ≡ end_byte words.now m.at m.half }
     ensures upper_bound { result ≤ most_text + 1 }
 {
-    let c = Cursor {
-        at: m.at,
-        half: m.half,
-    };
-    c.end_byte(words)
+    m.cursor().end_byte(words)
 }
 
 // ---- Taking a token
@@ -230,9 +226,7 @@ pub fn next(m: Mark) -> Mark
     Mark {
         at: m.at + 1,
         half: 0,
-        used: m.used,
-        named: m.named,
-        noted: m.noted,
+        ..m
     }
 }
 
@@ -243,7 +237,8 @@ pub fn past(words: &[u64], kind: usize, m: Mark) -> Mark
     ensures moved { Moved (length words.now) m result }
 {
     if kind_at(words, m) == kind {
-        return next(m);
+        next(m)
+    } else {
+        m
     }
-    m
 }

@@ -1,14 +1,8 @@
 -- The token's word behind the names.
 use mathlib.Core.Path.{refl, ap, ◌∙◌}
-use native.Mathlib.Omega.{arith}
 use Rattle.words.specs.Word as five
-use Rattle.marks.proofs.MarkLaws.{start_small}
 use Rattle.marks.proofs.NameLaws.{speaks_word}
 use Rattle.marks.proofs.names.spell.Goals as goal
-
-pub append_name-requires : goal.append_name-requires
-append_name-requires c =
-    (omega (arith, c.start.ensures, ap five.start c.word_at-word.ensures, start_small c.requires.0 c.args.m.at), omega (arith, c.length.ensures))
 
 pub returns : goal.returns
 returns c =
