@@ -18,7 +18,7 @@ use Rattle.marks.specs.Notes.{refused_at, Noted}
 use Rattle.marks.specs.Node.{Put}
 use Rattle.marks.specs.declared.state.Given.{Given}
 use Rattle.marks.specs.declared.state.Mark.{Mark}
-use Rattle.marks.specs.declared.state.Answer.{Answer}
+use Rattle.marks.specs.Told.{Answer}
 
 -- Where a name stands the list is not over.
 pub class_some : (class k : ℕ) → class ≤ 1 → in_class class k ≡ true → 0 < k

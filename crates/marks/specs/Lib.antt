@@ -1,4 +1,5 @@
 -- Where a reading stands, and what stands in the slices since.
+pub mod Told
 pub mod State
 pub mod Tally
 pub mod Laid

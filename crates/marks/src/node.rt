@@ -4,12 +4,13 @@ ghost use Rattle.keys.specs.Bits.{unit};
 ghost use Rattle.words.specs.Limits.{tallest, longest};
 ghost use Rattle.keys.specs.Limits.{record_words};
 ghost use Rattle.marks.specs.State.{Under};
+ghost use Rattle.marks.specs.Told.{told};
 ghost use Rattle.marks.specs.Node.{Put, Makes, MakesList, Links, opt_list, list_choices, MakesAbout, MayPut, MayPutAbout, MayPutList};
 
-use crate::refusal::Refusal;
-use crate::state::{Answer, Begin, Given, Kids, Mark, end_byte};
+use crate::state::{Begin, Given, Kids, Mark, Read, Stop, end_byte};
 use keys::store::{append_node, link_node};
 use words::limits::{List, Tree};
+use words::refusal::Refusal;
 
 // Holds nothing: the tags of the node table are its constants.
 #[derive(Clone, Copy)]
@@ -86,16 +87,22 @@ pub fn put(
     choices: usize,
     k: Kids,
     m: Mark,
-) -> Answer
+) -> Result<Read, Stop>
     requires { MayPut words.now nodes.old given b k m }
-    ensures makes { Makes words.now given b choices k m nodes.old result nodes.new }
-    ensures put { Put given m result }
+    ensures makes { Makes words.now given b choices k m nodes.old (told result) nodes.new }
+    ensures put { Put given m (told result) }
 {
     if Tree::TALLEST <= k.high {
-        return Answer::refused(Refusal::TOO_TALL, m);
+        return Err(Stop {
+            why: Refusal::TooTall,
+            m,
+        });
     }
     if given.room <= m.used {
-        return Answer::refused(Refusal::NO_ROOM, m);
+        return Err(Stop {
+            why: Refusal::NoRoom,
+            m,
+        });
     }
     append_node(
         nodes,
@@ -106,14 +113,13 @@ pub fn put(
         k.first,
         b.name,
     );
-    Answer {
-        why: 0,
+    Ok(Read {
         high: k.high + 1,
         m: Mark {
             used: m.used + 1,
             ..m
         },
-    }
+    })
 }
 
 // A node whose children are its list, and whose one choice is their count.
@@ -125,13 +131,16 @@ pub fn put_list(
     tag: usize,
     k: Kids,
     m: Mark,
-) -> Answer
+) -> Result<Read, Stop>
     requires { MayPutList words.now nodes.old given b tag k m }
-    ensures makes_list { MakesList words.now given b tag k m nodes.old result nodes.new }
-    ensures put { Put given m result }
+    ensures makes_list { MakesList words.now given b tag k m nodes.old (told result) nodes.new }
+    ensures put { Put given m (told result) }
 {
     if List::LONGEST < k.count {
-        return Answer::refused(Refusal::TOO_LONG, m);
+        return Err(Stop {
+            why: Refusal::TooLong,
+            m,
+        });
     }
     put(words, nodes, given, b, tag + Tag::ALL * k.count, k, m)
 }
@@ -145,10 +154,10 @@ pub fn put_about(
     choices: usize,
     high: usize,
     m: Mark,
-) -> Answer
+) -> Result<Read, Stop>
     requires { MayPutAbout words.now nodes.old given b high m }
-    ensures makes_about { MakesAbout words.now given b choices high m nodes.old result nodes.new }
-    ensures put { Put given m result }
+    ensures makes_about { MakesAbout words.now given b choices high m nodes.old (told result) nodes.new }
+    ensures put { Put given m (told result) }
 {
     put(words, nodes, given, b, choices, Kids::one(m.used, high), m)
 }

@@ -4,12 +4,13 @@ ghost use Rattle.words.specs.Limits.{most_notes};
 ghost use Rattle.keys.specs.Store.{filled};
 ghost use Rattle.rules.specs.Notes.{note, note_both, note_width, note_words};
 ghost use Rattle.marks.specs.State.{note_at, notes_of, tally_of};
+ghost use Rattle.marks.specs.Told.{told_mark};
 ghost use Rattle.marks.specs.Notes.{Reports, Noted};
 
-use crate::refusal::Refusal;
-use crate::state::{Answer, Given, Mark};
+use crate::state::{Given, Mark, Stop};
 use keys::store::{Place, clear_words};
 use words::limits::Notes;
+use words::refusal::Refusal;
 
 // Holds nothing: the numbers are its constants.
 #[derive(Clone, Copy)]
@@ -84,16 +85,19 @@ pub fn report_both(
     place: Place,
     other: Place,
     m: Mark,
-) -> Answer
+) -> Result<Mark, Stop>
     requires { m.noted ≤ given.records }
-    ensures reports { Reports true given (note_both number place.first place.end other.first other.end) m notes.old result notes.new }
-    ensures noted { Noted given m result }
+    ensures reports { Reports true given (note_both number place.first place.end other.first other.end) m notes.old (told_mark result) notes.new }
+    ensures noted { Noted given m (told_mark result) }
 {
     if Notes::MOST <= m.noted || given.records <= m.noted {
-        return Answer::refused(Refusal::MANY_NOTES, m);
+        return Err(Stop {
+            why: Refusal::ManyNotes,
+            m,
+        });
     }
     append_note(notes, m.noted, number, place, other);
-    Answer::taken(Mark {
+    Ok(Mark {
         noted: m.noted + 1,
         ..m
     })
@@ -107,10 +111,10 @@ pub fn report(
     first: usize,
     end: usize,
     m: Mark,
-) -> Answer
+) -> Result<Mark, Stop>
     requires { m.noted ≤ given.records }
-    ensures reports { Reports true given (note number first end) m notes.old result notes.new }
-    ensures noted { Noted given m result }
+    ensures reports { Reports true given (note number first end) m notes.old (told_mark result) notes.new }
+    ensures noted { Noted given m (told_mark result) }
 {
     let place = Place { first, end };
     let none = Place { first: 0, end: 0 };
@@ -126,15 +130,15 @@ pub fn report_if(
     first: usize,
     end: usize,
     m: Mark,
-) -> Answer
+) -> Result<Mark, Stop>
     requires { m.noted ≤ given.records }
-    ensures reports { Reports holds given (note number first end) m notes.old result notes.new }
-    ensures noted { Noted given m result }
+    ensures reports { Reports holds given (note number first end) m notes.old (told_mark result) notes.new }
+    ensures noted { Noted given m (told_mark result) }
 {
     if holds {
         return report(notes, given, number, first, end, m);
     }
-    Answer::taken(m)
+    Ok(m)
 }
 
 // The first diagnostics of a reading as records in words lent, then zeros.
