@@ -4,6 +4,7 @@ pub mod State
 pub mod Tally
 pub mod Laid
 pub mod Says
+pub mod Number
 pub mod Notes
 pub mod Node
 pub mod Names

@@ -76,7 +76,7 @@ pub fn bound(
         reserved(kind_at(words, m)),
         notes,
         given,
-        Note::RESERVED_NAME,
+        Note::ReservedName,
         first_byte(words, m),
         end_byte(words, q),
         q,
