@@ -38,10 +38,10 @@ use Rattle.functions.proofs.ParameterLaws.{type_bits_lem}
 use Rattle.marks.proofs.MarkLaws.{fine_noted, or_false}
 use Rattle.marks.specs.declared.state.Given.{Given}
 use Rattle.marks.specs.declared.state.Mark.{Mark}
-use Rattle.marks.specs.declared.state.Answer.{Answer}
+use Rattle.marks.specs.Told.{Answer}
 use Rattle.functions.specs.declared.function.FunctionHead.{FunctionHead}
 use Rattle.functions.specs.declared.function.This.{This as ThisCode}
-use Rattle.functions.specs.declared.function.Params.{Params}
+use Rattle.functions.specs.Told.{Params}
 
 -- ---- What a `this` puts before a run
 

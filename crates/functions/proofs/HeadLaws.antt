@@ -20,14 +20,14 @@ use Rattle.marks.specs.Says.{SaysNames, SaysBound, Any, one}
 use Rattle.marks.specs.Names.{one_name}
 use Rattle.marks.specs.Notes.{refused_at}
 use Rattle.marks.specs.List.{here}
-use Rattle.functions.specs.Function.{why_if, type_parameter_head, parameter_head}
+use Rattle.functions.specs.Function.{type_parameter_head, parameter_head}
 use Rattle.marks.proofs.Answers.{then_read_lem, then_refused}
 use Rattle.marks.proofs.BuiltLaws.{spoken_from, spoken_to}
 use Rattle.marks.proofs.BoundLaws.{bound_same}
 use Rattle.marks.proofs.StepLaws.{view_past}
 use Rattle.marks.specs.declared.state.Given.{Given}
 use Rattle.marks.specs.declared.state.Mark.{Mark}
-use Rattle.marks.specs.declared.state.Answer.{Answer}
+use Rattle.marks.specs.Told.{Answer}
 
 -- ---- Tests, by what each of their parts answers
 
@@ -38,28 +38,14 @@ module _ (text W O : List ℕ) (given : Given) (m : Mark) where
 
 -- ---- A type parameter up to its constraint
 
-why_some : (b : Bool) (why : ℕ) → why ≡ why_if b type_parameter_modifier → (why ≡ 0 → ⊥) → (b ≡ true) × (why ≡ type_parameter_modifier)
-why_some true why e n = (refl, e)
-why_some false why e n = absurd (n e)
+module _ (text W O : List ℕ) (given : Given) (m : Mark) {M M' O' : List ℕ} where
+  pub type_head_stops : types.varies (given_of text W given) (view m O) ≡ true
+      → SaysBound (type_parameter_head (given_of text W given) (view m O)) m M O (refused_at type_parameter_modifier m) M' O'
+  type_head_stops h = record { done = λ z. absurd (omega arith); refused = λ _. rw h }
 
-why_none_lem : (b : Bool) (why : ℕ) → why ≡ why_if b type_parameter_modifier → why ≡ 0 → b ≡ false
-why_none_lem true why e n = absurd (let z : type_parameter_modifier ≡ 0 = sym e ∙ n in omega arith)
-why_none_lem false why e n = refl
-
-module _ (g : rule.Given) (s : State) (why : ℕ) (e : why ≡ why_if (types.varies g s) type_parameter_modifier) where
-  type_head_refused : (why ≡ 0 → ⊥) → type_parameter_head g s ≡ refuse why s.at s.half
-  type_head_refused n = let w = why_some (types.varies g s) why e n in rw (w.0, w.1)
-
-  type_head_named : why ≡ 0 → type_parameter_head g s ≡ bound g s
-  type_head_named n = rw (why_none_lem (types.varies g s) why e n)
-
-module _ (text W O : List ℕ) (given : Given) (m : Mark) (why : ℕ) (e : why ≡ why_if (types.varies (given_of text W given) (view m O)) type_parameter_modifier) {M M' O' : List ℕ} where
-  pub type_head_stops : (why ≡ 0 → ⊥) → SaysBound (type_parameter_head (given_of text W given) (view m O)) m M O (refused_at why m) M' O'
-  type_head_stops n = record { done = λ z. absurd (n z); refused = λ _. type_head_refused (given_of text W given) (view m O) why e n }
-
-  pub type_head_says : {a : Answer} → why ≡ 0 → SaysBound (bound (given_of text W given) (view m O)) m M O a M' O'
+  pub type_head_says : {a : Answer} → types.varies (given_of text W given) (view m O) ≡ false → SaysBound (bound (given_of text W given) (view m O)) m M O a M' O'
       → SaysBound (type_parameter_head (given_of text W given) (view m O)) m M O a M' O'
-  type_head_says n w = bound_same (type_head_named (given_of text W given) (view m O) why e n) w
+  type_head_says h w = bound_same (rw h) w
 
 -- ---- A parameter up to its type
 

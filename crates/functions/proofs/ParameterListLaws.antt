@@ -18,8 +18,8 @@ use Rattle.functions.specs.Function.{why_none, Opens, plain, freed_mark}
 use Rattle.functions.specs.Function as opens
 use Rattle.marks.proofs.Answers.{then_read_lem, then_refused}
 use Rattle.marks.specs.declared.state.Mark.{Mark}
-use Rattle.marks.specs.declared.state.Head.{Head}
-use Rattle.marks.specs.declared.state.Answer.{Answer}
+use Rattle.marks.specs.Told.{Head}
+use Rattle.marks.specs.Told.{Answer}
 
 -- ---- Behind a parameter
 

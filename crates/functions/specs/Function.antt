@@ -25,11 +25,11 @@ use Rattle.marks.specs.List.{here}
 use Rattle.marks.specs.declared.state.Given.{Given}
 use Rattle.marks.specs.declared.state.Mark.{Mark}
 use Rattle.marks.specs.declared.state.Kids.{Kids}
-use Rattle.marks.specs.declared.state.Head.{Head}
-use Rattle.marks.specs.declared.state.Answer.{Answer}
+use Rattle.marks.specs.Told.{Head}
+use Rattle.marks.specs.Told.{Answer}
 use Rattle.functions.specs.declared.function.FunctionHead.{FunctionHead}
 use Rattle.functions.specs.declared.function.This.{This as ThisCode}
-use Rattle.functions.specs.declared.function.Params.{Params}
+use Rattle.functions.specs.Told.{Params}
 
 -- A refusal's number where a test holds, else 0.
 abbrev pub why_if : Bool → ℕ → ℕ

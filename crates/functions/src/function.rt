@@ -8,7 +8,6 @@ ghost use Rattle.words.specs.Ahead.{function_start};
 ghost use Rattle.words.specs.Cursor.{first_byte, end_byte};
 ghost use Rattle.keys.specs.Limits.{record_words};
 ghost use Rattle.keys.specs.Bits.{unit};
-ghost use Rattle.rules.specs.Refusal.{type_parameter_modifier};
 ghost use Rattle.rules.specs.TypeRule as type;
 ghost use Rattle.rules.specs.TypeParameters as types;
 ghost use Rattle.rules.specs.Function as rule;
@@ -16,42 +15,32 @@ ghost use Rattle.marks.specs.State.{AnyGiven, view, given_of, next_mark, Sound, 
 ghost use Rattle.marks.specs.Says.{StartsBound};
 ghost use Rattle.marks.specs.List.{here, Separates};
 ghost use Rattle.marks.specs.Node.{list_choices, list_scale};
-ghost use Rattle.functions.specs.Function.{why_if, why_none, HeadIs, type_parameter_head, Opens, freed_mark, before_this, behind_this, freed_used, this_scale, new_choices, call_choices, function_choices, constructor_choices, MakesFunction, LinksParams, MayPutConstructor, MayPutFunction, StartsParameter};
+ghost use Rattle.marks.specs.Told.{told, told_mark, told_head};
+ghost use Rattle.functions.specs.Told.{told_params, told_why};
+ghost use Rattle.functions.specs.Function.{why_none, HeadIs, type_parameter_head, Opens, freed_mark, before_this, behind_this, freed_used, this_scale, new_choices, call_choices, function_choices, constructor_choices, MakesFunction, LinksParams, MayPutConstructor, MayPutFunction, StartsParameter};
 ghost use Rattle.marks.specs.Names.{MayName, MayBind};
 
 use marks::names::{bound, name};
-use marks::node::{Count, Tag, link, opt_bit, opt_list, put};
+use marks::node::{COUNTS, Tag, link, opt_list, put};
 use marks::notes::{Note, Noting, report_if};
-use marks::refusal::Refusal;
 use marks::state::{
-    Answer, Begin, Given, Head, Kids, Listed, Mark, end_byte, first_byte, kind_after, kind_at,
+    Begin, Entries, Given, Head, Kids, Mark, Read, Stop, end_byte, first_byte, kind_after, kind_at,
     next, past,
 };
 use words::ahead::{FunctionStart, function_start, modifies};
-use words::cursor::Cursor;
 use words::kind::{Class, Kind, in_class};
 use words::limits;
+use words::refusal::Refusal;
 
 // Function start: one of its cases holds.
 pub fn begins(words: &[u64], classes: &[u16; 256], m: Mark) -> bool
     requires { (classes.now ≡ class_words) × (m.at < 2 ^ 61) }
     ensures { result ≡ type.begins (function_start words.now m.at m.half) }
 {
-    let c = Cursor {
-        at: m.at,
-        half: m.half,
-    };
-    let s = function_start(words, classes, c);
-    match s {
-        FunctionStart::TypeParameters => true,
-        FunctionStart::New => true,
-        FunctionStart::AbstractNew => true,
-        FunctionStart::Empty => true,
-        FunctionStart::Rest => true,
-        FunctionStart::Parameter(_) => true,
-        FunctionStart::LoneParameter(_) => true,
-        FunctionStart::Nothing => false,
-    }
+    !matches!(
+        function_start(words, classes, m.cursor()),
+        FunctionStart::Nothing
+    )
 }
 
 // A function type up to its type parameters: where it begins, whether abstract and new stood there, where they ended.
@@ -100,10 +89,9 @@ impl This {
     }
 }
 
-// Parameters: the children of the function type so far, how many of them are parameters, and the `this`; or a refusal.
+// Parameters: the children of the function type so far, how many of them are parameters, and the `this`.
 #[derive(Clone, Copy)]
 pub struct Params {
-    pub why: usize,
     pub count: usize,
     pub this: This,
     pub kids: Kids,
@@ -111,25 +99,12 @@ pub struct Params {
 }
 
 impl Params {
-    pub fn refused(why: usize, m: Mark) -> Params
-        ensures { result ≡ record { why = why; count = 0; this = record { bits = 0; first = 0; end = 0 }; kids = record { first = 0; count = 0; high = 0 }; m = m } }
-    {
-        Params {
-            why,
-            count: 0,
-            this: This::none(),
-            kids: Kids::none(),
-            m,
-        }
-    }
-
     // All were read, up to the `)` at m.
     pub fn all(count: usize, this: This, kids: Kids, m: Mark) -> Params
         requires { m.at < 2 ^ 63 }
-        ensures { result ≡ record { why = 0; count = count; this = this; kids = kids; m = next_mark m } }
+        ensures { result ≡ record { count = count; this = this; kids = kids; m = next_mark m } }
     {
         Params {
-            why: 0,
             count,
             this,
             kids,
@@ -138,43 +113,29 @@ impl Params {
     }
 
     // With one child more, which was read from q on.
-    pub fn with(self, nodes: &mut [u64], q: Mark, a: Answer) -> Params
+    pub fn with(self, nodes: &mut [u64], q: Mark, a: Read) -> Params
         requires { (q.used < a.m.used) × (a.m.used * record_words ≤ length nodes.old) × Under q.used self.kids × (a.high ≤ tallest) }
-        ensures links_params { LinksParams self q a nodes.old result nodes.new }
+        ensures links_params { LinksParams (told_params (Ok self)) q (told (Ok a)) nodes.old (told_params (Ok result)) nodes.new }
         ensures under { Under a.m.used result.kids }
     {
-        let m = a.m;
-        let this = self.this;
-        let kids = link(nodes, self.kids, q.used, m.used, a.high);
         Params {
-            why: 0,
-            count: self.count,
-            this,
-            kids,
-            m,
+            kids: link(nodes, self.kids, q.used, a.m.used, a.high),
+            m: a.m,
+            ..self
         }
     }
 }
 
-// Why no type parameter can begin here, 0 if nothing is against it: const, in, or out before a binding word.
-pub fn varies(words: &[u64], classes: &[u16; 256], m: Mark) -> usize
+// Whether no type parameter can begin here: const, in, or out before a binding word.
+pub fn varies(words: &[u64], classes: &[u16; 256], m: Mark) -> bool
     requires { (classes.now ≡ class_words) × (m.at < 2 ^ 63) }
-    ensures { (text O : List ℕ) (given : AnyGiven) → result ≡ why_if (types.varies (given_of text words.now given) (view m O)) type_parameter_modifier }
+    ensures { (text O : List ℕ) (given : AnyGiven) → result ≡ types.varies (given_of text words.now given) (view m O) }
 {
-    let kind = kind_at(words, m);
-    if kind == Kind::CONST {
-        return Refusal::TYPE_PARAMETER_MODIFIER;
+    match kind_at(words, m) {
+        Kind::CONST | Kind::IN => true,
+        Kind::OUT => in_class(classes, kind_after(words, m, 1), Class::BINDING_WORD),
+        _ => false,
     }
-    if kind == Kind::IN {
-        return Refusal::TYPE_PARAMETER_MODIFIER;
-    }
-    if kind != Kind::OUT {
-        return 0;
-    }
-    if in_class(classes, kind_after(words, m, 1), Class::BINDING_WORD) {
-        return Refusal::TYPE_PARAMETER_MODIFIER;
-    }
-    0
 }
 
 // A type parameter up to its constraint.
@@ -185,128 +146,113 @@ pub fn type_param_head(
     notes: &mut [u64; Noting::WORDS],
     given: Given,
     m: Mark,
-) -> Answer
+) -> Result<Mark, Stop>
     requires { MayBind classes.now words.now given m }
-    ensures starts_bound { StartsBound type_parameter_head words.now given m names.old notes.old result names.new notes.new }
-    ensures stepped { Stepped (length words.now) given m result × (m.at < result.m.at + result.why) }
+    ensures starts_bound { StartsBound type_parameter_head words.now given m names.old notes.old (told_mark result) names.new notes.new }
+    ensures stepped { Stepped (length words.now) given m (told_mark result) × (m.at < (told_mark result).m.at + (told_mark result).why) }
 {
-    let why = varies(words, classes, m);
-    if why != 0 {
-        return Answer::refused(why, m);
+    if varies(words, classes, m) {
+        return Err(Stop {
+            why: Refusal::TypeParameterModifier,
+            m,
+        });
     }
     bound(words, classes, names, notes, given, m)
 }
 
-fn bit(holds: bool) -> usize
-    ensures { (result ≡ unit holds) × (result ≤ 1) }
-{
-    if holds {
-        return 1;
-    }
-    0
-}
-
 // A parameter up to its type: optional `...`, its name, optional `?`.
-pub fn param_head(words: &[u64], classes: &[u16; 256], names: &mut [u64], m: Mark) -> Head
+pub fn param_head(
+    words: &[u64],
+    classes: &[u16; 256],
+    names: &mut [u64],
+    m: Mark,
+) -> Result<Head, Stop>
     requires { MayName classes.now words.now m }
-    ensures starts_parameter { StartsParameter words.now m names.old result names.new }
-    ensures along { Along (length words.now) m result.m × (result.choices ≤ 3) × (m.at < result.m.at + result.why) }
+    ensures starts_parameter { StartsParameter words.now m names.old (told_head result) names.new }
+    ensures along { Along (length words.now) m (told_head result).m × ((told_head result).choices ≤ 3) × (m.at < (told_head result).m.at + (told_head result).why) }
 {
     let rest = kind_at(words, m) == Kind::DOT3;
     let p = past(words, Kind::DOT3, m);
     if this_after(words, rest, p) {
-        return Head::refused(Refusal::MISPLACED_THIS, p);
+        return Err(Stop {
+            why: Refusal::MisplacedThis,
+            m: p,
+        });
     }
-    let a = name(words, classes, names, Class::BINDING_WORD, p);
-    if a.why != 0 {
-        return Head::refused(a.why, a.m);
-    }
-    let q = a.m;
+    let q = name(words, classes, names, Class::BINDING_WORD, p)?;
     let asked = kind_at(words, q) == Kind::QUESTION;
-    Head {
-        why: 0,
-        choices: bit(rest) + 2 * bit(asked),
+    Ok(Head {
+        choices: usize::from(rest) + 2 * usize::from(asked),
         m: past(words, Kind::QUESTION, q),
-    }
+    })
 }
 
 // Whether a `this` stands after the dots.
 fn this_after(words: &[u64], rest: bool, m: Mark) -> bool
     ensures { result ≡ (rest and here words.now kind.This m) }
 {
-    if rest {
-        return kind_at(words, m) == Kind::THIS;
-    }
-    false
+    rest && kind_at(words, m) == Kind::THIS
 }
 
-// Why no parameter can begin here, 0 if nothing is against it: a modifier word, or a `this` that is not first.
-pub fn no_param(words: &[u64], classes: &[u16; 256], m: Mark) -> usize
+// Why no parameter can begin here, if something is against it: a modifier word, or a `this` that is not first.
+pub fn no_param(words: &[u64], classes: &[u16; 256], m: Mark) -> Option<Refusal>
     requires { (classes.now ≡ class_words) × (m.at < 2 ^ 62) }
-    ensures { (text O : List ℕ) (given : AnyGiven) → result ≡ why_none (rule.modified (given_of text words.now given) (view m O)) (here words.now kind.This m) }
+    ensures { (text O : List ℕ) (given : AnyGiven) → told_why result ≡ why_none (rule.modified (given_of text words.now given) (view m O)) (here words.now kind.This m) }
 {
     if modifies(words, classes, m.at) {
-        return Refusal::PARAMETER_MODIFIER;
+        return Some(Refusal::ParameterModifier);
     }
     if kind_at(words, m) == Kind::THIS {
-        return Refusal::MISPLACED_THIS;
+        return Some(Refusal::MisplacedThis);
     }
-    0
+    None
 }
 
 // After a parameter: at the `)`, or past a comma. A default, and a comma that follows a rest, are refused.
-pub fn separated(words: &[u64], rest: bool, m: Mark) -> Answer
+pub fn separated(words: &[u64], rest: bool, m: Mark) -> Result<Mark, Stop>
     requires { Sound words.now × Inside (length words.now) m }
-    ensures separates { Separates words.now rest m result }
-    ensures moved { Moved (length words.now) m result.m }
+    ensures separates { Separates words.now rest m (told_mark result) }
+    ensures moved { Moved (length words.now) m (told_mark result).m }
 {
-    let kind = kind_at(words, m);
-    if kind == Kind::EQ {
-        return Answer::refused(Refusal::DEFAULT_VALUE, m);
-    }
-    if kind == Kind::R_PAREN {
-        return Answer::taken(m);
-    }
-    if kind != Kind::COMMA {
-        return Answer::refused(Refusal::UNEXPECTED, m);
-    }
-    if rest {
-        return Answer::refused(Refusal::REST_NOT_LAST, m);
-    }
-    Answer::taken(next(m))
+    let why = match kind_at(words, m) {
+        Kind::R_PAREN => return Ok(m),
+        Kind::COMMA if !rest => return Ok(next(m)),
+        Kind::COMMA => Refusal::RestNotLast,
+        Kind::EQ => Refusal::DefaultValue,
+        _ => Refusal::Unexpected,
+    };
+    Err(Stop { why, m })
 }
 
 // The opening bracket of parameters, and the `this` behind it, if there is one: choice 1 then.
-pub fn params_head(words: &[u64], m: Mark) -> Head
+pub fn params_head(words: &[u64], m: Mark) -> Result<Head, Stop>
     requires { Sound words.now × Inside (length words.now) m }
-    ensures opens { Opens words.now m result }
-    ensures moved { Moved (length words.now) m result.m × (place_of m < place_of result.m + result.why) }
+    ensures opens { Opens words.now m (told_head result) }
+    ensures moved { Moved (length words.now) m (told_head result).m × (place_of m < place_of (told_head result).m + (told_head result).why) }
 {
     if kind_at(words, m) != Kind::L_PAREN {
-        return Head::refused(Refusal::UNEXPECTED, m);
+        return Err(Stop {
+            why: Refusal::Unexpected,
+            m,
+        });
     }
     let p = next(m);
     if kind_at(words, p) != Kind::THIS {
-        return Head {
-            why: 0,
-            choices: 0,
-            m: p,
-        };
+        return Ok(Head { choices: 0, m: p });
     }
-    Head {
-        why: 0,
+    Ok(Head {
         choices: 1,
         m: next(p),
-    }
+    })
 }
 
 // The `this` behind the bracket at m, and its type's answer.
-pub fn this_of(words: &[u64], m: Mark, a: Listed) -> This
+pub fn this_of(words: &[u64], m: Mark, a: Entries) -> This
     requires { Sound words.now × (m.at < 2 ^ 63) × (a.m.half ≤ 1) }
     ensures { (result.bits ≡ 1 + 2 * unit a.there) × (result.first ≡ first_byte words.now (m.at + 1) 0) × (result.end ≡ end_byte words.now a.m.at a.m.half) }
 {
     This {
-        bits: 1 + 2 * opt_bit(a.there),
+        bits: 1 + 2 * usize::from(a.there),
         first: first_byte(words, next(m)),
         end: end_byte(words, a.m),
     }
@@ -318,15 +264,14 @@ pub fn freed(is_new: bool, s: Mark, q: Mark) -> Mark
     ensures at_value { (result.at ≡ q.at) × (result.half ≡ q.half) × (result.used ≡ freed_used is_new s.used q.used) × (result.named ≡ freed_used is_new s.named q.named) × (result.noted ≡ q.noted) }
 {
     if is_new {
-        return Mark {
-            at: q.at,
-            half: q.half,
+        Mark {
             used: s.used,
             named: s.named,
-            noted: q.noted,
-        };
+            ..q
+        }
+    } else {
+        q
     }
-    q
 }
 
 // The children to which a `this` is linked: a constructor's is no child.
@@ -334,40 +279,28 @@ pub fn before_this(is_new: bool, k: Kids) -> Kids
     ensures value { result ≡ before_this is_new k }
     ensures first_le_first { (result.first ≤ k.first) × (result.count ≤ k.count) × (result.high ≤ k.high) }
 {
-    if is_new {
-        return Kids::none();
-    }
-    k
+    if is_new { Kids::none() } else { k }
 }
 
 // The children after a `this`: those before it, where it is a constructor's.
 pub fn this_kids(is_new: bool, before: Kids, after: Kids) -> Kids
     ensures { result ≡ behind_this is_new before after }
 {
-    if is_new {
-        return before;
-    }
-    after
+    if is_new { before } else { after }
 }
 
 // How many numbers an optional list's choices can be.
 fn list_scale(there: bool) -> usize
     ensures { (result ≡ list_scale there) × (result ≤ list_choices) }
 {
-    if there {
-        return 2 * Count::ALL;
-    }
-    2
+    if there { 2 * COUNTS } else { 2 }
 }
 
 // How many numbers the bits of a `this` can be.
 fn this_scale(bits: usize) -> usize
     ensures { (result ≡ this_scale bits) × (result ≤ 4) }
 {
-    if bits == 0 {
-        return 2;
-    }
-    4
+    if bits == 0 { 2 } else { 4 }
 }
 
 // The choices of type parameters and what stands behind them, `rest`.
@@ -391,7 +324,7 @@ fn function_choices(there: bool, count: usize, this: usize, params: usize) -> us
     requires { (count ≤ longest) × (this ≤ 3) × (params ≤ longest) }
     ensures { result ≡ function_choices there count this params }
 {
-    Tag::FUNCTION + Tag::ALL * call_choices(there, count, this, params)
+    Tag::Function as usize + Tag::ALL * call_choices(there, count, this, params)
 }
 
 // The choices of a constructor type.
@@ -399,17 +332,15 @@ fn constructor_choices(is_abstract: bool, there: bool, count: usize, params: usi
     requires { (count ≤ longest) × (params ≤ longest) }
     ensures { result ≡ constructor_choices is_abstract there count params }
 {
-    Tag::CONSTRUCTOR + Tag::ALL * (bit(is_abstract) + 2 * new_choices(there, count, params))
+    Tag::Constructor as usize
+        + Tag::ALL * (usize::from(is_abstract) + 2 * new_choices(there, count, params))
 }
 
 // Some list of a function type or a signature is too long.
 pub fn too_long(count: usize, params: usize) -> bool
     ensures { result ≡ (ltb longest count or ltb longest params) }
 {
-    if limits::List::LONGEST < count {
-        return true;
-    }
-    limits::List::LONGEST < params
+    limits::List::LONGEST < count || limits::List::LONGEST < params
 }
 
 // The node: h before its parts, `count` type parameters if they are there, and p, whose children are now all.
@@ -422,19 +353,21 @@ pub fn function_node(
     there: bool,
     count: usize,
     p: Params,
-) -> Answer
-    requires { MayPutFunction words.now nodes.old given h p }
-    ensures makes_function { MakesFunction words.now given h there count p nodes.old notes.old result nodes.new notes.new }
-    ensures reached { Reached (length words.now) given (place_of p.m) (p.m.used + 1) result.high result.why result.m }
+) -> Result<Read, Stop>
+    requires { MayPutFunction words.now nodes.old given h (told_params (Ok p)) }
+    ensures makes_function { MakesFunction words.now given h there count (told_params (Ok p)) nodes.old notes.old (told result) nodes.new notes.new }
+    ensures reached { Reached (length words.now) given (place_of p.m) (p.m.used + 1) (told result).high (told result).why (told result).m }
 {
     if h.is_new {
         return constructor_node(words, nodes, notes, given, h, there, count, p);
     }
     if too_long(count, p.count) {
-        return Answer::refused(Refusal::TOO_LONG, p.m);
+        return Err(Stop {
+            why: Refusal::TooLong,
+            m: p.m,
+        });
     }
-    let this = p.this;
-    let choices = function_choices(there, count, this.bits, p.count);
+    let choices = function_choices(there, count, p.this.bits, p.count);
     put(words, nodes, given, h.b, choices, p.kids, p.m)
 }
 
@@ -448,27 +381,26 @@ fn constructor_node(
     there: bool,
     count: usize,
     p: Params,
-) -> Answer
-    requires { MayPutConstructor words.now nodes.old given h p }
-    ensures makes_function { h.is_new ≡ true → MakesFunction words.now given h there count p nodes.old notes.old result nodes.new notes.new }
-    ensures reached { Reached (length words.now) given (place_of p.m) (p.m.used + 1) result.high result.why result.m }
+) -> Result<Read, Stop>
+    requires { MayPutConstructor words.now nodes.old given h (told_params (Ok p)) }
+    ensures makes_function { h.is_new ≡ true → MakesFunction words.now given h there count (told_params (Ok p)) nodes.old notes.old (told result) nodes.new notes.new }
+    ensures reached { Reached (length words.now) given (place_of p.m) (p.m.used + 1) (told result).high (told result).why (told result).m }
 {
-    let this = p.this;
-    let a = report_if(
-        this.bits != 0,
+    let m = report_if(
+        p.this.bits != 0,
         notes,
         given,
-        Note::THIS_ON_CONSTRUCTOR,
-        this.first,
-        this.end,
+        Note::ThisOnConstructor,
+        p.this.first,
+        p.this.end,
         p.m,
-    );
-    if a.why != 0 {
-        return a;
-    }
+    )?;
     if too_long(count, p.count) {
-        return Answer::refused(Refusal::TOO_LONG, a.m);
+        return Err(Stop {
+            why: Refusal::TooLong,
+            m,
+        });
     }
     let choices = constructor_choices(h.is_abstract, there, count, p.count);
-    put(words, nodes, given, h.b, choices, p.kids, a.m)
+    put(words, nodes, given, h.b, choices, p.kids, m)
 }

@@ -9,7 +9,7 @@ use Rattle.marks.specs.State.{view}
 use Rattle.marks.specs.Laid.{Was}
 use Rattle.marks.specs.Says.{Got, Says}
 use Rattle.marks.specs.declared.state.Mark.{Mark}
-use Rattle.marks.specs.declared.state.Answer.{Answer}
+use Rattle.marks.specs.Told.{Answer}
 
 -- ---- Results
 

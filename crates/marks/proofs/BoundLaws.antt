@@ -23,7 +23,7 @@ use Rattle.marks.proofs.LaidLaws.{laid_none}
 use Rattle.marks.proofs.ReportLaws.{reports_done, reports_refused, laid_reported}
 use Rattle.marks.specs.declared.state.Given.{Given}
 use Rattle.marks.specs.declared.state.Mark.{Mark}
-use Rattle.marks.specs.declared.state.Answer.{Answer}
+use Rattle.marks.specs.Told.{Answer}
 
 -- ---- Whether a kind is reserved
 

@@ -7,6 +7,7 @@ pub mod ReportLaws
 pub mod RecordLaws
 pub mod ListLaws
 pub mod MarkLaws
+pub mod ToldLaws
 pub mod NodeLaws
 pub mod NameLaws
 pub mod BoundLaws

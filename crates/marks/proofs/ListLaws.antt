@@ -24,8 +24,8 @@ use Rattle.marks.specs.List.{Follows, closes, goes, stops, ended, Ends, EndsAt}
 use Rattle.marks.specs.declared.state.Given.{Given}
 use Rattle.marks.specs.declared.state.Mark.{Mark}
 use Rattle.marks.specs.declared.state.Kids.{Kids}
-use Rattle.marks.specs.declared.state.Answer.{Answer}
-use Rattle.marks.specs.declared.state.Listed.{Listed}
+use Rattle.marks.specs.Told.{Answer}
+use Rattle.marks.specs.Told.{Listed}
 
 module _ (g : rule.Given) (close : ℕ) (entry : List Placed → State → Result Placed) where
   -- At the closing mark the list is whole.

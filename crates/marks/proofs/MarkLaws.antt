@@ -6,6 +6,7 @@ use Prim.Native.Nat.{ℕ, zero, suc, ◌+◌, ◌≤◌, ◌<◌}
 use native.Mathlib.Omega.{arith}
 use native.Mathlib.Decide.{dec_lt}
 use lib.Dec.{eqb}
+use mir.Val.{bool_byte}
 use lib.ListN.{length, get_or, get_or-eq_default}
 use borrow.Author.Tests.{eq-eqb, ne_eqb}
 use Rattle.words.specs.Limits.{most_text}
@@ -13,12 +14,13 @@ use Rattle.words.specs.Test.{◌or◌}
 use Rattle.words.specs.Class.{in_class}
 use Rattle.words.specs.Word.{kind, start}
 use Rattle.words.specs.Cursor.{word_at, left, kind_at, taken_end, end_byte}
+use Rattle.keys.specs.Bits.{unit}
 use Rattle.marks.specs.State.{Sound, Inside, Fine, Reached, place_of, Moved, Along, next_mark, named_mark, past_mark}
 use Rattle.marks.specs.Notes.{refused_at, Noted}
 use Rattle.marks.specs.Node.{Put}
 use Rattle.marks.specs.declared.state.Given.{Given}
 use Rattle.marks.specs.declared.state.Mark.{Mark}
-use Rattle.marks.specs.declared.state.Answer.{Answer}
+use Rattle.marks.specs.Told.{Answer}
 
 -- Where a name stands the list is not over.
 pub class_some : (class k : ℕ) → class ≤ 1 → in_class class k ≡ true → 0 < k
@@ -163,6 +165,11 @@ reached_less a b r = record { past = omega (arith, r.past); more = omega (arith,
 pub or_false : (b : Bool) → b ≡ (b or false)
 or_false true = refl
 or_false false = refl
+
+-- What a test is as a number.
+pub bit_is : (b : Bool) → bool_byte b ≡ unit b
+bit_is true = refl
+bit_is false = refl
 
 -- A test that the end of the list does not pass holds inside the list only.
 pub kind_inside : (f : ℕ → Bool) (W : List ℕ) (at half : ℕ) → f 0 ≡ false → f (kind_at W at half) ≡ true → at < length W

@@ -24,7 +24,7 @@ use Rattle.marks.proofs.BuiltLaws.{spoken_one, spoken_none, spoken_then, spoken_
 use Rattle.marks.proofs.Answers.{then_read_lem, then_refused}
 use Rattle.marks.specs.declared.state.Given as code
 use Rattle.marks.specs.declared.state.Mark.{Mark}
-use Rattle.marks.specs.declared.state.Answer.{Answer}
+use Rattle.marks.specs.Told.{Answer}
 
 -- ---- One name
 

@@ -24,7 +24,7 @@ use Rattle.marks.proofs.Answers.{says_read, says_same, says_as, says_refused}
 use Rattle.marks.specs.State.{view, given_of, used_mark}
 use Rattle.marks.specs.declared.state.Given as code
 use Rattle.marks.specs.declared.state.Mark.{Mark}
-use Rattle.marks.specs.declared.state.Answer.{Answer}
+use Rattle.marks.specs.Told.{Answer}
 use Rattle.marks.specs.declared.state.Begin.{Begin}
 use Rattle.marks.specs.declared.state.Kids.{Kids}
 

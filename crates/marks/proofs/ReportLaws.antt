@@ -17,7 +17,7 @@ use Rattle.marks.proofs.LaidLaws.{length_notes, notes_before, laid_noted}
 use Rattle.marks.specs.declared.state.Given.{Given}
 use Rattle.marks.specs.declared.state.Mark.{Mark}
 use Rattle.marks.specs.declared.state.Kids.{Kids}
-use Rattle.marks.specs.declared.state.Answer.{Answer}
+use Rattle.marks.specs.Told.{Answer}
 
 -- ---- Whether there is a record
 

@@ -19,8 +19,8 @@ use Rattle.marks.proofs.BuiltLaws.{spoken_from, spoken_to}
 use Rattle.marks.specs.declared.state.Given.{Given}
 use Rattle.marks.specs.declared.state.Mark.{Mark}
 use Rattle.marks.specs.declared.state.Kids.{Kids}
-use Rattle.marks.specs.declared.state.Answer.{Answer}
-use Rattle.marks.specs.declared.state.Head.{Head}
+use Rattle.marks.specs.Told.{Answer}
+use Rattle.marks.specs.Told.{Head}
 
 -- ---- What stands at a mark
 

@@ -16,7 +16,7 @@ use Rattle.marks.specs.Laid.{Was, was, Laid}
 use Rattle.marks.specs.Says.{Says}
 use Rattle.marks.proofs.LaidLaws.{notes_apart, laid_noted}
 use Rattle.marks.specs.declared.state.Mark.{Mark}
-use Rattle.marks.specs.declared.state.Answer.{Answer}
+use Rattle.marks.specs.Told.{Answer}
 
 -- ---- Words of the tally
 

@@ -16,8 +16,8 @@ use Rattle.marks.specs.Notes.{taken_at, refused_at}
 use Rattle.marks.specs.declared.state.Given.{Given}
 use Rattle.marks.specs.declared.state.Mark.{Mark}
 use Rattle.marks.specs.declared.state.Kids.{Kids}
-use Rattle.marks.specs.declared.state.Answer.{Answer}
-use Rattle.marks.specs.declared.state.Listed.{Listed}
+use Rattle.marks.specs.Told.{Answer}
+use Rattle.marks.specs.Told.{Listed}
 
 -- Kind k stands at a mark.
 abbrev pub here : List ℕ → ℕ → Mark → Bool

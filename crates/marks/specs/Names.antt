@@ -12,7 +12,7 @@ use Rattle.rules.specs.State.{Given, State, Result, read, refused, next, kind, s
 use Rattle.marks.specs.State.{AnyGiven, view, given_of, Declined, Sound, Spelt, Inside, Fine, named_mark}
 use Rattle.marks.specs.Laid.{Spoken}
 use Rattle.marks.specs.declared.state.Mark.{Mark}
-use Rattle.marks.specs.declared.state.Answer.{Answer}
+use Rattle.marks.specs.Told.{Answer}
 
 -- Names may be read from a mark on: the classes of the table, a sound list, the mark within it, and no more names than tokens before it.
 abbrev pub MayName : (classes W : List ℕ) (m : Mark) → Type 0

@@ -7,7 +7,7 @@ use Rattle.rules.specs.Refusal.{many_notes}
 use Rattle.marks.specs.State.{noted_mark, notes_of, tally_of}
 use Rattle.marks.specs.declared.state.Given.{Given}
 use Rattle.marks.specs.declared.state.Mark.{Mark}
-use Rattle.marks.specs.declared.state.Answer.{Answer}
+use Rattle.marks.specs.Told.{Answer}
 
 -- There is no record for one diagnostic more.
 abbrev pub is_full : Given → Mark → Bool

@@ -11,9 +11,9 @@ use Rattle.marks.specs.Laid.{run_in, run_opt, opt_bit, runs_opt, name_run, IsNod
 use Rattle.marks.specs.declared.state.Given.{Given}
 use Rattle.marks.specs.declared.state.Mark.{Mark}
 use Rattle.marks.specs.declared.state.Kids.{Kids}
-use Rattle.marks.specs.declared.state.Answer.{Answer}
-use Rattle.marks.specs.declared.state.Head.{Head}
-use Rattle.marks.specs.declared.state.Listed.{Listed}
+use Rattle.marks.specs.Told.{Answer}
+use Rattle.marks.specs.Told.{Head}
+use Rattle.marks.specs.Told.{Listed}
 
 -- ---- A tree
 

@@ -5,6 +5,5 @@ pub mod list;
 pub mod names;
 pub mod node;
 pub mod notes;
-pub mod refusal;
 pub mod state;
 pub mod tally;

@@ -3,15 +3,16 @@ ghost use Rattle.std.specs.Prelude.{◌≡◌, ◌+◌, ◌≤◌, ◌<◌, leng
 ghost use Rattle.words.specs.Class.{class_words};
 ghost use Rattle.rules.specs.Names as rule;
 ghost use Rattle.marks.specs.State.{Sound, Inside, Along, Stepped, named_mark};
+ghost use Rattle.marks.specs.Told.{told_mark};
 ghost use Rattle.marks.specs.Says.{Any, one, StartsNames, StartsBound};
 ghost use Rattle.marks.specs.Names.{Speaks, one_name, StartsDots, MayName, MayBind};
 
 use crate::notes::{Note, Noting, report_if};
-use crate::refusal::Refusal;
-use crate::state::{Answer, Given, Mark, end_byte, first_byte, kind_at, next};
+use crate::state::{Given, Mark, Stop, end_byte, first_byte, kind_at, next};
 use keys::store::append_name;
 use words::cursor::word_at;
 use words::kind::{Class, Kind, in_class};
+use words::refusal::Refusal;
 use words::token;
 
 // The token at the cursor is the next name.
@@ -30,15 +31,24 @@ pub fn spell(words: &[u64], names: &mut [u64], m: Mark) -> Mark
 }
 
 // One name, of a class.
-pub fn name(words: &[u64], classes: &[u16; 256], names: &mut [u64], class: usize, m: Mark) -> Answer
+pub fn name(
+    words: &[u64],
+    classes: &[u16; 256],
+    names: &mut [u64],
+    class: usize,
+    m: Mark,
+) -> Result<Mark, Stop>
     requires { (classes.now ≡ class_words) × Sound words.now × Inside (length words.now) m × (m.named ≤ m.at) × (class ≤ 1) }
-    ensures starts_names { StartsNames one Any (one_name class) words.now m names.old result.why result.m names.new }
-    ensures along { Along (length words.now) m result.m × (m.at < result.m.at + result.why) }
+    ensures starts_names { StartsNames one Any (one_name class) words.now m names.old (told_mark result).why (told_mark result).m names.new }
+    ensures along { Along (length words.now) m (told_mark result).m × (m.at < (told_mark result).m.at + (told_mark result).why) }
 {
     if !in_class(classes, kind_at(words, m), class) {
-        return Answer::refused(Refusal::UNEXPECTED, m);
+        return Err(Stop {
+            why: Refusal::Unexpected,
+            m,
+        });
     }
-    Answer::taken(spell(words, names, m))
+    Ok(spell(words, names, m))
 }
 
 // Whether a kind is that of a word that names a type of its own.
@@ -56,21 +66,17 @@ pub fn bound(
     notes: &mut [u64; Noting::WORDS],
     given: Given,
     m: Mark,
-) -> Answer
+) -> Result<Mark, Stop>
     requires { MayBind classes.now words.now given m }
-    ensures starts_bound { StartsBound rule.bound words.now given m names.old notes.old result names.new notes.new }
-    ensures stepped { Stepped (length words.now) given m result × (m.at < result.m.at + result.why) }
+    ensures starts_bound { StartsBound rule.bound words.now given m names.old notes.old (told_mark result) names.new notes.new }
+    ensures stepped { Stepped (length words.now) given m (told_mark result) × (m.at < (told_mark result).m.at + (told_mark result).why) }
 {
-    let a = name(words, classes, names, Class::BINDING_WORD, m);
-    if a.why != 0 {
-        return a;
-    }
-    let q = a.m;
+    let q = name(words, classes, names, Class::BINDING_WORD, m)?;
     report_if(
         reserved(kind_at(words, m)),
         notes,
         given,
-        Note::RESERVED_NAME,
+        Note::ReservedName,
         first_byte(words, m),
         end_byte(words, q),
         q,
@@ -78,31 +84,29 @@ pub fn bound(
 }
 
 // As many dots as follow, each with a name.
-pub fn dots(words: &[u64], classes: &[u16; 256], names: &mut [u64], m: Mark) -> Answer
+pub fn dots(words: &[u64], classes: &[u16; 256], names: &mut [u64], m: Mark) -> Result<Mark, Stop>
     requires { MayName classes.now words.now m }
-    ensures starts_dots { StartsDots words.now m names.old result names.new }
-    ensures along { Along (length words.now) m result.m }
+    ensures starts_dots { StartsDots words.now m names.old (told_mark result) names.new }
+    ensures along { Along (length words.now) m (told_mark result).m }
 {
     let mut p = m;
     while kind_at(words, p) == Kind::DOT {
-        let a = name(words, classes, names, Class::NAME, next(p));
-        if a.why != 0 {
-            return a;
-        }
-        p = a.m;
+        p = name(words, classes, names, Class::NAME, next(p))?;
     }
-    Answer::taken(p)
+    Ok(p)
 }
 
 // Names with dots between.
-pub fn dotted_name(words: &[u64], classes: &[u16; 256], names: &mut [u64], m: Mark) -> Answer
+pub fn dotted_name(
+    words: &[u64],
+    classes: &[u16; 256],
+    names: &mut [u64],
+    m: Mark,
+) -> Result<Mark, Stop>
     requires { MayName classes.now words.now m }
-    ensures starts_names { StartsNames (λ k. k) Any rule.dotted words.now m names.old result.why result.m names.new }
-    ensures along { Along (length words.now) m result.m × (m.at < result.m.at + result.why) }
+    ensures starts_names { StartsNames (λ k. k) Any rule.dotted words.now m names.old (told_mark result).why (told_mark result).m names.new }
+    ensures along { Along (length words.now) m (told_mark result).m × (m.at < (told_mark result).m.at + (told_mark result).why) }
 {
-    let a = name(words, classes, names, Class::NAME, m);
-    if a.why != 0 {
-        return a;
-    }
-    dots(words, classes, names, a.m)
+    let q = name(words, classes, names, Class::NAME, m)?;
+    dots(words, classes, names, q)
 }

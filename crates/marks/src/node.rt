@@ -4,78 +4,60 @@ ghost use Rattle.keys.specs.Bits.{unit};
 ghost use Rattle.words.specs.Limits.{tallest, longest};
 ghost use Rattle.keys.specs.Limits.{record_words};
 ghost use Rattle.marks.specs.State.{Under};
+ghost use Rattle.marks.specs.Number.{tag_number};
+ghost use Rattle.marks.specs.Told.{told};
 ghost use Rattle.marks.specs.Node.{Put, Makes, MakesList, Links, opt_list, list_choices, MakesAbout, MayPut, MayPutAbout, MayPutList};
 
-use crate::refusal::Refusal;
-use crate::state::{Answer, Begin, Given, Kids, Mark, end_byte};
+use crate::state::{Begin, Given, Kids, Mark, Read, Stop, end_byte};
 use keys::store::{append_node, link_node};
 use words::limits::{List, Tree};
+use words::refusal::Refusal;
 
-// Holds nothing: the tags of the node table are its constants.
-#[derive(Clone, Copy)]
-pub struct Tag {}
+// The tags of the node table.
+#[derive(Clone, Copy, Debug, PartialEq, Eq)]
+pub enum Tag {
+    Reference = 1,
+    Keyword = 2,
+    Literal = 3,
+    Parens = 4,
+    Union = 5,
+    Intersection = 6,
+    Array = 7,
+    Indexed = 8,
+    Conditional = 9,
+    Infer = 10,
+    Operator = 11,
+    Function = 12,
+    Constructor = 13,
+    Mapped = 14,
+    Template = 15,
+    Predicate = 16,
+    Typeof = 17,
+    Import = 18,
+    Tuple = 19,
+    Optional = 20,
+    Rest = 21,
+    Named = 22,
+    NonNull = 23,
+    Asked = 24,
+    Object = 25,
+}
 
 impl Tag {
-    pub const REFERENCE: usize = 1;
-
-    pub const KEYWORD: usize = 2;
-
-    pub const LITERAL: usize = 3;
-
-    pub const PARENS: usize = 4;
-
-    pub const UNION: usize = 5;
-
-    pub const INTERSECTION: usize = 6;
-
-    pub const ARRAY: usize = 7;
-
-    pub const INDEXED: usize = 8;
-
-    pub const CONDITIONAL: usize = 9;
-
-    pub const INFER: usize = 10;
-
-    pub const OPERATOR: usize = 11;
-
-    pub const FUNCTION: usize = 12;
-
-    pub const CONSTRUCTOR: usize = 13;
-
-    pub const MAPPED: usize = 14;
-
-    pub const TEMPLATE: usize = 15;
-
-    pub const PREDICATE: usize = 16;
-
-    pub const TYPEOF: usize = 17;
-
-    pub const IMPORT: usize = 18;
-
-    pub const TUPLE: usize = 19;
-
-    pub const OPTIONAL: usize = 20;
-
-    pub const REST: usize = 21;
-
-    pub const NAMED: usize = 22;
-
-    pub const NON_NULL: usize = 23;
-
-    pub const ASKED: usize = 24;
-
-    pub const OBJECT: usize = 25;
-    // how many tags six bits have: a node's own choices begin above
+    // How many tags six bits have: a node's own choices begin above.
     pub const ALL: usize = 64;
+
+    // Its number.
+    pub fn number(self) -> usize
+        ensures value { result ≡ tag_number self }
+        ensures upper_bound { result < 64 }
+    {
+        self as usize
+    }
 }
 
 // How many numbers the count of a list can be.
-#[derive(Clone, Copy)]
-pub struct Count {}
-
-impl Count {
-    pub const ALL: usize = 4096;
-}
+pub const COUNTS: usize = 4096;
 
 // A node over its children, once read: its height, then the room for it.
 pub fn put(
@@ -86,16 +68,22 @@ pub fn put(
     choices: usize,
     k: Kids,
     m: Mark,
-) -> Answer
+) -> Result<Read, Stop>
     requires { MayPut words.now nodes.old given b k m }
-    ensures makes { Makes words.now given b choices k m nodes.old result nodes.new }
-    ensures put { Put given m result }
+    ensures makes { Makes words.now given b choices k m nodes.old (told result) nodes.new }
+    ensures put { Put given m (told result) }
 {
     if Tree::TALLEST <= k.high {
-        return Answer::refused(Refusal::TOO_TALL, m);
+        return Err(Stop {
+            why: Refusal::TooTall,
+            m,
+        });
     }
     if given.room <= m.used {
-        return Answer::refused(Refusal::NO_ROOM, m);
+        return Err(Stop {
+            why: Refusal::NoRoom,
+            m,
+        });
     }
     append_node(
         nodes,
@@ -106,14 +94,13 @@ pub fn put(
         k.first,
         b.name,
     );
-    Answer {
-        why: 0,
+    Ok(Read {
         high: k.high + 1,
         m: Mark {
             used: m.used + 1,
             ..m
         },
-    }
+    })
 }
 
 // A node whose children are its list, and whose one choice is their count.
@@ -122,18 +109,29 @@ pub fn put_list(
     nodes: &mut [u64],
     given: Given,
     b: Begin,
-    tag: usize,
+    tag: Tag,
     k: Kids,
     m: Mark,
-) -> Answer
-    requires { MayPutList words.now nodes.old given b tag k m }
-    ensures makes_list { MakesList words.now given b tag k m nodes.old result nodes.new }
-    ensures put { Put given m result }
+) -> Result<Read, Stop>
+    requires { MayPutList words.now nodes.old given b (tag_number tag) k m }
+    ensures makes_list { MakesList words.now given b (tag_number tag) k m nodes.old (told result) nodes.new }
+    ensures put { Put given m (told result) }
 {
     if List::LONGEST < k.count {
-        return Answer::refused(Refusal::TOO_LONG, m);
+        return Err(Stop {
+            why: Refusal::TooLong,
+            m,
+        });
     }
-    put(words, nodes, given, b, tag + Tag::ALL * k.count, k, m)
+    put(
+        words,
+        nodes,
+        given,
+        b,
+        tag.number() + Tag::ALL * k.count,
+        k,
+        m,
+    )
 }
 
 // A node about the tree that was read last, which ended before m.
@@ -145,10 +143,10 @@ pub fn put_about(
     choices: usize,
     high: usize,
     m: Mark,
-) -> Answer
+) -> Result<Read, Stop>
     requires { MayPutAbout words.now nodes.old given b high m }
-    ensures makes_about { MakesAbout words.now given b choices high m nodes.old result nodes.new }
-    ensures put { Put given m result }
+    ensures makes_about { MakesAbout words.now given b choices high m nodes.old (told result) nodes.new }
+    ensures put { Put given m (told result) }
 {
     put(words, nodes, given, b, choices, Kids::one(m.used, high), m)
 }

@@ -4,43 +4,40 @@ ghost use Rattle.words.specs.Limits.{most_notes};
 ghost use Rattle.keys.specs.Store.{filled};
 ghost use Rattle.rules.specs.Notes.{note, note_both, note_width, note_words};
 ghost use Rattle.marks.specs.State.{note_at, notes_of, tally_of};
+ghost use Rattle.marks.specs.Number.{number_of};
+ghost use Rattle.marks.specs.Told.{told_mark};
 ghost use Rattle.marks.specs.Notes.{Reports, Noted};
 
-use crate::refusal::Refusal;
-use crate::state::{Answer, Given, Mark};
+use crate::state::{Given, Mark, Stop};
 use keys::store::{Place, clear_words};
 use words::limits::Notes;
+use words::refusal::Refusal;
 
-// Holds nothing: the numbers are its constants.
-#[derive(Clone, Copy)]
-pub struct Note {}
+// The diagnostics, under what they say.
+#[derive(Clone, Copy, Debug, PartialEq, Eq)]
+pub enum Note {
+    EmptyTypeParameters = 1,
+    EmptyArguments = 2,
+    ThisOnConstructor = 3,
+    RequiredAfterOptional = 4,
+    RestAfterLabel = 5,
+    AskedAfterLabel = 6,
+    OptionalAndRest = 7,
+    AskedIndex = 8,
+    CommaAfterIndex = 9,
+    LiteralIndex = 10,
+    KeywordIndex = 11,
+    NotOneIndex = 12,
+    ReservedName = 13,
+}
 
 impl Note {
-    pub const EMPTY_TYPE_PARAMETERS: usize = 1;
-
-    pub const EMPTY_ARGUMENTS: usize = 2;
-
-    pub const THIS_ON_CONSTRUCTOR: usize = 3;
-
-    pub const REQUIRED_AFTER_OPTIONAL: usize = 4;
-
-    pub const REST_AFTER_LABEL: usize = 5;
-
-    pub const ASKED_AFTER_LABEL: usize = 6;
-
-    pub const OPTIONAL_AND_REST: usize = 7;
-
-    pub const ASKED_INDEX: usize = 8;
-
-    pub const COMMA_AFTER_INDEX: usize = 9;
-
-    pub const LITERAL_INDEX: usize = 10;
-
-    pub const KEYWORD_INDEX: usize = 11;
-
-    pub const NOT_ONE_INDEX: usize = 12;
-
-    pub const RESERVED_NAME: usize = 13;
+    // Its number.
+    pub fn number(self) -> usize
+        ensures { result ≡ number_of self }
+    {
+        self as usize
+    }
 }
 
 // How diagnostics stand in the words of a reading: first some for tallies, then a record each.
@@ -63,13 +60,13 @@ impl Noting {
 }
 
 // The words of a record. The array comes as a slice: lending it so is what tells the proof how long it is.
-fn append_note(notes: &mut [u64], at: usize, number: usize, place: Place, other: Place)
+fn append_note(notes: &mut [u64], at: usize, n: Note, place: Place, other: Place)
     requires { note_at (at + 1) ≤ length notes.old }
-    ensures at_after { notes_of notes.new (at + 1) ≡ notes_of notes.old at ++ (note_both number place.first place.end other.first other.end ∷ []) }
+    ensures at_after { notes_of notes.new (at + 1) ≡ notes_of notes.old at ++ (note_both (number_of n) place.first place.end other.first other.end ∷ []) }
     ensures notes_unchanged { tally_of notes.new ≡ tally_of notes.old }
 {
     let to = Noting::TALLIES + at * Noting::RECORD;
-    notes[to] = number as u64;
+    notes[to] = n.number() as u64;
     notes[to + 1] = place.first as u64;
     notes[to + 2] = place.end as u64;
     notes[to + 3] = other.first as u64;
@@ -80,20 +77,23 @@ fn append_note(notes: &mut [u64], at: usize, number: usize, place: Place, other:
 pub fn report_both(
     notes: &mut [u64; Noting::WORDS],
     given: Given,
-    number: usize,
+    n: Note,
     place: Place,
     other: Place,
     m: Mark,
-) -> Answer
+) -> Result<Mark, Stop>
     requires { m.noted ≤ given.records }
-    ensures reports { Reports true given (note_both number place.first place.end other.first other.end) m notes.old result notes.new }
-    ensures noted { Noted given m result }
+    ensures reports { Reports true given (note_both (number_of n) place.first place.end other.first other.end) m notes.old (told_mark result) notes.new }
+    ensures noted { Noted given m (told_mark result) }
 {
     if Notes::MOST <= m.noted || given.records <= m.noted {
-        return Answer::refused(Refusal::MANY_NOTES, m);
+        return Err(Stop {
+            why: Refusal::ManyNotes,
+            m,
+        });
     }
-    append_note(notes, m.noted, number, place, other);
-    Answer::taken(Mark {
+    append_note(notes, m.noted, n, place, other);
+    Ok(Mark {
         noted: m.noted + 1,
         ..m
     })
@@ -103,18 +103,18 @@ pub fn report_both(
 pub fn report(
     notes: &mut [u64; Noting::WORDS],
     given: Given,
-    number: usize,
+    n: Note,
     first: usize,
     end: usize,
     m: Mark,
-) -> Answer
+) -> Result<Mark, Stop>
     requires { m.noted ≤ given.records }
-    ensures reports { Reports true given (note number first end) m notes.old result notes.new }
-    ensures noted { Noted given m result }
+    ensures reports { Reports true given (note (number_of n) first end) m notes.old (told_mark result) notes.new }
+    ensures noted { Noted given m (told_mark result) }
 {
     let place = Place { first, end };
     let none = Place { first: 0, end: 0 };
-    report_both(notes, given, number, place, none, m)
+    report_both(notes, given, n, place, none, m)
 }
 
 // A diagnostic where a test holds.
@@ -122,19 +122,19 @@ pub fn report_if(
     holds: bool,
     notes: &mut [u64; Noting::WORDS],
     given: Given,
-    number: usize,
+    n: Note,
     first: usize,
     end: usize,
     m: Mark,
-) -> Answer
+) -> Result<Mark, Stop>
     requires { m.noted ≤ given.records }
-    ensures reports { Reports holds given (note number first end) m notes.old result notes.new }
-    ensures noted { Noted given m result }
+    ensures reports { Reports holds given (note (number_of n) first end) m notes.old (told_mark result) notes.new }
+    ensures noted { Noted given m (told_mark result) }
 {
     if holds {
-        return report(notes, given, number, first, end, m);
+        return report(notes, given, n, first, end, m);
     }
-    Answer::taken(m)
+    Ok(m)
 }
 
 // The first diagnostics of a reading as records in words lent, then zeros.

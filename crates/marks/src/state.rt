@@ -5,6 +5,7 @@ ghost use Rattle.words.specs.Limits.{most_text};
 ghost use Rattle.marks.specs.State.{Sound, Inside, Moved, next_mark, past_mark};
 
 use words::cursor::{Cursor, whole_kind, word_at};
+use words::refusal::Refusal;
 use words::token;
 
 // What every rule is given beside tokens and slices: room for nodes, records for diagnostics, preserve_parens, and how many
@@ -59,28 +60,18 @@ impl Begin {
     }
 }
 
-// What a rule answers. Read, where `why` is 0: the height of the tree, whose root is the last node used, and where
-// reading stands then. Else refused: the refusal's number, and where reading stood.
+// A tree that was read: its height, and where reading stands then. Its root is the last node used.
 #[derive(Clone, Copy)]
-pub struct Answer {
-    pub why: usize,
+pub struct Read {
     pub high: usize,
     pub m: Mark,
 }
 
-impl Answer {
-    pub fn refused(why: usize, m: Mark) -> Answer
-        ensures { result ≡ record { why = why; high = 0; m = m } }
-    {
-        Answer { why, high: 0, m }
-    }
-
-    // Nothing was built on the way to m.
-    pub fn taken(m: Mark) -> Answer
-        ensures { result ≡ record { why = 0; high = 0; m = m } }
-    {
-        Answer { why: 0, high: 0, m }
-    }
+// A refusal, and where reading stood.
+#[derive(Clone, Copy)]
+pub struct Stop {
+    pub why: Refusal,
+    pub m: Mark,
 }
 
 // The children of a node so far: the first one's number, how many, the greatest height among them.
@@ -115,32 +106,19 @@ impl Kids {
     }
 }
 
-// What a list comes to: whether it was there, and its entries; or a refusal, as in an answer.
+// What a list comes to: whether it was there, its entries, and where reading stands then.
 #[derive(Clone, Copy)]
-pub struct Listed {
-    pub why: usize,
+pub struct Entries {
     pub there: bool,
     pub kids: Kids,
     pub m: Mark,
 }
 
-impl Listed {
-    pub fn refused(why: usize, m: Mark) -> Listed
-        ensures { result ≡ record { why = why; there = false; kids = record { first = 0; count = 0; high = 0 }; m = m } }
+impl Entries {
+    pub fn absent(m: Mark) -> Entries
+        ensures { result ≡ record { there = false; kids = record { first = 0; count = 0; high = 0 }; m = m } }
     {
-        Listed {
-            why,
-            there: false,
-            kids: Kids::none(),
-            m,
-        }
-    }
-
-    pub fn absent(m: Mark) -> Listed
-        ensures { result ≡ record { why = 0; there = false; kids = record { first = 0; count = 0; high = 0 }; m = m } }
-    {
-        Listed {
-            why: 0,
+        Entries {
             there: false,
             kids: Kids::none(),
             m,
@@ -148,20 +126,11 @@ impl Listed {
     }
 }
 
-// What a node's rule finds before its first type: choices of the node, and where that type begins; or a refusal.
+// What a node's rule finds before its first type: choices of the node, and where that type begins.
 #[derive(Clone, Copy)]
 pub struct Head {
-    pub why: usize,
     pub choices: usize,
     pub m: Mark,
-}
-
-impl Head {
-    pub fn refused(why: usize, m: Mark) -> Head
-        ensures { result ≡ record { why = why; choices = 0; m = m } }
-    {
-        Head { why, choices: 0, m }
-    }
 }
 
 // ---- The cursor

@@ -26,7 +26,7 @@ use Rattle.marks.proofs.BuiltLaws.{spoken_none, spoken_from, spoken_to}
 use Rattle.members.specs.Object.{a_property, a_signature, an_index, key_choices, HeadHas, GotMember, FindsMember}
 use Rattle.marks.specs.declared.state.Given.{Given}
 use Rattle.marks.specs.declared.state.Mark.{Mark}
-use Rattle.members.specs.declared.object.MemberHead.{MemberHead}
+use Rattle.members.specs.Told.{MemberHead}
 
 -- ---- What begins a signature
 

@@ -37,7 +37,7 @@ use Rattle.members.proofs.StepLaws.{step_reports, step_stop, step_refused, step_
 use Rattle.marks.specs.declared.state.Given.{Given}
 use Rattle.marks.specs.declared.state.Mark.{Mark}
 use Rattle.marks.specs.declared.state.Kids.{Kids}
-use Rattle.marks.specs.declared.state.Answer.{Answer}
+use Rattle.marks.specs.Told.{Answer}
 use Rattle.members.specs.declared.object.IndexParams.{IndexParams}
 
 -- ---- A parameter up to its type

@@ -38,9 +38,9 @@ use Rattle.members.proofs.StepLaws.{step_reports}
 use Rattle.marks.specs.declared.state.Given.{Given}
 use Rattle.marks.specs.declared.state.Mark.{Mark}
 use Rattle.marks.specs.declared.state.Begin.{Begin}
-use Rattle.marks.specs.declared.state.Answer.{Answer}
+use Rattle.marks.specs.Told.{Answer}
 use Rattle.functions.specs.declared.function.This.{This as ThisCode}
-use Rattle.functions.specs.declared.function.Params.{Params}
+use Rattle.functions.specs.Told.{Params}
 
 -- ---- Diagnostic 3
 

@@ -13,7 +13,7 @@ use Rattle.marks.proofs.ReportLaws.{reports_done, reports_refused, laid_reported
 use Rattle.members.specs.Object.{SaysStep}
 use Rattle.marks.specs.declared.state.Given.{Given}
 use Rattle.marks.specs.declared.state.Mark.{Mark}
-use Rattle.marks.specs.declared.state.Answer.{Answer}
+use Rattle.marks.specs.Told.{Answer}
 
 module _ {A : Type 0} {step : (State → Result A) → Result A} {m : Mark} {O : List ℕ} where
   -- The step goes on at a mark, and nothing was written.

@@ -1,2 +1,3 @@
 -- What members of object types begin with and come to, over the rules' definitions.
+pub mod Told
 pub mod Object

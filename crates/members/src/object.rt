@@ -9,22 +9,24 @@ ghost use Rattle.marks.specs.State.{AnyGiven, view, given_of, Sound, Spelt, Insi
 ghost use Rattle.marks.specs.Says.{StartsBound};
 ghost use Rattle.marks.specs.Names.{MayName, MayBind};
 ghost use Rattle.marks.specs.Node.{MayPut};
+ghost use Rattle.marks.specs.Told.{told, told_mark};
+ghost use Rattle.functions.specs.Told.{told_params};
+ghost use Rattle.members.specs.Told.{told_member};
 ghost use Rattle.members.specs.Object.{MayHead, HeadHas, StartsMember, StartsKey, SaysMember, key_choices, SaysStep, ends_member, MakesMember, property_choices, NotesThis, signature_choices, MakesSignature, with_type, index_start, index_next, MayEndIndex, EndsIndex, NotesIndex, index_choices, literal_word, no_index_word};
 ghost use Rattle.marks.specs.Notes.{Noted};
 
 use functions::function::{Params, This, call_choices, new_choices, too_long};
 use keys::store::{choices_at, place_at, tag_at};
 use marks::names::{name, spell};
-use marks::node::{Count, Tag, opt_bit, put};
+use marks::node::{COUNTS, Tag, put};
 use marks::notes::{Note, Noting, report, report_if};
-use marks::refusal::Refusal;
 use marks::state::{
-    Answer, Begin, Given, Kids, Mark, end_byte, first_byte, kind_after, kind_at, next, on_line,
+    Begin, Given, Kids, Mark, Read, Stop, end_byte, first_byte, kind_after, kind_at, next, on_line,
     past,
 };
 use words::ahead::{accessor_start, index_start, modifier_start, property_key, readonly_start};
-use words::cursor::Cursor;
 use words::kind::{Class, Kind};
+use words::refusal::Refusal;
 
 // Holds nothing: the sorts of members in the node table are its constants.
 #[derive(Clone, Copy)]
@@ -46,36 +48,19 @@ impl Sort {
 
 // ---- Heads
 
-// A member up to its first type: its sort, its choices so far, and where reading stands then; or a refusal.
+// A member up to its first type: its sort, its choices so far, and where reading stands then.
 #[derive(Clone, Copy)]
 pub struct MemberHead {
-    pub why: usize,
     pub sort: usize,
     pub choices: usize,
     pub m: Mark,
-}
-
-impl MemberHead {
-    pub fn refused(why: usize, m: Mark) -> MemberHead
-        ensures { result ≡ record { why = why; sort = 0; choices = 0; m = m } }
-    {
-        MemberHead {
-            why,
-            sort: 0,
-            choices: 0,
-            m,
-        }
-    }
 }
 
 // Whether a signature's parameters or type parameters begin with a kind.
 fn signs(kind: usize) -> bool
     ensures { result ≡ rule.signs kind }
 {
-    if kind == Kind::L_PAREN {
-        return true;
-    }
-    kind == Kind::L_ANGLE
+    kind == Kind::L_PAREN || kind == Kind::L_ANGLE
 }
 
 // Whether `new` stands here with a signature behind it.
@@ -83,10 +68,7 @@ fn constructs(words: &[u64], m: Mark) -> bool
     requires { m.at < 2 ^ 63 }
     ensures { (text O : List ℕ) (given : AnyGiven) → result ≡ rule.constructs (given_of text words.now given) (view m O) }
 {
-    if kind_at(words, m) != Kind::NEW {
-        return false;
-    }
-    signs(kind_after(words, m, 1))
+    kind_at(words, m) == Kind::NEW && signs(kind_after(words, m, 1))
 }
 
 // Whether readonly stands here as a modifier.
@@ -94,11 +76,7 @@ fn is_readonly(words: &[u64], classes: &[u16; 256], m: Mark) -> bool
     requires { (classes.now ≡ class_words) × (m.at < 2 ^ 63) }
     ensures { (text O : List ℕ) (given : AnyGiven) → result ≡ rule.is_readonly (given_of text words.now given) (view m O) }
 {
-    let c = Cursor {
-        at: m.at,
-        half: m.half,
-    };
-    readonly_start(words, classes, c)
+    readonly_start(words, classes, m.cursor())
 }
 
 // Whether another modifier word stands here, or get or set as one.
@@ -106,14 +84,7 @@ fn unsupported_here(text: &[u8], words: &[u64], classes: &[u16; 256], m: Mark) -
     requires { (classes.now ≡ class_words) × (m.at < 2 ^ 63) × Spelt text.now words.now }
     ensures { (O : List ℕ) (given : AnyGiven) → result ≡ rule.unsupported_here (given_of text.now words.now given) (view m O) }
 {
-    let c = Cursor {
-        at: m.at,
-        half: m.half,
-    };
-    if modifier_start(words, classes, c) {
-        return true;
-    }
-    accessor_start(text, words, classes, c)
+    modifier_start(words, classes, m.cursor()) || accessor_start(text, words, classes, m.cursor())
 }
 
 // A member up to its first type: by what it begins with.
@@ -123,26 +94,24 @@ pub fn member_head(
     classes: &[u16; 256],
     names: &mut [u64],
     m: Mark,
-) -> MemberHead
+) -> Result<MemberHead, Stop>
     requires { MayHead text.now classes.now words.now m }
-    ensures starts_member { StartsMember text.now words.now m names.old result names.new }
-    ensures along { Along (length words.now) m result.m × HeadHas (length words.now) m result }
+    ensures starts_member { StartsMember text.now words.now m names.old (told_member result) names.new }
+    ensures along { Along (length words.now) m (told_member result).m × HeadHas (length words.now) m (told_member result) }
 {
     if signs(kind_at(words, m)) {
-        return MemberHead {
-            why: 0,
+        return Ok(MemberHead {
             sort: Sort::CALL,
             choices: Sort::CALL,
             m,
-        };
+        });
     }
     if constructs(words, m) {
-        return MemberHead {
-            why: 0,
+        return Ok(MemberHead {
             sort: Sort::CONSTRUCT,
             choices: Sort::CONSTRUCT,
             m: next(m),
-        };
+        });
     }
     if is_readonly(words, classes, m) {
         return behind_readonly(text, words, classes, names, true, next(m));
@@ -158,26 +127,31 @@ fn behind_readonly(
     names: &mut [u64],
     readonly: bool,
     m: Mark,
-) -> MemberHead
+) -> Result<MemberHead, Stop>
     requires { MayHead text.now classes.now words.now m }
-    ensures says_member { SaysMember (λ g T b. rule.behind_readonly g T b readonly) text.now words.now m names.old result names.new }
-    ensures along { Along (length words.now) m result.m × HeadHas (length words.now) m result }
+    ensures says_member { SaysMember (λ g T b. rule.behind_readonly g T b readonly) text.now words.now m names.old (told_member result) names.new }
+    ensures along { Along (length words.now) m (told_member result).m × HeadHas (length words.now) m (told_member result) }
 {
     if unsupported_here(text, words, classes, m) {
-        return MemberHead::refused(Refusal::MEMBER_FORM, m);
+        return Err(Stop {
+            why: Refusal::MemberForm,
+            m,
+        });
     }
     if kind_at(words, m) != Kind::L_BRACK {
         return with_key(words, classes, names, readonly, m);
     }
     if index_start(words, classes, m.at) {
-        return MemberHead {
-            why: 0,
+        return Ok(MemberHead {
             sort: Sort::INDEX,
-            choices: Sort::INDEX + Sort::ALL * opt_bit(readonly),
+            choices: Sort::INDEX + Sort::ALL * usize::from(readonly),
             m,
-        };
+        });
     }
-    MemberHead::refused(Refusal::MEMBER_FORM, m)
+    Err(Stop {
+        why: Refusal::MemberForm,
+        m,
+    })
 }
 
 // A key and its `?`: a method's if a signature follows, else a property's.
@@ -187,70 +161,65 @@ fn with_key(
     names: &mut [u64],
     readonly: bool,
     m: Mark,
-) -> MemberHead
+) -> Result<MemberHead, Stop>
     requires { MayName classes.now words.now m }
-    ensures starts_key { StartsKey readonly words.now m names.old result names.new }
-    ensures along { Along (length words.now) m result.m × HeadHas (length words.now) m result }
+    ensures starts_key { StartsKey readonly words.now m names.old (told_member result) names.new }
+    ensures along { Along (length words.now) m (told_member result).m × HeadHas (length words.now) m (told_member result) }
 {
     let kind = kind_at(words, m);
     if !property_key(classes, kind) {
-        return MemberHead::refused(Refusal::UNEXPECTED, m);
+        return Err(Stop {
+            why: Refusal::Unexpected,
+            m,
+        });
     }
     let p = spell(words, names, m);
     let key = key_choices(kind, kind_at(words, p) == Kind::QUESTION);
     let q = past(words, Kind::QUESTION, p);
     if signs(kind_at(words, q)) {
-        return MemberHead {
-            why: 0,
+        return Ok(MemberHead {
             sort: Sort::METHOD,
             choices: Sort::METHOD + Sort::ALL * key,
             m: q,
-        };
+        });
     }
-    MemberHead {
-        why: 0,
+    Ok(MemberHead {
         sort: Sort::PROPERTY,
-        choices: Sort::ALL * (opt_bit(readonly) + 2 * key),
+        choices: Sort::ALL * (usize::from(readonly) + 2 * key),
         m: q,
-    }
+    })
 }
 
 // The choices of a key, by its kind, and of the `?` behind it.
 fn key_choices(kind: usize, asked: bool) -> usize
     ensures { (result ≡ key_choices (rule.key_sort kind) asked) × (result ≤ 6) }
 {
-    let question = 4 * opt_bit(asked);
-    if kind == Kind::STR {
-        return 1 + question;
+    let question = 4 * usize::from(asked);
+    match kind {
+        Kind::STR => 1 + question,
+        Kind::NUMBER_LITERAL => 2 + question,
+        _ => question,
     }
-    if kind == Kind::NUMBER_LITERAL {
-        return 2 + question;
-    }
-    question
 }
 
 // ---- Ends
 
 // A member's end: a `,` or `;` is taken, also behind a line break; `}` or a line break does without.
-pub fn member_end(words: &[u64], m: Mark) -> Answer
+pub fn member_end(words: &[u64], m: Mark) -> Result<Mark, Stop>
     requires { Sound words.now × Inside (length words.now) m }
-    ensures by_index { (text O : List ℕ) (given : AnyGiven) → SaysStep (ends_member (given_of text words.now given) (view m O)) m O result O }
-    ensures moved { Moved (length words.now) m result.m × (result.high ≡ 0) }
+    ensures by_index { (text O : List ℕ) (given : AnyGiven) → SaysStep (ends_member (given_of text words.now given) (view m O)) m O (told_mark result) O }
+    ensures moved { Moved (length words.now) m (told_mark result).m × ((told_mark result).high ≡ 0) }
 {
-    let kind = kind_at(words, m);
-    if kind == Kind::COMMA {
-        return Answer::taken(next(m));
+    match kind_at(words, m) {
+        Kind::COMMA => Ok(next(m)),
+        Kind::SEMICOLON => Ok(next(m)),
+        Kind::R_CURLY => Ok(m),
+        _ if on_line(words, m) => Err(Stop {
+            why: Refusal::Unexpected,
+            m,
+        }),
+        _ => Ok(m),
     }
-    if kind == Kind::SEMICOLON {
-        return Answer::taken(next(m));
-    }
-    if kind == Kind::R_CURLY {
-        return Answer::taken(m);
-    }
-    if on_line(words, m) {
-        return Answer::refused(Refusal::UNEXPECTED, m);
-    }
-    Answer::taken(m)
 }
 
 // From the end of a member without lists on: its node.
@@ -262,16 +231,13 @@ pub fn member_node(
     choices: usize,
     k: Kids,
     m: Mark,
-) -> Answer
+) -> Result<Read, Stop>
     requires { MayPut words.now nodes.old given b k m }
-    ensures makes_member { MakesMember words.now given b choices k m nodes.old result nodes.new }
-    ensures reached { Reached (length words.now) given (place_of m) (m.used + 1) result.high result.why result.m }
+    ensures makes_member { MakesMember words.now given b choices k m nodes.old (told result) nodes.new }
+    ensures reached { Reached (length words.now) given (place_of m) (m.used + 1) (told result).high (told result).why (told result).m }
 {
-    let e = member_end(words, m);
-    if e.why != 0 {
-        return e;
-    }
-    put(words, nodes, given, b, choices, k, e.m)
+    let e = member_end(words, m)?;
+    put(words, nodes, given, b, choices, k, e)
 }
 
 // The choices of a property, by those of its head and by whether it has a type.
@@ -279,7 +245,7 @@ pub fn property_choices(head: usize, typed: bool) -> usize
     requires { head ≤ 127 }
     ensures { result ≡ property_choices head typed }
 {
-    head + 16 * Sort::ALL * opt_bit(typed)
+    head + 16 * Sort::ALL * usize::from(typed)
 }
 
 // ---- Signatures
@@ -291,19 +257,19 @@ pub fn note_this(
     is_new: bool,
     this: This,
     m: Mark,
-) -> Answer
+) -> Result<Mark, Stop>
     requires { m.noted ≤ given.records }
-    ensures notes_this { NotesThis given is_new this m notes.old result notes.new }
-    ensures noted { Noted given m result }
+    ensures notes_this { NotesThis given is_new this m notes.old (told_mark result) notes.new }
+    ensures noted { Noted given m (told_mark result) }
 {
     if !is_new {
-        return Answer::taken(m);
+        return Ok(m);
     }
     report_if(
         this.bits != 0,
         notes,
         given,
-        Note::THIS_ON_CONSTRUCTOR,
+        Note::ThisOnConstructor,
         this.first,
         this.end,
         m,
@@ -322,7 +288,7 @@ fn signature_choices(
     requires { (head ≤ 127) × (count ≤ longest) × (this ≤ 3) × (params ≤ longest) }
     ensures { result ≡ signature_choices head there count this params typed }
 {
-    let rest = params + Count::ALL * opt_bit(typed);
+    let rest = params + COUNTS * usize::from(typed);
     if head == Sort::CONSTRUCT {
         return head + Sort::ALL * new_choices(there, count, rest);
     }
@@ -345,21 +311,20 @@ pub fn signature_node(
     p: Params,
     typed: bool,
     m: Mark,
-) -> Answer
+) -> Result<Read, Stop>
     requires { MayPut words.now nodes.old given b p.kids m × (head ≤ 127) × (p.this.bits ≤ 3) }
-    ensures makes_signature { MakesSignature words.now given b head there count p typed m nodes.old result nodes.new }
-    ensures reached { Reached (length words.now) given (place_of m) (m.used + 1) result.high result.why result.m }
+    ensures makes_signature { MakesSignature words.now given b head there count (told_params (Ok p)) typed m nodes.old (told result) nodes.new }
+    ensures reached { Reached (length words.now) given (place_of m) (m.used + 1) (told result).high (told result).why (told result).m }
 {
-    let e = member_end(words, m);
-    if e.why != 0 {
-        return e;
-    }
+    let e = member_end(words, m)?;
     if too_long(count, p.count) {
-        return Answer::refused(Refusal::TOO_LONG, e.m);
+        return Err(Stop {
+            why: Refusal::TooLong,
+            m: e,
+        });
     }
-    let this = p.this;
-    let choices = signature_choices(head, there, count, this.bits, p.count, typed);
-    put(words, nodes, given, b, choices, p.kids, e.m)
+    let choices = signature_choices(head, there, count, p.this.bits, p.count, typed);
+    put(words, nodes, given, b, choices, p.kids, e)
 }
 
 // ---- Index signatures
@@ -384,23 +349,17 @@ impl IndexParams {
     }
 
     // With one more, whose type was read last; only the first is kept.
-    pub fn with(self, words: &[u64], a: Answer) -> IndexParams
+    pub fn with(self, words: &[u64], a: Read) -> IndexParams
         requires { Sound words.now × (1 ≤ a.m.used) × (a.m.half ≤ 1) }
-        ensures { result ≡ with_type words.now self a }
+        ensures { result ≡ with_type words.now self (told (Ok a)) }
     {
         if self.count != 0 {
-            let kids = self.kids;
-            return IndexParams {
-                count: 2,
-                kids,
-                end: self.end,
-            };
+            return IndexParams { count: 2, ..self };
         }
-        let q = a.m;
         IndexParams {
             count: 1,
-            kids: Kids::one(q.used, a.high),
-            end: end_byte(words, q),
+            kids: Kids::one(a.m.used, a.high),
+            end: end_byte(words, a.m),
         }
     }
 }
@@ -413,54 +372,58 @@ pub fn index_head(
     notes: &mut [u64; Noting::WORDS],
     given: Given,
     m: Mark,
-) -> Answer
+) -> Result<Mark, Stop>
     requires { MayBind classes.now words.now given m }
-    ensures starts_bound { StartsBound index_start words.now given m names.old notes.old result names.new notes.new }
-    ensures stepped { Stepped (length words.now) given m result × (m.at < result.m.at + result.why) }
+    ensures starts_bound { StartsBound index_start words.now given m names.old notes.old (told_mark result) names.new notes.new }
+    ensures stepped { Stepped (length words.now) given m (told_mark result) × (m.at < (told_mark result).m.at + (told_mark result).why) }
 {
-    let n = name(words, classes, names, Class::BINDING_WORD, m);
-    if n.why != 0 {
-        return n;
-    }
-    let p = n.m;
+    let p = name(words, classes, names, Class::BINDING_WORD, m)?;
     let a = report_if(
         kind_at(words, p) == Kind::QUESTION,
         notes,
         given,
-        Note::ASKED_INDEX,
+        Note::AskedIndex,
         first_byte(words, p),
         end_byte(words, next(p)),
         p,
-    );
-    if a.why != 0 {
-        return a;
-    }
-    let q = past(words, Kind::QUESTION, a.m);
+    )?;
+    let q = past(words, Kind::QUESTION, a);
     if kind_at(words, q) != Kind::COLON {
-        return Answer::refused(Refusal::UNEXPECTED, q);
+        return Err(Stop {
+            why: Refusal::Unexpected,
+            m: q,
+        });
     }
-    Answer::taken(next(q))
+    Ok(next(q))
 }
 
 // After an index parameter: at the `]`, or past a comma; diagnostic 9 if that stands before the `]`.
-pub fn index_next(words: &[u64], notes: &mut [u64; Noting::WORDS], given: Given, m: Mark) -> Answer
+pub fn index_next(
+    words: &[u64],
+    notes: &mut [u64; Noting::WORDS],
+    given: Given,
+    m: Mark,
+) -> Result<Mark, Stop>
     requires { Sound words.now × Fine (length words.now) given m }
-    ensures by_index { (text : List ℕ) → SaysStep (index_next (given_of text words.now given) (view m notes.old)) m notes.old result notes.new }
-    ensures stepped { Stepped (length words.now) given m result }
+    ensures by_index { (text : List ℕ) → SaysStep (index_next (given_of text words.now given) (view m notes.old)) m notes.old (told_mark result) notes.new }
+    ensures stepped { Stepped (length words.now) given m (told_mark result) }
 {
     let kind = kind_at(words, m);
     if kind == Kind::R_BRACK {
-        return Answer::taken(m);
+        return Ok(m);
     }
     if kind != Kind::COMMA {
-        return Answer::refused(Refusal::UNEXPECTED, m);
+        return Err(Stop {
+            why: Refusal::Unexpected,
+            m,
+        });
     }
     let p = next(m);
     report_if(
         kind_at(words, p) == Kind::R_BRACK,
         notes,
         given,
-        Note::COMMA_AFTER_INDEX,
+        Note::CommaAfterIndex,
         first_byte(words, m),
         end_byte(words, p),
         p,
@@ -477,21 +440,20 @@ pub fn index_end(
     first: usize,
     ps: IndexParams,
     m: Mark,
-) -> Answer
+) -> Result<Mark, Stop>
     requires { MayEndIndex words.now nodes.now given m }
-    ensures ends_index { EndsIndex words.now given b first ps m nodes.now notes.old result notes.new }
-    ensures stepped { Stepped (length words.now) given m result }
+    ensures ends_index { EndsIndex words.now given b first ps m nodes.now notes.old (told_mark result) notes.new }
+    ensures stepped { Stepped (length words.now) given m (told_mark result) }
 {
     let p = next(m);
-    let a = note_index(nodes, notes, given, b, end_byte(words, p), first, ps, p);
-    if a.why != 0 {
-        return a;
-    }
-    let q = a.m;
+    let q = note_index(nodes, notes, given, b, end_byte(words, p), first, ps, p)?;
     if kind_at(words, q) != Kind::COLON {
-        return Answer::refused(Refusal::UNEXPECTED, q);
+        return Err(Stop {
+            why: Refusal::Unexpected,
+            m: q,
+        });
     }
-    Answer::taken(next(q))
+    Ok(next(q))
 }
 
 // Diagnostic 12 where there is not one parameter; 10 or 11 where the type of the one is a literal or a keyword that is no index.
@@ -504,25 +466,24 @@ fn note_index(
     first: usize,
     ps: IndexParams,
     m: Mark,
-) -> Answer
+) -> Result<Mark, Stop>
     requires { (m.used * record_words ≤ length nodes.now) × (m.noted ≤ given.records) }
-    ensures notes_index { NotesIndex given b end first ps m nodes.now notes.old result notes.new }
-    ensures noted { Noted given m result }
+    ensures notes_index { NotesIndex given b end first ps m nodes.now notes.old (told_mark result) notes.new }
+    ensures noted { Noted given m (told_mark result) }
 {
     if ps.count != 1 {
-        return report(notes, given, Note::NOT_ONE_INDEX, b, end, m);
+        return report(notes, given, Note::NotOneIndex, b, end, m);
     }
-    let k = ps.kids;
-    let at = k.first;
+    let at = ps.kids.first;
     if is_literal(nodes, at) {
         let place = place_at(nodes, at);
-        return report(notes, given, Note::LITERAL_INDEX, place.first, place.end, m);
+        return report(notes, given, Note::LiteralIndex, place.first, place.end, m);
     }
     report_if(
         is_no_index(nodes, at),
         notes,
         given,
-        Note::KEYWORD_INDEX,
+        Note::KeywordIndex,
         first,
         ps.end,
         m,
@@ -534,7 +495,7 @@ pub fn index_choices(head: usize, there: bool) -> usize
     requires { head ≤ 127 }
     ensures { result ≡ index_choices head there }
 {
-    head + 2 * Sort::ALL * opt_bit(there)
+    head + 2 * Sort::ALL * usize::from(there)
 }
 
 // Whether a node is a literal: a 3, or a 15 with no types.
@@ -542,28 +503,13 @@ fn is_literal(nodes: &[u64], at: usize) -> bool
     ensures { result ≡ literal_word (word_at nodes.now at) }
 {
     let tag = tag_at(nodes, at);
-    if tag == Tag::LITERAL {
-        return true;
-    }
-    if tag != Tag::TEMPLATE {
-        return false;
-    }
-    choices_at(nodes, at) == 0
+    tag == Tag::Literal as usize || tag == Tag::Template as usize && choices_at(nodes, at) == 0
 }
 
 // Whether a node is a keyword other than any, number, string, symbol and this.
 fn is_no_index(nodes: &[u64], at: usize) -> bool
     ensures { result ≡ no_index_word (word_at nodes.now at) }
 {
-    if tag_at(nodes, at) != Tag::KEYWORD {
-        return false;
-    }
-    match choices_at(nodes, at) {
-        0 => false,
-        5 => false,
-        7 => false,
-        8 => false,
-        9 => false,
-        _ => true,
-    }
+    tag_at(nodes, at) == Tag::Keyword as usize
+        && !matches!(choices_at(nodes, at), 0 | 5 | 7 | 8 | 9)
 }

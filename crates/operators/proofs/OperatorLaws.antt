@@ -30,7 +30,7 @@ use Rattle.marks.proofs.MarkLaws.{or_false}
 use Rattle.marks.specs.declared.state.Given.{Given as Code}
 use Rattle.marks.specs.declared.state.Mark.{Mark}
 use Rattle.marks.specs.declared.state.Begin.{Begin}
-use Rattle.marks.specs.declared.state.Answer.{Answer}
+use Rattle.marks.specs.Told.{Answer}
 
 -- One prefix more, next to what was read.
 operators_more : (g : Given) (i n : ℕ) (x : Result Placed) → operators_about g i (suc n) x ≡ operators_about g i n (operator_about g (i + n) x)

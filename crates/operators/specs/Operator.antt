@@ -15,7 +15,7 @@ use Rattle.marks.specs.Laid.{Was, Stands}
 use Rattle.marks.specs.Says.{Says}
 use Rattle.marks.specs.declared.state.Given.{Given}
 use Rattle.marks.specs.declared.state.Mark.{Mark}
-use Rattle.marks.specs.declared.state.Answer.{Answer}
+use Rattle.marks.specs.Told.{Answer}
 
 -- One prefix, at token i, about what was read.
 abbrev pub operator_about : rule.Given → ℕ → Result Placed → Result Placed

@@ -9,7 +9,7 @@ use Rattle.marks.specs.declared.state.Given.{Given}
 use Rattle.marks.specs.declared.state.Mark.{Mark}
 use Rattle.marks.specs.declared.state.Begin.{Begin}
 use Rattle.marks.specs.declared.state.Kids.{Kids}
-use Rattle.marks.specs.declared.state.Answer.{Answer}
+use Rattle.marks.specs.Told.{Answer}
 
 -- A part is alone behind those before it: there are none, and no mark stood before it.
 abbrev pub is_alone : (W : List ℕ) (mark : ℕ) (k : Kids) (m : Mark) → Bool

@@ -4,10 +4,11 @@ ghost use Rattle.words.specs.Test.{among};
 ghost use Rattle.rules.specs.List.{position};
 ghost use Rattle.rules.specs.Operator as rule;
 ghost use Rattle.marks.specs.State.{Sound, Inside, Moved};
+ghost use Rattle.marks.specs.Told.{told};
 ghost use Rattle.operators.specs.Operator.{PutAll, MakesOperators, MayPutOperators, PassesOperators};
 
 use marks::node::{Tag, put_about};
-use marks::state::{Answer, Begin, Given, Mark, kind_at, next};
+use marks::state::{Begin, Given, Mark, Read, Stop, kind_at, next};
 use words::cursor::{whole_kind, word_at};
 use words::kind::Kind;
 use words::token;
@@ -16,29 +17,19 @@ use words::token;
 fn operates(kind: usize) -> bool
     ensures { result ≡ among rule.operators kind }
 {
-    if kind == Kind::KEY_OF {
-        return true;
-    }
-    if kind == Kind::UNIQUE {
-        return true;
-    }
-    kind == Kind::READONLY
+    matches!(kind, Kind::KEY_OF | Kind::UNIQUE | Kind::READONLY)
 }
 
 // Which of keyof, unique, readonly it is, by the node table's number.
 fn operator_number(kind: usize) -> usize
     ensures { (result ≡ position kind rule.operators) × (result ≤ 3) }
 {
-    if kind == Kind::KEY_OF {
-        return 0;
+    match kind {
+        Kind::KEY_OF => 0,
+        Kind::UNIQUE => 1,
+        Kind::READONLY => 2,
+        _ => 3,
     }
-    if kind == Kind::UNIQUE {
-        return 1;
-    }
-    if kind == Kind::READONLY {
-        return 2;
-    }
-    3
 }
 
 // Past a chain of prefixes.
@@ -49,8 +40,7 @@ pub fn past_operators(words: &[u64], m: Mark) -> Mark
 {
     let mut p = m;
     while operates(kind_at(words, p)) {
-        let s = next(p);
-        p = s;
+        p = next(p);
     }
     p
 }
@@ -63,28 +53,22 @@ pub fn put_operators(
     name: usize,
     from: usize,
     to: usize,
-    a: Answer,
-) -> Answer
-    requires { MayPutOperators words.now nodes.old given name from to a }
-    ensures makes_operators { MakesOperators words.now given name from to a nodes.old result nodes.new }
-    ensures put_all { PutAll given a.m result }
+    a: Read,
+) -> Result<Read, Stop>
+    requires { MayPutOperators words.now nodes.old given name from to (told (Ok a)) }
+    ensures makes_operators { MakesOperators words.now given name from to (told (Ok a)) nodes.old (told result) nodes.new }
+    ensures put_all { PutAll given a.m (told result) }
 {
     let mut i = to;
-    let mut p = a.m;
-    let mut high = a.high;
+    let mut r = a;
     while from < i {
         i -= 1;
         let b = Begin {
             first: token::start(word_at(words, i)),
             name,
         };
-        let choices = Tag::OPERATOR + Tag::ALL * operator_number(whole_kind(words, i));
-        let c = put_about(words, nodes, given, b, choices, high, p);
-        if c.why != 0 {
-            return c;
-        }
-        p = c.m;
-        high = c.high;
+        let choices = Tag::Operator as usize + Tag::ALL * operator_number(whole_kind(words, i));
+        r = put_about(words, nodes, given, b, choices, r.high, r.m)?;
     }
-    Answer { why: 0, high, m: p }
+    Ok(r)
 }

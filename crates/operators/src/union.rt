@@ -3,19 +3,18 @@ ghost use Rattle.std.specs.Prelude.{◌≡◌, ◌*◌, ◌≤◌, ◌<◌, leng
 ghost use Rattle.words.specs.Limits.{most_tokens, tallest};
 ghost use Rattle.keys.specs.Limits.{record_words};
 ghost use Rattle.marks.specs.State.{Sound, Fine, Under};
+ghost use Rattle.marks.specs.Number.{tag_number};
+ghost use Rattle.marks.specs.Told.{told};
 ghost use Rattle.operators.specs.Union.{is_alone, Joins, JoinedAt};
 
-use marks::node::{link, put_list};
-use marks::state::{Answer, Begin, Given, Kids, Mark, kind_at};
+use marks::node::{Tag, link, put_list};
+use marks::state::{Begin, Given, Kids, Mark, Read, Stop, kind_at};
 
 // Whether a part is alone behind those before it: there are none, and no mark stood before it.
 fn alone(words: &[u64], mark: usize, k: Kids, m: Mark) -> bool
     ensures { result ≡ is_alone words.now mark k m }
 {
-    if k.count == 0 {
-        return kind_at(words, m) != mark;
-    }
-    false
+    k.count == 0 && kind_at(words, m) != mark
 }
 
 // The last part was read: alone it is just that, unless a mark stood before it, else it ends the list of a node.
@@ -24,21 +23,20 @@ pub fn joined(
     nodes: &mut [u64],
     given: Given,
     mark: usize,
-    tag: usize,
+    tag: Tag,
     k: Kids,
     before: usize,
     m: Mark,
-    a: Answer,
-) -> Answer
+    a: Read,
+) -> Result<Read, Stop>
     requires sound { Sound words.now × (given.room * record_words ≤ length nodes.old) × Fine (length words.now) given a.m × Under before k × (before < a.m.used) }
-    requires high_le_tallest { (a.high ≤ tallest) × (m.half ≤ 1) × (m.named ≤ most_tokens) × (tag < 64) }
-    ensures joins { Joins words.now given mark tag k before m nodes.old a result nodes.new }
-    ensures joined_at { JoinedAt given a result }
+    requires high_le_tallest { (a.high ≤ tallest) × (m.half ≤ 1) × (m.named ≤ most_tokens) }
+    ensures joins { Joins words.now given mark (tag_number tag) k before m nodes.old (told (Ok a)) (told result) nodes.new }
+    ensures joined_at { JoinedAt given (told (Ok a)) (told result) }
 {
     if alone(words, mark, k, m) {
-        return a;
+        return Ok(a);
     }
-    let q = a.m;
-    let l = link(nodes, k, before, q.used, a.high);
-    put_list(words, nodes, given, Begin::at(words, m), tag, l, q)
+    let l = link(nodes, k, before, a.m.used, a.high);
+    put_list(words, nodes, given, Begin::at(words, m), tag, l, a.m)
 }

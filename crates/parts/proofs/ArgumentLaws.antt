@@ -37,9 +37,9 @@ use Rattle.parts.proofs.NamingLaws.{name_tag, name_content, named_tree, named_sh
 use Rattle.marks.specs.declared.state.Given.{Given}
 use Rattle.marks.specs.declared.state.Mark.{Mark}
 use Rattle.marks.specs.declared.state.Begin.{Begin}
-use Rattle.marks.specs.declared.state.Listed.{Listed}
-use Rattle.marks.specs.declared.state.Answer.{Answer}
-use Rattle.parts.specs.declared.arguments.Named.{Named}
+use Rattle.marks.specs.Told.{Listed}
+use Rattle.marks.specs.Told.{Answer}
+use Rattle.parts.specs.Told.{Named}
 
 -- ---- Where a list of arguments opens
 

@@ -19,7 +19,7 @@ use Rattle.marks.proofs.ListLaws.{list_goes, list_closed}
 use Rattle.primaries.proofs.RingShapes.{piece_runs, AllPieces}
 use Rattle.marks.specs.declared.state.Mark.{Mark}
 use Rattle.marks.specs.declared.state.Kids.{Kids}
-use Rattle.marks.specs.declared.state.Answer.{Answer}
+use Rattle.marks.specs.Told.{Answer}
 
 -- A list of trees behind the run t.
 pub record ListTurn {A : Type 0} (c len : ℕ) (B : Was) (t : Run) (L : ℕ → List Placed → State → Result A) (x : Result A) (many : ℕ) (k : Kids) (p : Mark) (N M O : List ℕ) : Type 0 where

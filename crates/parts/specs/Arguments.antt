@@ -19,9 +19,9 @@ use Rattle.marks.specs.Says.{Says, SaysNames, is_there}
 use Rattle.marks.specs.declared.state.Given.{Given}
 use Rattle.marks.specs.declared.state.Mark.{Mark}
 use Rattle.marks.specs.declared.state.Begin.{Begin}
-use Rattle.marks.specs.declared.state.Answer.{Answer}
-use Rattle.marks.specs.declared.state.Listed.{Listed}
-use Rattle.parts.specs.declared.arguments.Named.{Named}
+use Rattle.marks.specs.Told.{Answer}
+use Rattle.marks.specs.Told.{Listed}
+use Rattle.parts.specs.Told.{Named}
 
 -- What a reference, typeof or import has before its arguments: which it is, and its names.
 pub data Naming : Type 0 where

@@ -15,8 +15,8 @@ use Rattle.marks.specs.declared.state.Given.{Given}
 use Rattle.marks.specs.declared.state.Mark.{Mark}
 use Rattle.marks.specs.declared.state.Begin.{Begin}
 use Rattle.marks.specs.declared.state.Kids.{Kids}
-use Rattle.marks.specs.declared.state.Head.{Head}
-use Rattle.marks.specs.declared.state.Answer.{Answer}
+use Rattle.marks.specs.Told.{Head}
+use Rattle.marks.specs.Told.{Answer}
 
 -- From behind the `{` to the constraint: readonly, and the key.
 abbrev pub mapped_head : rule.Given → State → Result (ℕ × Spelling)

@@ -3,15 +3,16 @@ ghost use Rattle.std.specs.Prelude.{◌≡◌, List, ℕ, ◌+◌, ◌<◌, ◌^
 ghost use Rattle.words.specs.Class.{class_words};
 ghost use Rattle.rules.specs.Postfix as rule;
 ghost use Rattle.marks.specs.State.{AnyGiven, view, given_of, Reached, place_of};
+ghost use Rattle.marks.specs.Told.{told};
 ghost use Rattle.parts.specs.Mapped.{MakesClosed, close_square};
 ghost use Rattle.parts.specs.Postfix.{MakesArray};
 ghost use Rattle.marks.specs.Node.{MayPut, MayPutAbout};
 
 use marks::node::{Tag, put};
-use marks::refusal::Refusal;
-use marks::state::{Answer, Begin, Given, Kids, Mark, kind_at, next, on_line};
+use marks::state::{Begin, Given, Kids, Mark, Read, Stop, kind_at, next, on_line};
 use words::ahead::starter;
 use words::kind::Kind;
+use words::refusal::Refusal;
 
 // Whether a mark follows on the line; a `?` that a type could follow is none.
 pub fn suffixed(words: &[u64], classes: &[u16; 256], m: Mark) -> bool
@@ -21,14 +22,11 @@ pub fn suffixed(words: &[u64], classes: &[u16; 256], m: Mark) -> bool
     if !on_line(words, m) {
         return false;
     }
-    let kind = kind_at(words, m);
-    if kind == Kind::BANG {
-        return true;
+    match kind_at(words, m) {
+        Kind::BANG | Kind::L_BRACK => true,
+        Kind::QUESTION => !starter(words, classes, m.at + 1),
+        _ => false,
     }
-    if kind == Kind::QUESTION {
-        return !starter(words, classes, m.at + 1);
-    }
-    kind == Kind::L_BRACK
 }
 
 // An array: the `]` follows at once.
@@ -39,17 +37,17 @@ pub fn array(
     b: Begin,
     high: usize,
     m: Mark,
-) -> Answer
+) -> Result<Read, Stop>
     requires { MayPutAbout words.now nodes.old given b high m }
-    ensures makes_array { MakesArray words.now given b high m nodes.old result nodes.new }
-    ensures reached { Reached (length words.now) given (place_of m) (m.used + 1) result.high result.why result.m }
+    ensures makes_array { MakesArray words.now given b high m nodes.old (told result) nodes.new }
+    ensures reached { Reached (length words.now) given (place_of m) (m.used + 1) (told result).high (told result).why (told result).m }
 {
     bracketed(
         words,
         nodes,
         given,
         b,
-        Tag::ARRAY,
+        Tag::Array as usize,
         Kids::one(m.used, high),
         m,
     )
@@ -64,13 +62,16 @@ pub fn bracketed(
     choices: usize,
     k: Kids,
     m: Mark,
-) -> Answer
+) -> Result<Read, Stop>
     requires { MayPut words.now nodes.old given b k m }
-    ensures makes_closed { MakesClosed close_square words.now given b choices k m nodes.old result nodes.new }
-    ensures reached { Reached (length words.now) given (place_of m) (m.used + 1) result.high result.why result.m }
+    ensures makes_closed { MakesClosed close_square words.now given b choices k m nodes.old (told result) nodes.new }
+    ensures reached { Reached (length words.now) given (place_of m) (m.used + 1) (told result).high (told result).why (told result).m }
 {
     if kind_at(words, m) != Kind::R_BRACK {
-        return Answer::refused(Refusal::UNEXPECTED, m);
+        return Err(Stop {
+            why: Refusal::Unexpected,
+            m,
+        });
     }
     put(words, nodes, given, b, choices, k, next(m))
 }

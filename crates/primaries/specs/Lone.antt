@@ -11,7 +11,7 @@ use Rattle.marks.specs.Says.{Says}
 use Rattle.primaries.specs.Primary.{MayPutToken}
 use Rattle.marks.specs.declared.state.Given.{Given}
 use Rattle.marks.specs.declared.state.Mark.{Mark}
-use Rattle.marks.specs.declared.state.Answer.{Answer}
+use Rattle.marks.specs.Told.{Answer}
 
 -- Keywords but for `this`, which may begin a predicate.
 abbrev pub word_types : List ℕ

@@ -1,5 +1,6 @@
 -- What the rules still read from a point on, under names that the functions' contracts cite; each is a part of its rule's text.
 use Rattle.std.specs.Prelude.{Bool, true, false, List, [], ◌∷◌, ◌≡◌, ℕ, ◌+◌, ◌<◌, length}
+use Rattle.words.specs.Refusal.{number_of}
 use Rattle.words.specs.Test.{test}
 use Rattle.words.specs.Cursor.{kind_at}
 use Rattle.words.specs.Kind.{LCurly, LBrack, RBrack, RCurly, Question, Colon, Semicolon, Arrow, Minus, NoSubstitutionTemplate, TemplateHead, Typeof, Import, Is, As}
@@ -19,7 +20,7 @@ use Rattle.marks.specs.Says.{Says}
 use Rattle.marks.specs.List.{here}
 use Rattle.primaries.specs.Primary.{is_literal}
 use Rattle.marks.specs.declared.state.Mark.{Mark}
-use Rattle.marks.specs.declared.state.Answer.{Answer}
+use Rattle.marks.specs.Told.{Answer}
 use Rattle.primaries.specs.declared.primary.Start.{Start}
 use Rattle.primaries.specs.declared.primary.Start.TheVariants.{Keyword, Literal, This, Asserts, Name, Mapped, Object, Tuple, Parens, Template, Nothing}
 
@@ -96,7 +97,7 @@ StartAs x Object g T s = (x ≡ object g T s) × (kind g s ≡ LCurly)
 StartAs x Tuple g T s = (x ≡ tuple g T s) × (kind g s ≡ LBrack)
 StartAs x Parens g T s = x ≡ primary.brackets g T s
 StartAs x Template g T s = (x ≡ template g T s) × (kind g s ≡ TemplateHead)
-StartAs x (Nothing why) g T s = x ≡ refused why s
+StartAs x (Nothing why) g T s = x ≡ refused (number_of why) s
 
 -- The same of the whole rule.
 abbrev pub StartIs : Start → Given → Reader → State → Type 0
@@ -118,7 +119,7 @@ StartHas Object W m = m.at < length W
 StartHas Tuple W m = m.at < length W
 StartHas Parens W m = m.at < length W
 StartHas Template W m = m.at < length W
-StartHas (Nothing why) W m = 0 < why
+StartHas (Nothing why) W m = 0 < number_of why
 
 -- The mark of a predicate's subject.
 abbrev pub subject_mark : Bool → Mark → Mark

@@ -19,7 +19,7 @@ use Rattle.marks.specs.List.{here}
 use Rattle.marks.specs.declared.state.Given.{Given}
 use Rattle.marks.specs.declared.state.Mark.{Mark}
 use Rattle.marks.specs.declared.state.Begin.{Begin}
-use Rattle.marks.specs.declared.state.Answer.{Answer}
+use Rattle.marks.specs.Told.{Answer}
 
 -- A literal stands here, a negative one, or a template with no type in it.
 abbrev pub is_literal : rule.Given → State → Bool

@@ -13,18 +13,19 @@ ghost use Rattle.marks.specs.State.{AnyGiven, view, given_of, Sound, Inside, Rea
 ghost use Rattle.marks.specs.Laid.{was};
 ghost use Rattle.marks.specs.Says.{Says};
 ghost use Rattle.marks.specs.List.{here};
+ghost use Rattle.marks.specs.Told.{told};
 ghost use Rattle.primaries.specs.Primary.{predicate_choices, literal_choices, SaysSpelled, SaysNegative, MakesParens, MayPutLiteral, MayPutSpelled, MayPutToken, SpeaksSubject};
 ghost use Rattle.primaries.specs.Onward.{subject_at, subject_mark, StartIs, StartHas, ReferenceIs, ReferenceHas, SaysLiteral, StartsAs};
 ghost use Rattle.marks.specs.Node.{MayPutAbout};
 
 use marks::names::spell;
 use marks::node::{Tag, put, put_about};
-use marks::refusal::Refusal;
 use marks::state::{
-    Answer, Begin, Given, Head, Kids, Mark, kind_after, kind_at, next, next_on_line,
+    Begin, Given, Head, Kids, Mark, Read, Stop, kind_after, kind_at, next, next_on_line,
 };
 use words::ahead::mapped_start;
 use words::kind::{Class, Kind, in_class};
+use words::refusal::Refusal;
 
 // What a primary type begins as.
 #[derive(Clone, Copy)]
@@ -43,8 +44,8 @@ pub enum Start {
     Tuple,
     Parens,
     Template,
-    // a refusal's number
-    Nothing(usize),
+    // why nothing does
+    Nothing(Refusal),
 }
 
 // Whether the return type begins as a predicate: some name, and `is` on its line.
@@ -52,13 +53,9 @@ pub fn predicates(words: &[u64], classes: &[u16; 256], m: Mark) -> bool
     requires { (classes.now ≡ class_words) × (m.at < 2 ^ 63) }
     ensures { (text O : List ℕ) (given : AnyGiven) → result ≡ function.predicates (given_of text words.now given) (view m O) }
 {
-    if !in_class(classes, kind_at(words, m), Class::NAME) {
-        return false;
-    }
-    if kind_after(words, m, 1) != Kind::IS {
-        return false;
-    }
-    next_on_line(words, m)
+    in_class(classes, kind_at(words, m), Class::NAME)
+        && kind_after(words, m, 1) == Kind::IS
+        && next_on_line(words, m)
 }
 
 // Whether a keyword stands here: null, void, or a type's word with no dot behind it.
@@ -67,33 +64,20 @@ fn is_keyword(words: &[u64], m: Mark) -> bool
     ensures { (text O : List ℕ) (given : AnyGiven) → result ≡ rule.is_keyword (given_of text words.now given) (view m O) }
 {
     let kind = kind_at(words, m);
-    if kind == Kind::NULL {
+    if kind == Kind::NULL || kind == Kind::VOID {
         return true;
     }
-    if kind == Kind::VOID {
-        return true;
-    }
-    if kind < Kind::ANY {
-        return false;
-    }
-    if Kind::UNKNOWN < kind {
-        return false;
-    }
-    kind_after(words, m, 1) != Kind::DOT
+    Kind::ANY <= kind && kind <= Kind::UNKNOWN && kind_after(words, m, 1) != Kind::DOT
 }
 
 // Whether a kind is a literal's.
 pub fn is_literal(kind: usize) -> bool
     ensures { result ≡ among rule.literals kind }
 {
-    match kind {
-        Kind::STR => true,
-        Kind::NUMBER_LITERAL => true,
-        Kind::BIG_INT_LITERAL => true,
-        Kind::TRUE => true,
-        Kind::FALSE => true,
-        _ => false,
-    }
+    matches!(
+        kind,
+        Kind::STR | Kind::NUMBER_LITERAL | Kind::BIG_INT_LITERAL | Kind::TRUE | Kind::FALSE
+    )
 }
 
 // Whether a number or bigint stands after a `-`.
@@ -101,14 +85,11 @@ fn is_negative(words: &[u64], m: Mark) -> bool
     requires { m.at < 2 ^ 63 }
     ensures { (text O : List ℕ) (given : AnyGiven) → result ≡ rule.is_negative (given_of text words.now given) (view m O) }
 {
-    if kind_at(words, m) != Kind::MINUS {
-        return false;
-    }
-    let kind = kind_after(words, m, 1);
-    if kind == Kind::NUMBER_LITERAL {
-        return true;
-    }
-    kind == Kind::BIG_INT_LITERAL
+    kind_at(words, m) == Kind::MINUS
+        && matches!(
+            kind_after(words, m, 1),
+            Kind::NUMBER_LITERAL | Kind::BIG_INT_LITERAL
+        )
 }
 
 // Whether asserts stands here with its subject on the same line.
@@ -116,13 +97,9 @@ fn is_assertion(words: &[u64], classes: &[u16; 256], m: Mark) -> bool
     requires { (classes.now ≡ class_words) × (m.at < 2 ^ 63) }
     ensures { (text O : List ℕ) (given : AnyGiven) → result ≡ rule.is_assertion (given_of text words.now given) (view m O) }
 {
-    if kind_at(words, m) != Kind::ASSERTS {
-        return false;
-    }
-    if !in_class(classes, kind_after(words, m, 1), Class::NAME) {
-        return false;
-    }
-    next_on_line(words, m)
+    kind_at(words, m) == Kind::ASSERTS
+        && in_class(classes, kind_after(words, m, 1), Class::NAME)
+        && next_on_line(words, m)
 }
 
 // Keywords, this and literals; if none stands here, the others.
@@ -153,9 +130,10 @@ fn this_start(words: &[u64], classes: &[u16; 256], m: Mark) -> Start
     ensures start_has { StartHas result words.now m }
 {
     if predicates(words, classes, m) {
-        return Start::This;
+        Start::This
+    } else {
+        Start::Keyword
     }
-    Start::Keyword
 }
 
 // What asserts, typeof or import begins; if none does, what is enclosed.
@@ -168,10 +146,7 @@ fn worded(words: &[u64], classes: &[u16; 256], m: Mark) -> Start
         return Start::Asserts;
     }
     let kind = kind_at(words, m);
-    if kind == Kind::TYPEOF {
-        return Start::Name;
-    }
-    if kind == Kind::IMPORT {
+    if kind == Kind::TYPEOF || kind == Kind::IMPORT {
         return Start::Name;
     }
     enclosed(words, classes, kind, m)
@@ -200,9 +175,10 @@ fn curly(words: &[u64], classes: &[u16; 256], m: Mark) -> Start
     ensures start_has { StartHas result words.now m }
 {
     if mapped_start(words, classes, m.at) {
-        return Start::Mapped;
+        Start::Mapped
+    } else {
+        Start::Object
     }
-    Start::Object
 }
 
 // A reference; the three prefix marks are known but refused.
@@ -215,10 +191,10 @@ fn other_start(classes: &[u16; 256], kind: usize) -> Start
         return Start::Name;
     }
     match kind {
-        Kind::QUESTION => Start::Nothing(Refusal::PREFIX_MARK),
-        Kind::BANG => Start::Nothing(Refusal::PREFIX_MARK),
-        Kind::STAR => Start::Nothing(Refusal::PREFIX_MARK),
-        _ => Start::Nothing(Refusal::UNEXPECTED),
+        Kind::QUESTION => Start::Nothing(Refusal::PrefixMark),
+        Kind::BANG => Start::Nothing(Refusal::PrefixMark),
+        Kind::STAR => Start::Nothing(Refusal::PrefixMark),
+        _ => Start::Nothing(Refusal::Unexpected),
     }
 }
 
@@ -248,12 +224,12 @@ fn keyword_number(kind: usize) -> usize
 }
 
 // A keyword.
-pub fn keyword(words: &[u64], nodes: &mut [u64], given: Given, m: Mark) -> Answer
+pub fn keyword(words: &[u64], nodes: &mut [u64], given: Given, m: Mark) -> Result<Read, Stop>
     requires { MayPutToken words.now nodes.old given m }
-    ensures by_index { (text M O : List ℕ) → Says 0 (was m nodes.old M O) (rule.keyword (given_of text words.now given) (view m O)) result nodes.new M O }
-    ensures reached { Reached (length words.now) given (m.at * 2 + 2) (m.used + 1) result.high result.why result.m }
+    ensures by_index { (text M O : List ℕ) → Says 0 (was m nodes.old M O) (rule.keyword (given_of text words.now given) (view m O)) (told result) nodes.new M O }
+    ensures reached { Reached (length words.now) given (m.at * 2 + 2) (m.used + 1) (told result).high (told result).why (told result).m }
 {
-    let choices = Tag::KEYWORD + Tag::ALL * keyword_number(kind_at(words, m));
+    let choices = Tag::Keyword as usize + Tag::ALL * keyword_number(kind_at(words, m));
     put(
         words,
         nodes,
@@ -266,10 +242,16 @@ pub fn keyword(words: &[u64], nodes: &mut [u64], given: Given, m: Mark) -> Answe
 }
 
 // A literal, a negative one, or a whole template.
-pub fn literal(words: &[u64], nodes: &mut [u64], names: &mut [u64], given: Given, m: Mark) -> Answer
+pub fn literal(
+    words: &[u64],
+    nodes: &mut [u64],
+    names: &mut [u64],
+    given: Given,
+    m: Mark,
+) -> Result<Read, Stop>
     requires { MayPutLiteral words.now nodes.old given m }
-    ensures says_literal { SaysLiteral words.now given m nodes.old names.old result nodes.new names.new }
-    ensures reached { Reached (length words.now) given (m.at * 2 + 2) (m.used + 1) result.high result.why result.m }
+    ensures says_literal { SaysLiteral words.now given m nodes.old names.old (told result) nodes.new names.new }
+    ensures reached { Reached (length words.now) given (m.at * 2 + 2) (m.used + 1) (told result).high (told result).why (told result).m }
 {
     let b = Begin::at(words, m);
     let kind = kind_at(words, m);
@@ -325,16 +307,12 @@ impl LiteralChoices {
 fn literal_choices(kind: usize) -> usize
     ensures { result ≡ literal_choices kind }
 {
-    if kind == Kind::STR {
-        return LiteralChoices::STRING;
+    match kind {
+        Kind::STR => LiteralChoices::STRING,
+        Kind::NUMBER_LITERAL => LiteralChoices::NUMBER,
+        Kind::BIG_INT_LITERAL => LiteralChoices::BIG_INT,
+        _ => Tag::Template as usize,
     }
-    if kind == Kind::NUMBER_LITERAL {
-        return LiteralChoices::NUMBER;
-    }
-    if kind == Kind::BIG_INT_LITERAL {
-        return LiteralChoices::BIG_INT;
-    }
-    Tag::TEMPLATE
 }
 
 // A node of one name, the token at m.
@@ -346,10 +324,10 @@ pub fn spelled(
     b: Begin,
     choices: usize,
     m: Mark,
-) -> Answer
+) -> Result<Read, Stop>
     requires { MayPutSpelled words.now nodes.old given b m }
-    ensures says_spelled { SaysSpelled words.now given b choices m nodes.old names.old result nodes.new names.new }
-    ensures reached { Reached (length words.now) given (m.at * 2 + 2) (m.used + 1) result.high result.why result.m }
+    ensures says_spelled { SaysSpelled words.now given b choices m nodes.old names.old (told result) nodes.new names.new }
+    ensures reached { Reached (length words.now) given (m.at * 2 + 2) (m.used + 1) (told result).high (told result).why (told result).m }
 {
     let q = spell(words, names, m);
     put(words, nodes, given, b, choices, Kids::none(), q)
@@ -363,10 +341,10 @@ fn literal_negative(
     given: Given,
     b: Begin,
     m: Mark,
-) -> Answer
+) -> Result<Read, Stop>
     requires { MayPutSpelled words.now nodes.old given b m }
-    ensures says_negative { SaysNegative words.now given b m nodes.old names.old result nodes.new names.new }
-    ensures reached { Reached (length words.now) given (m.at * 2 + 2) (m.used + 1) result.high result.why result.m }
+    ensures says_negative { SaysNegative words.now given b m nodes.old names.old (told result) nodes.new names.new }
+    ensures reached { Reached (length words.now) given (m.at * 2 + 2) (m.used + 1) (told result).high (told result).why (told result).m }
 {
     if kind_at(words, m) == Kind::NUMBER_LITERAL {
         return spelled(
@@ -400,19 +378,22 @@ pub fn parens_node(
     b: Begin,
     high: usize,
     m: Mark,
-) -> Answer
+) -> Result<Read, Stop>
     requires { MayPutAbout words.now nodes.old given b high m }
-    ensures makes_parens { MakesParens words.now given b high m nodes.old result nodes.new }
-    ensures reached { Reached (length words.now) given (place_of m) m.used result.high result.why result.m }
+    ensures makes_parens { MakesParens words.now given b high m nodes.old (told result) nodes.new }
+    ensures reached { Reached (length words.now) given (place_of m) m.used (told result).high (told result).why (told result).m }
 {
     if kind_at(words, m) != Kind::R_PAREN {
-        return Answer::refused(Refusal::UNEXPECTED, m);
+        return Err(Stop {
+            why: Refusal::Unexpected,
+            m,
+        });
     }
     let q = next(m);
     if given.parens {
-        return put_about(words, nodes, given, b, Tag::PARENS, high, q);
+        return put_about(words, nodes, given, b, Tag::Parens as usize, high, q);
     }
-    Answer { why: 0, high, m: q }
+    Ok(Read { high, m: q })
 }
 
 // ---- Predicates
@@ -425,9 +406,10 @@ pub fn subject(words: &[u64], names: &mut [u64], asserts: bool, m: Mark) -> Head
     ensures at_value { (result.m.at ≡ m.at + unit asserts + 1) × (result.m.half ≡ 0) × (result.m.used ≡ m.used) × (result.m.noted ≡ m.noted) × (m.named ≤ result.m.named) × (result.m.named ≤ m.named + 1) }
 {
     if asserts {
-        return subject_at(words, names, Tag::PREDICATE + Tag::ALL, next(m));
+        subject_at(words, names, Tag::Predicate as usize + Tag::ALL, next(m))
+    } else {
+        subject_at(words, names, Tag::Predicate as usize, m)
     }
-    subject_at(words, names, Tag::PREDICATE, m)
 }
 
 // The subject at m.
@@ -438,15 +420,14 @@ fn subject_at(words: &[u64], names: &mut [u64], choices: usize, m: Mark) -> Head
     ensures at_value { (result.m.at ≡ m.at + 1) × (result.m.half ≡ 0) × (result.m.used ≡ m.used) × (result.m.noted ≡ m.noted) × (m.named ≤ result.m.named) × (result.m.named ≤ m.named + 1) }
 {
     if kind_at(words, m) == Kind::THIS {
-        return Head {
-            why: 0,
+        Head {
             choices: choices + 2 * Tag::ALL,
             m: next(m),
-        };
-    }
-    Head {
-        why: 0,
-        choices,
-        m: spell(words, names, m),
+        }
+    } else {
+        Head {
+            choices,
+            m: spell(words, names, m),
+        }
     }
 }

@@ -38,10 +38,10 @@ use Rattle.marks.proofs.MarkLaws.{fine_noted}
 use Rattle.marks.specs.declared.state.Given.{Given}
 use Rattle.marks.specs.declared.state.Mark.{Mark}
 use Rattle.marks.specs.declared.state.Begin.{Begin}
-use Rattle.marks.specs.declared.state.Answer.{Answer}
+use Rattle.marks.specs.Told.{Answer}
 use Rattle.keys.specs.declared.store.Place.{Place}
 use Rattle.tuples.specs.declared.tuple.Label.{Label}
-use Rattle.tuples.specs.declared.tuple.Latest.{Latest}
+use Rattle.tuples.specs.Told.{Latest}
 
 -- ---- A tree stays where a diagnostic is reported
 
@@ -266,13 +266,21 @@ module _ (given : Given) (latest : Latest) (m : Mark) (N O : List ℕ) (h : m.us
   pub checks_other : (place : Place) (a : Answer) (O' : List ℕ) → optional_word (last_word N m.used) ≡ false → latest.there ≡ true → (last_word N m.used % tags ≡ 21 → ⊥)
       → place.first ≡ first_at N (m.used - 1) → place.end ≡ end_at N (m.used - 1)
       → Reports true given (note_both required_after_optional place.first place.end latest.place.first latest.place.end) m O a O'
-      → Checks given latest m N O (record { why = a.why; latest = latest; m = a.m }) O'
-  checks_other place a O' n y k f l w =
-      record {
-        done = λ z text W B o e high M i s.
-            (opened text W o i s ∙ reports_done text W (read e) w z, latest_stays o e (sym (element_optional h some s) ∙ n) i, stands_reported w s);
-        refused = λ z text W B o e high M i s. opened text W o i s ∙ reports_refused text W (read e) w z;
-      }
+      → (a.why ≡ 0 → Checks given latest m N O (record { why = 0; latest = latest; m = a.m }) O')
+      × ((a.why ≡ 0 → ⊥) → (now : Latest) → Checks given latest m N O (record { why = a.why; latest = now; m = a.m }) O')
+  checks_other place a O' n y k f l w = (
+    λ z.
+        record {
+          done = λ _ text W B o e high M i s.
+              (opened text W o i s ∙ reports_done text W (read e) w z, latest_stays o e (sym (element_optional h some s) ∙ n) i, stands_reported w s);
+          refused = λ n. absurd (n refl);
+        },
+    λ z now.
+        record {
+          done = λ e. absurd (z e);
+          refused = λ _ text W B o e high M i s. opened text W o i s ∙ reports_refused text W (read e) w z;
+        },
+  )
     where
       -- The report, by what is known of the code's bytes.
       reported : (text W : List ℕ) (e : Placed) → Bool → (first last first' last' : ℕ) → Result Placed

@@ -22,10 +22,10 @@ use Rattle.marks.specs.declared.state.Given.{Given}
 use Rattle.marks.specs.declared.state.Mark.{Mark}
 use Rattle.marks.specs.declared.state.Begin.{Begin}
 use Rattle.marks.specs.declared.state.Kids.{Kids}
-use Rattle.marks.specs.declared.state.Answer.{Answer}
+use Rattle.marks.specs.Told.{Answer}
 use Rattle.tuples.specs.declared.tuple.Label.{Label}
-use Rattle.tuples.specs.declared.tuple.Latest.{Latest}
-use Rattle.tuples.specs.declared.tuple.Seen.{Seen}
+use Rattle.tuples.specs.Told.{Latest}
+use Rattle.tuples.specs.Told.{Seen}
 
 -- Behind the label of a member: past its `?` and its colon.
 abbrev pub type_mark : List ℕ → Mark → Mark

@@ -5,6 +5,8 @@ ghost use Rattle.keys.specs.Limits.{record_words};
 ghost use Rattle.marks.specs.State.{next_mark, Sound, Inside, Along, Reached, place_of};
 ghost use Rattle.marks.specs.Node.{Put, MakesList, MakesAbout};
 ghost use Rattle.marks.specs.Names.{Speaks, MayName};
+ghost use Rattle.marks.specs.Told.{told};
+ghost use Rattle.tuples.specs.Told.{told_latest, told_seen};
 ghost use Rattle.tuples.specs.Tuple.{LabelIs, LabelSmall, labelled_at, label_at, member_choices, Converts, MakesMember, MakesRest, MakesElement, optional_word, last_word, Checks, SeenAt, MayPutElement, MayPutMember, MayPutTuple, StartsElement};
 
 use keys::store::{Place, place_at};
@@ -12,7 +14,7 @@ use marks::names::spell;
 use marks::node::{Tag, put_about, put_list};
 use marks::notes::{Note, Noting, report_both, report_if};
 use marks::state::{
-    Answer, Begin, Given, Kids, Mark, end_byte, first_byte, kind_after, kind_at, next, past,
+    Begin, Given, Kids, Mark, Read, Stop, end_byte, first_byte, kind_after, kind_at, next, past,
 };
 use words::kind::{Class, Kind, in_class};
 
@@ -38,14 +40,11 @@ fn is_next_token_colon_or_question_colon(words: &[u64], classes: &[u16; 256], m:
     if !in_class(classes, kind_at(words, m), Class::NAME) {
         return false;
     }
-    let kind = kind_after(words, m, 1);
-    if kind == Kind::COLON {
-        return true;
+    match kind_after(words, m, 1) {
+        Kind::COLON => true,
+        Kind::QUESTION => kind_after(words, m, 2) == Kind::COLON,
+        _ => false,
     }
-    if kind != Kind::QUESTION {
-        return false;
-    }
-    kind_after(words, m, 2) == Kind::COLON
 }
 
 // An element up to its type.
@@ -109,7 +108,7 @@ fn convert_type_to_tuple_element(nodes: &mut [u64], used: usize) -> bool
 {
     let i = used * 4 - 4;
     let word = nodes[i];
-    if word % 64 != Tag::ASKED as u64 {
+    if word % 64 != Tag::Asked as usize as u64 {
         return false;
     }
     // the tag stands lowest: 24 becomes 20
@@ -124,21 +123,20 @@ pub fn element_node(
     notes: &mut [u64; Noting::WORDS],
     given: Given,
     l: Label,
-    a: Answer,
-) -> Answer
-    requires { MayPutElement words.now nodes.old given l a }
-    ensures makes_element { MakesElement words.now given l a nodes.old notes.old result nodes.new notes.new }
-    ensures reached { Reached (length words.now) given (place_of a.m) a.m.used result.high result.why result.m }
+    a: Read,
+) -> Result<Read, Stop>
+    requires { MayPutElement words.now nodes.old given l (told (Ok a)) }
+    ensures makes_element { MakesElement words.now given l (told (Ok a)) nodes.old notes.old (told result) nodes.new notes.new }
+    ensures reached { Reached (length words.now) given (place_of a.m) a.m.used (told result).high (told result).why (told result).m }
 {
-    let q = a.m;
     if l.labelled {
         return member(words, nodes, notes, given, l, a);
     }
     if l.rest {
-        return put_about(words, nodes, given, l.b, Tag::REST, a.high, q);
+        return put_about(words, nodes, given, l.b, Tag::Rest as usize, a.high, a.m);
     }
-    convert_type_to_tuple_element(nodes, q.used);
-    a
+    convert_type_to_tuple_element(nodes, a.m.used);
+    Ok(a)
 }
 
 // A member; diagnostics 5 and 6 for dots and `?` at its type.
@@ -148,30 +146,35 @@ fn member(
     notes: &mut [u64; Noting::WORDS],
     given: Given,
     l: Label,
-    a: Answer,
-) -> Answer
+    a: Read,
+) -> Result<Read, Stop>
     requires { MayPutMember words.now nodes.old given l a.high a.m }
-    ensures makes_member { MakesMember words.now given l a nodes.old notes.old result nodes.new notes.new }
-    ensures reached { Reached (length words.now) given (place_of a.m) a.m.used result.high result.why result.m }
+    ensures makes_member { MakesMember words.now given l (told (Ok a)) nodes.old notes.old (told result) nodes.new notes.new }
+    ensures reached { Reached (length words.now) given (place_of a.m) a.m.used (told result).high (told result).why (told result).m }
 {
     let q = a.m;
     let converted = convert_type_to_tuple_element(nodes, q.used);
-    let c = member_node(words, nodes, given, l, a.high, q);
-    if c.why != 0 {
-        return c;
-    }
+    let c = member_node(words, nodes, given, l, a.high, q)?;
     let end = end_byte(words, q);
-    let dots = Note::REST_AFTER_LABEL;
-    let d = report_if(l.dots, notes, given, dots, l.typed, end, c.m);
-    if d.why != 0 {
-        return d;
-    }
-    let asked = Note::ASKED_AFTER_LABEL;
-    let e = report_if(converted, notes, given, asked, l.typed, end, d.m);
-    if e.why != 0 {
-        return e;
-    }
-    rest_of(words, nodes, notes, given, l, c.high, e.m)
+    let n = report_if(
+        l.dots,
+        notes,
+        given,
+        Note::RestAfterLabel,
+        l.typed,
+        end,
+        c.m,
+    )?;
+    let n = report_if(
+        converted,
+        notes,
+        given,
+        Note::AskedAfterLabel,
+        l.typed,
+        end,
+        n,
+    )?;
+    rest_of(words, nodes, notes, given, l, c.high, n)
 }
 
 // The node of a member, by whether a `?` stood after its label.
@@ -182,20 +185,17 @@ fn member_node(
     l: Label,
     high: usize,
     m: Mark,
-) -> Answer
+) -> Result<Read, Stop>
     requires { MayPutMember words.now nodes.old given l high m }
-    ensures makes_about { MakesAbout words.now given (record { first = l.first; name = l.b.name }) (member_choices l.asked) high m nodes.old result nodes.new }
-    ensures put { Put given m result }
+    ensures makes_about { MakesAbout words.now given (record { first = l.first; name = l.b.name }) (member_choices l.asked) high m nodes.old (told result) nodes.new }
+    ensures put { Put given m (told result) }
 {
-    let own = l.b;
     let b = Begin {
         first: l.first,
-        name: own.name,
+        ..l.b
     };
-    if l.asked {
-        return put_about(words, nodes, given, b, Tag::NAMED + Tag::ALL, high, m);
-    }
-    put_about(words, nodes, given, b, Tag::NAMED, high, m)
+    let choices = Tag::Named as usize + Tag::ALL * usize::from(l.asked);
+    put_about(words, nodes, given, b, choices, high, m)
 }
 
 // A member, or a rest about it; diagnostic 7 if that is optional too.
@@ -207,56 +207,32 @@ fn rest_of(
     l: Label,
     high: usize,
     m: Mark,
-) -> Answer
+) -> Result<Read, Stop>
     requires { MayPutMember words.now nodes.old given l high m }
-    ensures makes_rest { MakesRest words.now given l high m nodes.old notes.old result nodes.new notes.new }
-    ensures reached { Reached (length words.now) given (place_of m) m.used result.high result.why result.m }
+    ensures makes_rest { MakesRest words.now given l high m nodes.old notes.old (told result) nodes.new notes.new }
+    ensures reached { Reached (length words.now) given (place_of m) m.used (told result).high (told result).why (told result).m }
 {
     if !l.rest {
-        return Answer { why: 0, high, m };
+        return Ok(Read { high, m });
     }
-    let b = l.b;
-    let a = report_if(
+    let q = report_if(
         l.asked,
         notes,
         given,
-        Note::OPTIONAL_AND_REST,
-        b.first,
+        Note::OptionalAndRest,
+        l.b.first,
         end_byte(words, m),
         m,
-    );
-    if a.why != 0 {
-        return a;
-    }
-    put_about(words, nodes, given, b, Tag::REST, high, a.m)
+    )?;
+    put_about(words, nodes, given, l.b, Tag::Rest as usize, high, q)
 }
 
 // ---- Diagnostic 4
 
-// The latest optional element of a tuple, if there is one, by its place.
-#[derive(Clone, Copy)]
-pub struct Latest {
-    pub there: bool,
-    pub place: Place,
-}
-
-impl Latest {
-    // None yet.
-    pub fn none() -> Latest
-        ensures { result.there ≡ false }
-    {
-        Latest {
-            there: false,
-            place: Place { first: 0, end: 0 },
-        }
-    }
-}
-
-// What a tuple knows of its elements: the latest optional one, and where reading stands; or a refusal.
+// What a tuple knows of its elements: the place of the latest optional one, if there is one, and where reading stands.
 #[derive(Clone, Copy)]
 pub struct Seen {
-    pub why: usize,
-    pub latest: Latest,
+    pub latest: Option<Place>,
     pub m: Mark,
 }
 
@@ -266,14 +242,7 @@ fn is_optional(nodes: &[u64], used: usize) -> bool
     ensures { result ≡ optional_word (last_word nodes.now used) }
 {
     let tag = last_tag(nodes, used);
-    if tag == Tag::OPTIONAL {
-        return true;
-    }
-    if tag != Tag::NAMED {
-        return false;
-    }
-    let i = used * 4 - 4;
-    nodes[i] / 64 % 2 == 1
+    tag == Tag::Optional as usize || tag == Tag::Named as usize && nodes[used * 4 - 4] / 64 % 2 == 1
 }
 
 // The element read last, after others: diagnostic 4 for one that is neither optional nor a rest, if there is an optional one before it.
@@ -281,36 +250,26 @@ pub fn checked(
     nodes: &[u64],
     notes: &mut [u64; Noting::WORDS],
     given: Given,
-    latest: Latest,
+    latest: Option<Place>,
     m: Mark,
-) -> Seen
+) -> Result<Seen, Stop>
     requires { (m.noted ≤ given.records) × (1 ≤ m.used) × (m.used * record_words ≤ length nodes.now) }
-    ensures checks { Checks given latest m nodes.now notes.old result notes.new }
-    ensures seen_at { SeenAt given m result }
+    ensures checks { Checks given (told_latest latest) m nodes.now notes.old (told_seen result) notes.new }
+    ensures seen_at { SeenAt given m (told_seen result) }
 {
     let place = place_at(nodes, m.used - 1);
     if is_optional(nodes, m.used) {
-        let now = Latest { there: true, place };
-        return Seen {
-            why: 0,
-            latest: now,
-            m,
-        };
+        let latest = Some(place);
+        return Ok(Seen { latest, m });
     }
-    if !latest.there {
-        return Seen { why: 0, latest, m };
+    let Some(other) = latest else {
+        return Ok(Seen { latest, m });
+    };
+    if last_tag(nodes, m.used) == Tag::Rest as usize {
+        return Ok(Seen { latest, m });
     }
-    if last_tag(nodes, m.used) == Tag::REST {
-        return Seen { why: 0, latest, m };
-    }
-    let other = latest.place;
-    let a = report_both(notes, given, Note::REQUIRED_AFTER_OPTIONAL, place, other, m);
-    let q = a.m;
-    Seen {
-        why: a.why,
-        latest,
-        m: q,
-    }
+    let m = report_both(notes, given, Note::RequiredAfterOptional, place, other, m)?;
+    Ok(Seen { latest, m })
 }
 
 // From the `]` here on: the tuple's node.
@@ -321,10 +280,10 @@ pub fn tuple_node(
     b: Begin,
     k: Kids,
     m: Mark,
-) -> Answer
+) -> Result<Read, Stop>
     requires { MayPutTuple words.now nodes.old given b k m }
-    ensures makes_list { MakesList words.now given b 19 k (next_mark m) nodes.old result nodes.new }
-    ensures put { Put given (next_mark m) result }
+    ensures makes_list { MakesList words.now given b 19 k (next_mark m) nodes.old (told result) nodes.new }
+    ensures put { Put given (next_mark m) (told result) }
 {
-    put_list(words, nodes, given, b, Tag::TUPLE, k, next(m))
+    put_list(words, nodes, given, b, Tag::Tuple, k, next(m))
 }

@@ -13,10 +13,10 @@ use Rattle.operators.proofs.operator.put_operators.Given as goal
 
 abbrev pub invariant-loop-i : goal.invariant-loop-i
 invariant-loop-i l =
-    (length l.nodes ≡ length l.initial.nodes) × (l.from ≤ l.i) × (l.i ≤ l.to) × (l.p.at ≡ l.initial.p.at) × (l.p.half ≡ l.initial.p.half) × (l.p.named ≡ l.initial.p.named) × (l.p.noted ≡ l.initial.p.noted)
-    × (l.initial.p.used ≤ l.p.used) × (l.p.used ≤ l.given.room) × (l.high ≤ tallest)
-    × ((text : List ℕ) (B : Was) (t : Placed) (M O : List ℕ) → Stands 0 B t l.initial.high l.initial.p l.initial.nodes M O → l.name ≡ B.named
-    → Left (given_of text l.words l.given) l.from (l.to - l.from) (l.i - l.from) (read t (view l.initial.p O)) B l.high l.p l.nodes M O)
+    (length l.nodes ≡ length l.initial.nodes) × (l.from ≤ l.i) × (l.i ≤ l.to) × (l.r.m.at ≡ l.initial.r.m.at) × (l.r.m.half ≡ l.initial.r.m.half) × (l.r.m.named ≡ l.initial.r.m.named) × (l.r.m.noted ≡ l.initial.r.m.noted)
+    × (l.initial.r.m.used ≤ l.r.m.used) × (l.r.m.used ≤ l.given.room) × (l.r.high ≤ tallest)
+    × ((text : List ℕ) (B : Was) (t : Placed) (M O : List ℕ) → Stands 0 B t l.initial.r.high l.initial.r.m l.initial.nodes M O → l.name ≡ B.named
+    → Left (given_of text l.words l.given) l.from (l.to - l.from) (l.i - l.from) (read t (view l.initial.r.m O)) B l.r.high l.r.m l.nodes M O)
 
 abbrev pub decreases-loop-i : goal.decreases-loop-i
 decreases-loop-i l = l.i

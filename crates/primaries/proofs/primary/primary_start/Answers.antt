@@ -9,54 +9,51 @@ use Rattle.marks.proofs.MarkLaws.{kind_inside}
 use Rattle.rules.specs.Primary as rule
 use Rattle.primaries.proofs.primary.primary_start.Goals as goal
 
-pub returns-then-is_keyword : goal.returns-then-is_keyword
-returns-then-is_keyword c =
-    record {
-      by_index = λ text O given T.
-          let g = given_of text c.args.words.now given in
-          let s = view c.args.m O in
-          primary_keyword g T s (sym (c.is_keyword.ensures text O given) ∙ c.if-is_keyword.true);
-      start_has = keyword_inside (given_of [] c.args.words.now no_given) (view c.args.m []) (sym (c.is_keyword.ensures [] [] no_given) ∙ c.if-is_keyword.true);
-    }
+pub returns-then-is_keyword-clause-by_index : goal.returns-then-is_keyword-clause-by_index
+returns-then-is_keyword-clause-by_index c =
+    λ text O given T.
+    let g = given_of text c.args.words.now given in
+    let s = view c.args.m O in
+    primary_keyword g T s (sym (c.is_keyword.ensures text O given) ∙ c.if-is_keyword.true)
 
-pub returns-then-kind_at-eq-THIS : goal.returns-then-kind_at-eq-THIS
-returns-then-kind_at-eq-THIS c =
-    record {
-      by_index = λ text O given T.
-          let g = given_of text c.args.words.now given in
-          let s = view c.args.m O in
-          start_from c.this_start.result g T s (primary_this g T s (sym (c.is_keyword.ensures text O given) ∙ c.if-is_keyword.false) (eq_at 102 c.kind_at.ensures.value c.if-kind_at-eq-THIS.true)) (c.this_start.ensures.starts_as text O given T);
-      start_has = c.this_start.ensures.start_has;
-    }
+pub returns-then-is_keyword-clause-start_has : goal.returns-then-is_keyword-clause-start_has
+returns-then-is_keyword-clause-start_has c =
+    keyword_inside (given_of [] c.args.words.now no_given) (view c.args.m []) (sym (c.is_keyword.ensures [] [] no_given) ∙ c.if-is_keyword.true)
 
-pub returns-then-is_literal : goal.returns-then-is_literal
-returns-then-is_literal c =
-    record {
-      by_index = λ text O given T.
-          let g = given_of text c.args.words.now given in
-          let s = view c.args.m O in
-          let l = (ap (among rule.literals) (sym c.kind_at-2.ensures.value) ∙ sym c.is_literal.ensures ∙ c.if-is_literal.true) in
-          (primary_literal g T s (sym (c.is_keyword.ensures text O given) ∙ c.if-is_keyword.false) (ne_at 102 c.kind_at.ensures.value c.if-kind_at-eq-THIS.false) l ∙ sym (literal_at_lem g T s l), literal_here g T s l);
-      start_has = (kind_inside (among rule.literals) c.args.words.now c.args.m.at c.args.m.half refl (ap (among rule.literals) (sym c.kind_at-2.ensures.value) ∙ sym c.is_literal.ensures ∙ c.if-is_literal.true), λ h. absurd (minus_off (among rule.literals) c.args.words.now c.args.m refl (ap (among rule.literals) (sym c.kind_at-2.ensures.value) ∙ sym c.is_literal.ensures ∙ c.if-is_literal.true) h));
-    }
+pub returns-then-kind_at-eq-THIS-clause-by_index : goal.returns-then-kind_at-eq-THIS-clause-by_index
+returns-then-kind_at-eq-THIS-clause-by_index c =
+    λ text O given T.
+    let g = given_of text c.args.words.now given in
+    let s = view c.args.m O in
+    start_from c.this_start.result g T s (primary_this g T s (sym (c.is_keyword.ensures text O given) ∙ c.if-is_keyword.false) (eq_at 102 c.kind_at.ensures.value c.if-kind_at-eq-THIS.true)) (c.this_start.ensures.starts_as text O given T)
 
-pub returns-then-is_negative : goal.returns-then-is_negative
-returns-then-is_negative c =
-    record {
-      by_index = λ text O given T.
-          let g = given_of text c.args.words.now given in
-          let s = view c.args.m O in
-          let n = (sym (c.is_negative.ensures text O given) ∙ c.if-is_negative.true) in
-          (primary_negative g T s (sym (c.is_keyword.ensures text O given) ∙ c.if-is_keyword.false) (ne_at 102 c.kind_at.ensures.value c.if-kind_at-eq-THIS.false) (ap (among rule.literals) (sym c.kind_at-2.ensures.value) ∙ sym c.is_literal.ensures ∙ c.if-is_literal.false) n ∙ sym (negative_at g T s n), negative_here g T s n);
-      start_has = (omega (arith, negative_inside (given_of [] c.args.words.now no_given) (view c.args.m []) (sym (c.is_negative.ensures [] [] no_given) ∙ c.if-is_negative.true)), λ h. negative_inside (given_of [] c.args.words.now no_given) (view c.args.m []) (sym (c.is_negative.ensures [] [] no_given) ∙ c.if-is_negative.true));
-    }
+pub returns-then-is_literal-clause-by_index : goal.returns-then-is_literal-clause-by_index
+returns-then-is_literal-clause-by_index c =
+    λ text O given T.
+    let g = given_of text c.args.words.now given in
+    let s = view c.args.m O in
+    let l = (ap (among rule.literals) (sym c.kind_at-2.ensures.value) ∙ sym c.is_literal.ensures ∙ c.if-is_literal.true) in
+    (primary_literal g T s (sym (c.is_keyword.ensures text O given) ∙ c.if-is_keyword.false) (ne_at 102 c.kind_at.ensures.value c.if-kind_at-eq-THIS.false) l ∙ sym (literal_at_lem g T s l), literal_here g T s l)
 
-pub returns : goal.returns
-returns c =
-    record {
-      by_index = λ text O given T.
-          let g = given_of text c.args.words.now given in
-          let s = view c.args.m O in
-          start_from c.worded.result g T s (primary_worded g T s (sym (c.is_keyword.ensures text O given) ∙ c.if-is_keyword.false) (ne_at 102 c.kind_at.ensures.value c.if-kind_at-eq-THIS.false) (ap (among rule.literals) (sym c.kind_at-2.ensures.value) ∙ sym c.is_literal.ensures ∙ c.if-is_literal.false) (sym (c.is_negative.ensures text O given) ∙ c.if-is_negative.false)) (c.worded.ensures.starts_as text O given T);
-      start_has = c.worded.ensures.start_has;
-    }
+pub returns-then-is_literal-clause-start_has : goal.returns-then-is_literal-clause-start_has
+returns-then-is_literal-clause-start_has c =
+    (kind_inside (among rule.literals) c.args.words.now c.args.m.at c.args.m.half refl (ap (among rule.literals) (sym c.kind_at-2.ensures.value) ∙ sym c.is_literal.ensures ∙ c.if-is_literal.true), λ h. absurd (minus_off (among rule.literals) c.args.words.now c.args.m refl (ap (among rule.literals) (sym c.kind_at-2.ensures.value) ∙ sym c.is_literal.ensures ∙ c.if-is_literal.true) h))
+
+pub returns-clause-by_index : goal.returns-clause-by_index
+returns-clause-by_index c =
+    λ text O given T.
+    let g = given_of text c.args.words.now given in
+    let s = view c.args.m O in
+    start_from c.worded.result g T s (primary_worded g T s (sym (c.is_keyword.ensures text O given) ∙ c.if-is_keyword.false) (ne_at 102 c.kind_at.ensures.value c.if-kind_at-eq-THIS.false) (ap (among rule.literals) (sym c.kind_at-2.ensures.value) ∙ sym c.is_literal.ensures ∙ c.if-is_literal.false) (sym (c.is_negative.ensures text O given) ∙ c.if-is_negative.false)) (c.worded.ensures.starts_as text O given T)
+
+pub returns-then-is_negative-clause-by_index : goal.returns-then-is_negative-clause-by_index
+returns-then-is_negative-clause-by_index c =
+    λ text O given T.
+    let g = given_of text c.args.words.now given in
+    let s = view c.args.m O in
+    let n = (sym (c.is_negative.ensures text O given) ∙ c.if-is_negative.true) in
+    (primary_negative g T s (sym (c.is_keyword.ensures text O given) ∙ c.if-is_keyword.false) (ne_at 102 c.kind_at.ensures.value c.if-kind_at-eq-THIS.false) (ap (among rule.literals) (sym c.kind_at-2.ensures.value) ∙ sym c.is_literal.ensures ∙ c.if-is_literal.false) n ∙ sym (negative_at g T s n), negative_here g T s n)
+
+pub returns-then-is_negative-clause-start_has : goal.returns-then-is_negative-clause-start_has
+returns-then-is_negative-clause-start_has c =
+    (omega (arith, negative_inside (given_of [] c.args.words.now no_given) (view c.args.m []) (sym (c.is_negative.ensures [] [] no_given) ∙ c.if-is_negative.true)), λ h. negative_inside (given_of [] c.args.words.now no_given) (view c.args.m []) (sym (c.is_negative.ensures [] [] no_given) ∙ c.if-is_negative.true))

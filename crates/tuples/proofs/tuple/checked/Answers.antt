@@ -1,32 +1,28 @@
 -- Optional, the first, a rest, or none of these: then the diagnostic, where the record says.
 use mathlib.Core.Path.{refl, sym, ◌∙◌}
-use native.Mathlib.Omega.{arith}
+use Rattle.std.specs.Prelude.{Some, None}
+use Rattle.marks.proofs.ToldLaws.{handed_on, refusal_some}
+use Rattle.tuples.specs.Told.{told_latest}
 use Rattle.tuples.proofs.MemberLaws.{checks_optional, checks_first, checks_rest, checks_other}
-use borrow.Author.Tests.{not-true, not-false}
 use Rattle.tuples.proofs.tuple.checked.Goals as goal
 
-pub returns-then-is_optional : goal.returns-then-is_optional
-returns-then-is_optional c =
-    record { checks = checks_optional c.args.given c.args.latest c.args.m c.args.nodes.now c.args.notes.now c.requires.2 c.requires.1 c.place_at-place.result (sym c.is_optional.ensures ∙ c.if-is_optional.true) c.place_at-place.ensures.0 c.place_at-place.ensures.1; seen_at = record { at_is = refl; half_is = refl; used_is = refl; named_is = refl; more = omega arith; recorded = c.requires.0 } }
+pub returns-then-is_optional-clause-checks : goal.returns-then-is_optional-clause-checks
+returns-then-is_optional-clause-checks c =
+    checks_optional c.args.given (told_latest c.args.latest) c.args.m c.args.nodes.now c.args.notes.now c.requires.2 c.requires.1 c.place_at-place.result (sym c.is_optional.ensures ∙ c.if-is_optional.true) c.place_at-place.ensures.0 c.place_at-place.ensures.1
 
-pub returns-then-not-latest : goal.returns-then-not-latest
-returns-then-not-latest c =
-    record { checks = checks_first c.args.given c.args.latest c.args.m c.args.nodes.now c.args.notes.now c.requires.2 c.requires.1 (sym c.is_optional.ensures ∙ c.if-is_optional.false) (not-true _ c.if-not-latest.true); seen_at = record { at_is = refl; half_is = refl; used_is = refl; named_is = refl; more = omega arith; recorded = c.requires.0 } }
+pub returns-in_default-clause-checks : goal.returns-in_default-clause-checks
+returns-in_default-clause-checks c =
+    rw c.in_default.is (checks_first c.args.given (told_latest None) c.args.m c.args.nodes.now c.args.notes.now c.requires.2 c.requires.1 (sym c.is_optional.ensures ∙ c.if-is_optional.false) refl)
 
-pub returns-then-last_tag-eq-REST : goal.returns-then-last_tag-eq-REST
-returns-then-last_tag-eq-REST c =
-    record { checks = checks_rest c.args.given c.args.latest c.args.m c.args.nodes.now c.args.notes.now c.requires.2 c.requires.1 (sym c.is_optional.ensures ∙ c.if-is_optional.false) (sym c.last_tag.ensures ∙ c.if-last_tag-eq-REST.true); seen_at = record { at_is = refl; half_is = refl; used_is = refl; named_is = refl; more = omega arith; recorded = c.requires.0 } }
+pub returns-then-last_tag-clause-checks : goal.returns-then-last_tag-clause-checks
+returns-then-last_tag-clause-checks c =
+    rw c.in-Some.is (checks_rest c.args.given (told_latest (Some c.in-Some.other)) c.args.m c.args.nodes.now c.args.notes.now c.requires.2 c.requires.1 (sym c.is_optional.ensures ∙ c.if-is_optional.false) (sym c.last_tag.ensures ∙ c.if-last_tag.true))
 
-pub returns : goal.returns
-returns c =
-    record {
-      checks = checks_other c.args.given c.args.latest c.args.m c.args.nodes.now c.args.notes.now c.requires.2 c.requires.1 c.place_at-place.result c.report_both-a.result _ (sym c.is_optional.ensures ∙ c.if-is_optional.false) (not-false _ c.if-not-latest.false) (λ z. c.if-last_tag-eq-REST.false (c.last_tag.ensures ∙ z)) c.place_at-place.ensures.0 c.place_at-place.ensures.1 c.report_both-a.ensures.reports;
-      seen_at = record {
-        at_is = c.report_both-a.ensures.noted.at_is;
-        half_is = c.report_both-a.ensures.noted.half_is;
-        used_is = c.report_both-a.ensures.noted.used_is;
-        named_is = c.report_both-a.ensures.noted.named_is;
-        more = c.report_both-a.ensures.noted.more;
-        recorded = c.report_both-a.ensures.noted.recorded;
-      };
-    }
+pub returns-in_err-m-clause-checks : goal.returns-in_err-m-clause-checks
+returns-in_err-m-clause-checks c =
+    rw (handed_on c.from_residual.ensures.1, c.in-Some.is)
+    ((checks_other c.args.given (told_latest (Some c.in-Some.other)) c.args.m c.args.nodes.now c.args.notes.now c.requires.2 c.requires.1 c.place_at-place.result _ _ (sym c.is_optional.ensures ∙ c.if-is_optional.false) refl (λ z. c.if-last_tag.false (c.last_tag.ensures ∙ z)) c.place_at-place.ensures.0 c.place_at-place.ensures.1 c.in_err-m.ensures.reports).1 (refusal_some c.in_err-m.field-0.0.why) (told_latest None))
+
+pub returns-clause-checks : goal.returns-clause-checks
+returns-clause-checks c =
+    rw c.in-Some.is ((checks_other c.args.given (told_latest (Some c.in-Some.other)) c.args.m c.args.nodes.now c.args.notes.now c.requires.2 c.requires.1 c.place_at-place.result _ _ (sym c.is_optional.ensures ∙ c.if-is_optional.false) refl (λ z. c.if-last_tag.false (c.last_tag.ensures ∙ z)) c.place_at-place.ensures.0 c.place_at-place.ensures.1 c.in_ok-m.ensures.reports).0 refl)
