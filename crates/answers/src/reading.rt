@@ -8,7 +8,7 @@ ghost use Rattle.answers.specs.Reading.{Refuses, NoSpace, Held, Finishes, Wrote}
 
 use key_out::out::put_key;
 use keys::store;
-use keys::store::{clear_bytes, clear_words};
+use keys::store::clear;
 use marks::notes::{Noting, copy_notes};
 use marks::refusal::Refusal;
 use marks::state::Mark;
@@ -53,10 +53,10 @@ pub fn refuse(
 ) -> Reading
     ensures { Refuses nodes names notes key r result }
 {
-    clear_words(nodes, 0);
-    clear_words(names, 0);
-    clear_words(notes, 0);
-    clear_bytes(key, 0);
+    nodes.fill(0);
+    names.fill(0);
+    notes.fill(0);
+    key.fill(0);
     Reading::Refused(r)
 }
 
@@ -80,7 +80,7 @@ fn put(nodes: &[u64], names: &[u64], text: &[u8], root: usize, key: &mut [u8]) -
     if key.len() <= Key::MOST {
         return put_key(nodes, names, text, root, Tree::TALLEST, key);
     }
-    clear_bytes(key, 0);
+    key.fill(0);
     let most = Key::MOST;
     put_key(nodes, names, text, root, Tree::TALLEST, &mut key[..most])
 }
@@ -105,8 +105,8 @@ pub fn finish(
     if key.len() < n {
         return refuse(nodes, names, notes, key, no_space());
     }
-    clear_words(nodes, q.used * store::RECORD);
-    clear_words(names, q.named);
+    clear(nodes, q.used * store::RECORD, 0);
+    clear(names, q.named, 0);
     copy_notes(noting, q.noted, notes);
     let c = Counts {
         nodes: q.used,

@@ -35,7 +35,7 @@ pub enum Differing {
 fn declined(list: &mut [u64], why: Refusal, side: u32, bit: usize) -> Differing
     ensures { (result ≡ Differing.Refused (number_of why) side bit) × (list.new ≡ filled (length list.old) []) }
 {
-    store::clear_words(list, 0);
+    list.fill(0);
     Differing::Refused(why as u32, side, bit)
 }
 
@@ -70,6 +70,6 @@ pub fn differ(left: &[u8], right: &[u8], list: &mut [u64]) -> Differing
     if list.len() / PAIR < p.found {
         return declined(list, Refusal::ManyDifferences, NO_SIDE, 0);
     }
-    store::clear_words(list, p.found * PAIR);
+    store::clear(list, p.found * PAIR, 0);
     Differing::Found(p.found)
 }

@@ -133,7 +133,7 @@ pub fn varies(words: &[u64], classes: &[u16; 256], m: Mark) -> bool
 {
     match kind_at(words, m) {
         Kind::CONST | Kind::IN => true,
-        Kind::OUT => in_class(classes, kind_after(words, m, 1), Class::BINDING_WORD),
+        Kind::OUT => in_class(classes, kind_after(words, m, 1), Class::BindingWord),
         _ => false,
     }
 }
@@ -179,7 +179,7 @@ pub fn param_head(
             m: p,
         });
     }
-    let q = name(words, classes, names, Class::BINDING_WORD, p)?;
+    let q = name(words, classes, names, Class::BindingWord, p)?;
     let asked = kind_at(words, q) == Kind::QUESTION;
     Ok(Head {
         choices: usize::from(rest) + 2 * usize::from(asked),

@@ -176,15 +176,15 @@ pub fn take_back(
 {
     match take_whole(key, nodes, names, text) {
         Ok(q) => {
-            store::clear_words(nodes, q.used * store::RECORD);
-            store::clear_words(names, q.names);
-            store::clear_bytes(text, q.chars);
+            store::clear(nodes, q.used * store::RECORD, 0);
+            store::clear(names, q.names, 0);
+            store::clear(text, q.chars, 0);
             Ok((q.used, q.names, q.chars))
         }
         Err(stop) => {
-            store::clear_words(nodes, 0);
-            store::clear_words(names, 0);
-            store::clear_bytes(text, 0);
+            nodes.fill(0);
+            names.fill(0);
+            text.fill(0);
             Err(Stop {
                 bit: place_of(stop),
                 ..stop

@@ -1,6 +1,6 @@
 // Names, names that are bound, and names with dots between.
 ghost use Rattle.std.specs.Prelude.{◌≡◌, ◌+◌, ◌≤◌, ◌<◌, length};
-ghost use Rattle.words.specs.Class.{class_words};
+ghost use Rattle.words.specs.Class.{bit_of, class_words};
 ghost use Rattle.rules.specs.Names as rule;
 ghost use Rattle.marks.specs.State.{Sound, Inside, Along, Stepped, named_mark};
 ghost use Rattle.marks.specs.Told.{told_mark};
@@ -35,11 +35,11 @@ pub fn name(
     words: &[u64],
     classes: &[u16; 256],
     names: &mut [u64],
-    class: usize,
+    class: Class,
     m: Mark,
 ) -> Result<Mark, Stop>
-    requires { (classes.now ≡ class_words) × Sound words.now × Inside (length words.now) m × (m.named ≤ m.at) × (class ≤ 1) }
-    ensures starts_names { StartsNames one Any (one_name class) words.now m names.old (told_mark result).why (told_mark result).m names.new }
+    requires { (classes.now ≡ class_words) × Sound words.now × Inside (length words.now) m × (m.named ≤ m.at) × (bit_of class ≤ 1) }
+    ensures starts_names { StartsNames one Any (one_name (bit_of class)) words.now m names.old (told_mark result).why (told_mark result).m names.new }
     ensures along { Along (length words.now) m (told_mark result).m × (m.at < (told_mark result).m.at + (told_mark result).why) }
 {
     if !in_class(classes, kind_at(words, m), class) {
@@ -71,7 +71,7 @@ pub fn bound(
     ensures starts_bound { StartsBound rule.bound words.now given m names.old notes.old (told_mark result) names.new notes.new }
     ensures stepped { Stepped (length words.now) given m (told_mark result) × (m.at < (told_mark result).m.at + (told_mark result).why) }
 {
-    let q = name(words, classes, names, Class::BINDING_WORD, m)?;
+    let q = name(words, classes, names, Class::BindingWord, m)?;
     report_if(
         reserved(kind_at(words, m)),
         notes,
@@ -91,7 +91,7 @@ pub fn dots(words: &[u64], classes: &[u16; 256], names: &mut [u64], m: Mark) -> 
 {
     let mut p = m;
     while kind_at(words, p) == Kind::DOT {
-        p = name(words, classes, names, Class::NAME, next(p))?;
+        p = name(words, classes, names, Class::Name, next(p))?;
     }
     Ok(p)
 }
@@ -107,6 +107,6 @@ pub fn dotted_name(
     ensures starts_names { StartsNames (λ k. k) Any rule.dotted words.now m names.old (told_mark result).why (told_mark result).m names.new }
     ensures along { Along (length words.now) m (told_mark result).m × (m.at < (told_mark result).m.at + (told_mark result).why) }
 {
-    let q = name(words, classes, names, Class::NAME, m)?;
+    let q = name(words, classes, names, Class::Name, m)?;
     dots(words, classes, names, q)
 }

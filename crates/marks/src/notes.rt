@@ -9,7 +9,7 @@ ghost use Rattle.marks.specs.Told.{told_mark};
 ghost use Rattle.marks.specs.Notes.{Reports, Noted};
 
 use crate::state::{Given, Mark, Stop};
-use keys::store::{Place, clear_words};
+use keys::store::{Place, clear};
 use words::limits::Notes;
 use words::refusal::Refusal;
 
@@ -144,5 +144,5 @@ pub fn copy_notes(noting: &[u64; Noting::WORDS], count: usize, notes: &mut [u64]
 {
     let words = count * Noting::RECORD;
     notes[..words].copy_from_slice(&noting[Noting::TALLIES..Noting::TALLIES + words]);
-    clear_words(notes, words);
+    clear(notes, words, 0);
 }

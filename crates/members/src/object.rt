@@ -377,7 +377,7 @@ pub fn index_head(
     ensures starts_bound { StartsBound index_start words.now given m names.old notes.old (told_mark result) names.new notes.new }
     ensures stepped { Stepped (length words.now) given m (told_mark result) × (m.at < (told_mark result).m.at + (told_mark result).why) }
 {
-    let p = name(words, classes, names, Class::BINDING_WORD, m)?;
+    let p = name(words, classes, names, Class::BindingWord, m)?;
     let a = report_if(
         kind_at(words, p) == Kind::QUESTION,
         notes,

@@ -74,7 +74,7 @@ pub fn mapped_head(
             m: p,
         });
     }
-    let q = name(words, classes, names, Class::BINDING_WORD, next(p))?;
+    let q = name(words, classes, names, Class::BindingWord, next(p))?;
     if kind_at(words, q) != Kind::IN {
         return Err(Stop {
             why: Refusal::Unexpected,

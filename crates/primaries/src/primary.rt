@@ -53,7 +53,7 @@ pub fn predicates(words: &[u64], classes: &[u16; 256], m: Mark) -> bool
     requires { (classes.now ≡ class_words) × (m.at < 2 ^ 63) }
     ensures { (text O : List ℕ) (given : AnyGiven) → result ≡ function.predicates (given_of text words.now given) (view m O) }
 {
-    in_class(classes, kind_at(words, m), Class::NAME)
+    in_class(classes, kind_at(words, m), Class::Name)
         && kind_after(words, m, 1) == Kind::IS
         && next_on_line(words, m)
 }
@@ -98,7 +98,7 @@ fn is_assertion(words: &[u64], classes: &[u16; 256], m: Mark) -> bool
     ensures { (text O : List ℕ) (given : AnyGiven) → result ≡ rule.is_assertion (given_of text words.now given) (view m O) }
 {
     kind_at(words, m) == Kind::ASSERTS
-        && in_class(classes, kind_after(words, m, 1), Class::NAME)
+        && in_class(classes, kind_after(words, m, 1), Class::Name)
         && next_on_line(words, m)
 }
 
@@ -187,7 +187,7 @@ fn other_start(classes: &[u16; 256], kind: usize) -> Start
     ensures reference_is { ReferenceIs kind result }
     ensures reference_has { ReferenceHas kind result }
 {
-    if in_class(classes, kind, Class::BINDING_WORD) {
+    if in_class(classes, kind, Class::BindingWord) {
         return Start::Name;
     }
     match kind {

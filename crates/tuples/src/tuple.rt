@@ -37,7 +37,7 @@ fn is_next_token_colon_or_question_colon(words: &[u64], classes: &[u16; 256], m:
     requires { (classes.now ≡ class_words) × (m.at < 2 ^ 63) }
     ensures { result ≡ labelled_at words.now m }
 {
-    if !in_class(classes, kind_at(words, m), Class::NAME) {
+    if !in_class(classes, kind_at(words, m), Class::Name) {
         return false;
     }
     match kind_after(words, m, 1) {
