@@ -1,5 +1,6 @@
 // The records of a file: their bytes, numbers of four and eight bytes, lowest first, and how a run ends.
-ghost use Rattle.std.specs.Prelude.{◌≡◌, ◌+◌, ◌*◌, ◌^◌, ◌<◌, ◌≤◌, length, take, [], OnOk, IfOk, MatchOption};
+ghost use Rattle.std.specs.Prelude.{◌≡◌, ◌+◌, ◌*◌, ◌^◌, ◌<◌, ◌≤◌, length, take, [], OnOk, IfOk, MatchOption, flat_map};
+ghost use Rattle.std.specs.Int.{to_le_bytes, w64};
 ghost use Rattle.io.specs.Counts.{IsPrefixLen};
 ghost use Rattle.std.specs.Io.KnownBytes.{Consumes};
 
@@ -58,14 +59,29 @@ pub fn load<R: Read>(from: &mut R, bytes: &mut [u8]) -> Result<(), Cut>
     Ok(())
 }
 
-// The next words of a reader, each of eight bytes.
-pub fn load_words<R: Read>(from: &mut R, words: &mut [u64]) -> Result<(), Cut>
-    ensures { length words.new ≡ length words.old }
+// The word of eight bytes.
+fn word_of(eight: [u8; 8]) -> u64
+    ensures { to_le_bytes w64 result ≡ eight }
+{
+    u64::from_le_bytes(eight)
+}
+
+// The next word of a reader.
+fn load_word<R: Read>(from: &mut R) -> Result<u64, Cut>
+    ensures { IfOk result (λ word. Consumes (R.remaining from.old) (R.remaining from.new) (to_le_bytes w64 word)) }
 {
     let mut eight = [0u8; 8];
+    load(from, &mut eight)?;
+    Ok(word_of(eight))
+}
+
+// The next words of a reader.
+pub fn load_words<R: Read>(from: &mut R, words: &mut [u64]) -> Result<(), Cut>
+    ensures len { length words.new ≡ length words.old }
+    ensures read { OnOk result (Consumes (R.remaining from.old) (R.remaining from.new) (flat_map (to_le_bytes w64) words.new)) }
+{
     for word in words {
-        load(from, &mut eight)?;
-        *word = u64::from_le_bytes(eight);
+        *word = load_word(from)?;
     }
     Ok(())
 }
@@ -76,11 +92,7 @@ pub fn each<
     H: From<[u8; N]>,
     F: FnMut(&mut R, H, &mut Out) -> Result<(), Cut>,
     const N: usize,
->(
-    from: &mut R,
-    out: &mut Out,
-    mut show: F,
-) -> Result<(), Cut>
+>(from: &mut R, out: &mut Out, mut show: F) -> Result<(), Cut>
 where
     F: Drop,
     requires size { N < 2 ^ 63 }
@@ -125,10 +137,7 @@ pub fn run<
     H: From<[u8; N]>,
     F: FnMut(&mut BufReader<R::File>, H, &mut Out) -> Result<(), Cut>,
     const N: usize,
->(
-    rt: &R,
-    show: F,
-) -> std::io::Result<()>
+>(rt: &R, show: F) -> std::io::Result<()>
 where
     F: Drop,
     requires size { N < 2 ^ 63 }
