@@ -25,7 +25,8 @@ use Rattle.node_table.proofs.FormsLaws.{words_are}
 use Rattle.node_table.specs.Moves.{Noded}
 use Rattle.node_table.proofs.MovesLaws.{all_put}
 use Rattle.key_out.specs.Out.{key_bits, Keyed}
-use Rattle.key_out.proofs.OutLaws.{bits_sound, items_written}
+use Rattle.key_out.specs.Sound.{bits_sound}
+use Rattle.key_out.proofs.OutLaws.{items_written}
 
 -- ---- Bytes and their bits
 

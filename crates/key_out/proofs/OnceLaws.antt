@@ -11,7 +11,6 @@ use mathlib.Core.List.{List, [], ◌++◌, append-nil}
 use Rattle.keys.specs.Bits.{Bits, bits_of, bits_of_bytes}
 use Rattle.keys.specs.Form.{Form, one, word, choose, both, Grammar, wider}
 use Rattle.words.proofs.Tests.{both_true}
-use Rattle.keys.specs.Limits.{count_width}
 use Rattle.keys.specs.Key.{node_table}
 use Rattle.keys.specs.Table.{when}
 use Rattle.keys.specs.Store.{Run, done, chose, name, called}
@@ -19,7 +18,6 @@ use Rattle.keys.specs.Holds.{word_at, child_at, Spells, Cursor, cursor, HoldsBy}
 use Rattle.fields.specs.Put.{Put}
 use Rattle.fields.proofs.PutLaws.{put_append, bits_three}
 use Rattle.node_table.specs.Moves.{Noded, Spelled, items}
-use Rattle.node_table.specs.Forms.{grammar_of, table_words}
 use Rattle.key_out.specs.Out.{key_bits, is_once}
 use Rattle.key_out.proofs.OutLaws.{items_written}
 use Rattle.keys.specs.Lines.{in_line, lined, tagged, Of, of_one, of_word, of_choose, written}
@@ -94,10 +92,10 @@ tag_number : (x : ℕ) → x < 16 → bits_of 10 (32 + x) ≡ bits_of 6 2 ++ bit
 tag_number x l = bits_three 10 0 6 4 0 2 x refl (omega arith) l
 
 -- ---- Such a node, put out
-module _ (G : Grammar) (e : G ≡ L) (N M X : List ℕ) (left at m to : ℕ) (k : List ℕ) where
+module _ (G : Grammar) (e : G ≡ L) (N M X : List ℕ) (left d at m to : ℕ) (k : List ℕ) where
   -- What a run has as items, under either table.
-  items_are : (a : Run) → items key_bits G N (tagged G 0) a (cursor (word_at N at) (child_at N at) m) 0 ≡ written L (tagged L 0) a
-  items_are a = items_written G N (tagged G 0) a (cursor (word_at N at) (child_at N at) m) 0 ∙ ap (λ (H : Grammar). written H (tagged H 0) a) e
+  items_are : (a : Run) → items key_bits G N (tagged G 0) a (cursor (word_at N at) (child_at N at) m) d ≡ written L (tagged L 0) a
+  items_are a = items_written G N (tagged G 0) a (cursor (word_at N at) (child_at N at) m) d ∙ ap (λ (H : Grammar). written H (tagged H 0) a) e
 
   of_line : (a : Run) → Of G (tagged G 0) a → Of L (tagged L 0) a
   of_line a o = subst (λ (H : Grammar). Of H (tagged H 0) a) e o
@@ -105,8 +103,8 @@ module _ (G : Grammar) (e : G ≡ L) (N M X : List ℕ) (left at m to : ℕ) (k 
   -- Bits, the name and bits behind it.
   pub named_put : {before after : Bits} {m' to1 to2 to3 : ℕ} {k1 k2 k3 : List ℕ}
       → ((a : Run) → Of L (tagged L 0) a → HoldsBy N (Spells M X) a (cursor (word_at N at) (child_at N at) m) → Named N (Spells M X) before after m a)
-      → Put to before to1 k k1 → Spelled key_bits (Spells M X) (length M) 16 0 m to1 k1 m' to2 k2 → Put to2 after to3 k2 k3
-      → Noded key_bits G N (Spells M X) left 0 (length M) 0 at m to k m' to3 k3
+      → Put to before to1 k k1 → Spelled key_bits (Spells M X) (length M) 16 d m to1 k1 m' to2 k2 → Put to2 after to3 k2 k3
+      → Noded key_bits G N (Spells M X) left d (length M) 0 at m to k m' to3 k3
   named_put {to3 = to3} {k3 = k3} is p q r =
       record {
         short = p.short;
@@ -121,7 +119,7 @@ module _ (G : Grammar) (e : G ≡ L) (N M X : List ℕ) (left at m to : ℕ) (k 
 
   -- A keyword's tag and number, in one field.
   pub keyword_put : {to1 : ℕ} {k1 : List ℕ} → word_at N at % 64 ≡ 2 → m ≤ length M → Put to (bits_of 10 (32 + word_at N at / 64 % 16)) to1 k k1
-      → Noded key_bits G N (Spells M X) left 0 (length M) 0 at m to k m to1 k1
+      → Noded key_bits G N (Spells M X) left d (length M) 0 at m to k m to1 k1
   keyword_put {to1 = to1} {k1 = k1} w l p =
       record {
         short = p.short;
@@ -145,10 +143,8 @@ once_type class w e =
 pub once_keyword : (w : ℕ) → (w ≡ 65 → ⊥) → (w ≡ 3 → ⊥) → is_once 0 w ≡ true → w % 64 ≡ 2
 once_keyword w a b e = eqb-true (w % 64) 2 (sym (rw (ne_eqb w 65 a, ne_eqb w 3 b)) ∙ e)
 
--- What is put under the node table is put under its words, and of the class that it has.
-pub once_noded : (N M X : List ℕ) (left class at : ℕ) {m to : ℕ} {k : List ℕ} {m' to' : ℕ} {k' : List ℕ} {T : List ℕ} → T ≡ table_words count_width → class ≡ 0
-    → Noded key_bits (grammar_of (table_words count_width)) N (Spells M X) left 0 (length M) 0 at m to k m' to' k'
-    → Noded key_bits (grammar_of T) N (Spells M X) left 0 (length M) class at m to k m' to' k'
-once_noded N M X left class at {m} {to} {k} {m'} {to'} {k'} t c n =
-    subst (λ (T : List ℕ). Noded key_bits (grammar_of T) N (Spells M X) left 0 (length M) class at m to k m' to' k') (sym t)
-    (subst (λ (x : ℕ). Noded key_bits (grammar_of (table_words count_width)) N (Spells M X) left 0 (length M) x at m to k m' to' k') (sym c) n)
+-- What is put of class 0 is put of a class that is 0.
+pub of_class : {G : Grammar} {N M X : List ℕ} {left d class at m to : ℕ} {k : List ℕ} {m' to' : ℕ} {k' : List ℕ} → class ≡ 0
+    → Noded key_bits G N (Spells M X) left d (length M) 0 at m to k m' to' k' → Noded key_bits G N (Spells M X) left d (length M) class at m to k m' to' k'
+of_class {G} {N} {M} {X} {left} {d} {class} {at} {m} {to} {k} {m'} {to'} {k'} c n =
+    subst (λ (x : ℕ). Noded key_bits G N (Spells M X) left d (length M) x at m to k m' to' k') (sym c) n

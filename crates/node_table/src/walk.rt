@@ -1,5 +1,5 @@
 // The walk of a tree that stands in the store, node by node and by the node table, whatever it puts out.
-ghost use Rattle.std.specs.Prelude.{◌≡◌, List, ℕ, ◌+◌, ◌*◌, ◌≤◌, ◌<◌, ◌^◌, length, IfSome, IfNone};
+ghost use Rattle.std.specs.Prelude.{◌≡◌, List, ℕ, ◌+◌, ◌*◌, ◌≤◌, ◌<◌, ◌^◌, length, Bool, true};
 ghost use Rattle.keys.specs.Limits.{widest, half_word, count_width};
 ghost use Rattle.keys.specs.Holds.{word_at};
 ghost use Rattle.fields.specs.Put.{far};
@@ -15,7 +15,7 @@ use keys::store;
 pub trait Sink: Copy {
     type Item: Copy;
 
-    // The output, what it asks of a name's spelling, how many names there are, and the items as numbers.
+    // The output, what it asks of a name's spelling, how many names there are, the items as numbers, and of which nodes class and word say all.
     ghost out: { Output };
 
     ghost asks: { Self → ℕ → List ℕ → Type 0 };
@@ -23,6 +23,8 @@ pub trait Sink: Copy {
     ghost most: { Self → ℕ };
 
     ghost seen: { List Self.Item → List ℕ };
+
+    ghost known: { (class word : ℕ) → Bool };
 
     // The depth of what a node holds.
     fn under(self, depth: usize) -> usize
@@ -51,7 +53,11 @@ pub trait Sink: Copy {
         requires { MayPut (seen items.old) o.to × (width ≤ widest) × (o.name ≤ most self) }
         ensures { Spelled out (asks self) (most self) width depth o.name o.to (seen items.old) result.name result.to (seen items.new) };
 
-    // All of a node of a class, if its word alone says what it holds.
+    // Do a node's class and its word alone say what it holds?
+    fn knows(self, class: usize, word: u64) -> bool
+        ensures { result ≡ known class word };
+
+    // All of such a node.
     fn at_once(
         self,
         items: &mut [Self::Item],
@@ -59,10 +65,9 @@ pub trait Sink: Copy {
         word: u64,
         depth: usize,
         o: Mark,
-    ) -> Option<Mark>
-        requires { MayPut (seen items.old) o.to × (o.name ≤ most self) }
-        ensures put { IfSome result (λ r. (N : List ℕ) (left at : ℕ) → word_at N at ≡ word → Noded out (grammar_of (table_words count_width)) N (asks self) left depth (most self) class at o.name o.to (seen items.old) r.name r.to (seen items.new)) }
-        ensures else_same { IfNone result (items.new ≡ items.old) };
+    ) -> Mark
+        requires { MayPut (seen items.old) o.to × (o.name ≤ most self) × (known class word ≡ true) }
+        ensures { (N : List ℕ) (left at : ℕ) → word_at N at ≡ word → Noded out (grammar_of (table_words count_width)) N (asks self) left depth (most self) class at o.name o.to (seen items.old) result.name result.to (seen items.new) };
 
     ghost sound: { Sound out };
 }
@@ -215,9 +220,10 @@ fn put_node<S: Sink>(
         }
         if s.into_child(r) {
             let child = store::node_at(nodes, s.child);
-            let q = match sink.at_once(items, r.a, child.word, under, s.mark) {
-                Some(q) => q,
-                None => put_node(
+            let q = if sink.knows(r.a, child.word) {
+                sink.at_once(items, r.a, child.word, under, s.mark)
+            } else {
+                put_node(
                     sink,
                     forms,
                     nodes,
@@ -227,7 +233,7 @@ fn put_node<S: Sink>(
                     left - 1,
                     s.child,
                     s.mark,
-                ),
+                )
             };
             s = after_child(sink, nodes, items, r.w, under, s, q).past_last(r);
         } else {
@@ -252,18 +258,18 @@ pub fn put_tree<S: Sink>(
     let forms = forms::words();
     let start = Mark { to, name: 0 };
     let own = store::node_at(nodes, root);
-    match sink.at_once(items, forms::TYPE, own.word, 0, start) {
-        Some(end) => end,
-        None => put_node(
-            sink,
-            &forms,
-            nodes,
-            items,
-            forms::TYPE,
-            0,
-            tall,
-            root,
-            start,
-        ),
+    if sink.knows(forms::TYPE, own.word) {
+        return sink.at_once(items, forms::TYPE, own.word, 0, start);
     }
+    put_node(
+        sink,
+        &forms,
+        nodes,
+        items,
+        forms::TYPE,
+        0,
+        tall,
+        root,
+        start,
+    )
 }

@@ -1,11 +1,10 @@
 -- The laws of visits: words are an output, and a walk of a tree that stands in a store puts out the tree's visits.
-use mathlib.Core.Path.{◌≡◌, refl, sym, ap, ap₂, ◌∙◌, subst}
+use mathlib.Core.Path.{◌≡◌, refl, ap, ap₂, ◌∙◌, subst}
 use mathlib.Core.List.{List, ◌++◌}
-use mathlib.Core.Logic.{◌⊎◌, inl, inr}
 use Prim.Native.Nat.{ℕ, suc, ◌+◌, ◌*◌, ◌/◌, ◌^◌, ◌≤◌, ◌<◌, min}
 use native.Mathlib.Omega.{arith}
-use lib.ListN.{length, set, replicate, length-append, length-set}
-use lib.Seq.{sets, length-sets}
+use lib.ListN.{length, set, replicate, length-set}
+use lib.Seq.{sets}
 use Rattle.keys.specs.Form.{Form, one, child, both, Grammar, branch, left, right, class, height, nodes}
 use Rattle.keys.specs.Limits.{newest, count_width, half_word}
 use Rattle.keys.specs.Placed.{Placed, bare}
@@ -14,46 +13,16 @@ use Rattle.keys.specs.Store.{Run, done, chose, name, kid, under, called, first_k
 use Rattle.keys.proofs.StoreLaws.{under_plant}
 use Rattle.keys.specs.Table.{type}
 use Rattle.keys.specs.Lines.{lined, tagged}
-use Rattle.keys.proofs.BitsLaws.{le_or_lt}
 use Rattle.keys.specs.Holds.{word_at, child_at, next_at, Cursor, cursor, HoldsBy, Stands}
 use Rattle.keys.proofs.HoldsLaws.{In, in_front, kid_in, of_type, root_is, stands_holds, stands_low}
 use Rattle.fields.specs.Put.{far}
-use Rattle.fields.proofs.PutLaws.{sets_append, sets_past, sets_copies}
+use Rattle.fields.proofs.PutLaws.{sets_copies}
 use Rattle.node_table.specs.Forms.{grammar_of, table_words}
 use Rattle.node_table.proofs.FormsLaws.{words_are}
 use Rattle.node_table.specs.Moves.{items, Spelled, Noded}
-use Rattle.node_table.proofs.MovesLaws.{Sound, spelled_none, all_put}
+use Rattle.node_table.proofs.MovesLaws.{spelled_none, all_put}
+use Rattle.visits.specs.Sound.{visits_sound}
 use Rattle.visits.specs.Visits.{Visited, Listed, visit_words, Named}
-
--- ---- Words as an output
-
-listed_append : {to m r : ℕ} {a b k k1 k2 : List ℕ} → Listed to a m k k1 → Listed m b r k1 k2 → Listed to (a ++ b) r k k2
-listed_append {to} {m} {r} {a} {b} {k} {k1} {k2} p q =
-    record {
-      short = p.short;
-      next = omega (arith, p.next, q.next, length-append a b);
-      same = q.same ∙ p.same;
-      is = q.is ∙ ap (λ (x : List ℕ). sets x m b) p.is ∙ at (le_or_lt (to + length a) far) ∙ sym (sets_append a b k to);
-    }
-  where
-    long : length (sets k to a) ≤ far
-    long = omega (arith, length-sets k to a, p.short)
-
-    at : (to + length a ≤ far) ⊎ (far < to + length a) → sets (sets k to a) m b ≡ sets (sets k to a) (to + length a) b
-    at (inl h) =
-        let e : m ≡ to + length a = omega (arith, p.next) in
-        ap (λ (i : ℕ). sets (sets k to a) i b) e
-    at (inr h) = sets_past b (sets k to a) m (omega (arith, p.next, long)) ∙ sym (sets_past b (sets k to a) (to + length a) (omega (arith, long)))
-
-pub visits_sound : Sound visit_words
-visits_sound =
-    record {
-      none = λ to k h l. record { short = l; next = omega arith; same = refl; is = refl };
-      append = λ p q. listed_append p q;
-      short = λ p. p.short;
-      stays = λ p. omega (arith, p.next);
-      same = λ p. p.same;
-    }
 
 -- Three words, one after the other.
 pub listed_visit : (to kind number depth r : ℕ) (k k1 k2 k3 : List ℕ) → length k * 8 ≤ far → k1 ≡ set k to kind → k2 ≡ set k1 (to + 1) number → k3 ≡ set k2 (to + 2) depth → (r ≡ min far (to + 3))
