@@ -9,7 +9,6 @@ use node_table::forms;
 use sound_keys::sound;
 use sound_keys::source::Source;
 use walks::sides::Sides;
-use walks::walk;
 use walks::walk::Both;
 use words::limits::Tree;
 use words::refusal::Refusal;
@@ -66,7 +65,7 @@ pub fn differ(left: &[u8], right: &[u8], list: &mut [u64]) -> Differing
         right: forms::EDITION_WIDTH,
         found: 0,
     };
-    let p = walk::walk_node(&sides, list, forms::TYPE, Tree::TALLEST, start);
+    let p = sides.walk_node(list, forms::TYPE, Tree::TALLEST, start);
     if list.len() / PAIR < p.found {
         return declined(list, Refusal::ManyDifferences, NO_SIDE, 0);
     }

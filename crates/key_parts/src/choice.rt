@@ -25,7 +25,7 @@ pub struct Pick {
 
 // A field of w bits that chooses, whose number leads where `jump` says: 10 where it is cut short or leads to no form.
 fn take_by<F: FnOnce(usize) -> Jump>(
-    forms: &[u16; TABLE],
+    forms: &[u16],
     key: &[u8],
     steps: usize,
     w: usize,
@@ -57,7 +57,7 @@ fn take_by<F: FnOnce(usize) -> Jump>(
 
 // A field that chooses, by its row.
 pub fn take_choice(
-    forms: &[u16; TABLE],
+    forms: &[u16],
     key: &[u8],
     steps: usize,
     r: Row,

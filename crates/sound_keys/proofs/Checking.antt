@@ -1,14 +1,20 @@
 -- Steps of the check: spellings, choices, nodes, and how they join.
 use mathlib.Core.Path.{◌≡◌, refl, sym, ap, ap₂, ◌∙◌, subst}
-use mathlib.Core.Bool.{true, false}
-use mathlib.Core.List.{List}
+use mathlib.Core.Bool.{Bool, true, false}
+use mathlib.Core.List.{List, []}
 use Rattle.std.proofs.Common.{Result, Ok, Err}
 use Prim.Native.Nat.{ℕ, suc, ◌+◌, ◌-◌, ◌*◌, ◌/◌, ◌^◌, ◌≤◌, ◌<◌}
 use native.Mathlib.Omega.{arith}
 use lib.ListN.{length, drop, length-drop}
-use Rattle.keys.specs.Bits.{Bits, field, take_field, take_bytes, bits_of_bytes}
-use Rattle.keys.proofs.BitsLaws.{length_bytes}
-use Rattle.keys.specs.Form.{Form, word, both, child, is_never}
+use Rattle.words.specs.Refusal.{number_of}
+use Rattle.key_parts.specs.Place.{Halts}
+use Rattle.key_parts.specs.Runs.{Ran, ran, halt, allowed_run, whole_run, choice_run}
+use Rattle.key_parts.specs.Choice.{Picked}
+use Rattle.key_parts.specs.declared.choice.Pick.{Pick}
+use Rattle.keys.specs.Store.{done, chose}
+use Rattle.keys.specs.Bits.{Bits, Field, short, field, take_field, take_bytes, bits_of_bytes}
+use Rattle.keys.proofs.BitsLaws.{clash, length_bytes}
+use Rattle.keys.specs.Form.{Form, word, both, child, is_never, state}
 use Rattle.keys.specs.Limits.{bad_key}
 use Rattle.fields.specs.Take.{answered}
 use Rattle.std.proofs.Common.{Some, None}
@@ -18,7 +24,7 @@ use Rattle.node_table.specs.declared.forms.Row.{Row}
 use Rattle.key_parts.proofs.NeverLaws.{before_one}
 use Rattle.key_parts.proofs.Steps.{bytes_cut, bytes_whole}
 use Rattle.differs.specs.Content.{Content, ends, chooses, spells, enters}
-use Rattle.sound_keys.specs.Sound.{Scan, reads, fails, ◌⊕◌, after, then_read, read_allowed, read_whole, read_letters, read_length, read_spelling, read_form, Stops, Goes, Passes, bad_at, SpellingsOn, AfterOn, Chosen, Unchosen, ChoiceOn, form_by_row, Stepped, PlainOn}
+use Rattle.sound_keys.specs.Sound.{Scan, reads, fails, ◌⊕◌, after, then_read, read_allowed, read_whole, read_letters, read_length, read_choice, read_spelling, read_form, Stops, Goes, Passes, bad_at, SpellingsOn, AfterOn, Chosen, ChoiceOn, form_by_row, Stepped, PlainOn}
 use Rattle.key_parts.specs.declared.refusal.Stop.{Stop}
 use Rattle.sound_keys.specs.declared.sound.Spot.{Spot}
 
@@ -158,28 +164,44 @@ after_none bs w bit h z X g = subst (λ (x : ℕ). Passes bs X (spelling_if x g)
 
 -- ---- A choice
 
-module _ (bs : Bits) (T : List ℕ) (steps w : ℕ) (fs : ℕ → Form) (bit : ℕ) (h : bit ≤ length bs) where
-  pub chosen_short : None ≡ answered (take_field w (drop bit bs)) → {s : Stop} → s ≡ bad_at bit → Unchosen bs w fs bit s
-  chosen_short e i = record { in_key = h; is = λ K. ap (read_whole bit fs K) (field_short (take_field w (drop bit bs)) e); place = i }
+-- What a choice goes on with, told apart by its number.
+abbrev marked : ℕ → Bits → Ran
+marked t r = ran (chose 0 t done) (state 0 0 0 [])
 
-  module _ {t : ℕ} (e : Some t ≡ answered (take_field w (drop bit bs))) where
-    o : Told bs bit w t
-    o = number_told bs bit w t e
+module _ (bs : Bits) (T : List ℕ) (steps w : ℕ) (fs : ℕ → Form) (bit : ℕ) where
+  -- A choice that is taken is read.
+  pub chosen_as : {c : Pick} → Picked bs T steps w fs bit c → Chosen bs T steps w fs bit (record { bit = c.bit; form = c.form; n = c.n })
+  chosen_as {c} p =
+      record { number = c.number; is = λ K. by (take_field w (drop bit bs)) (p.went 0 0 0 marked) K; next = p.next; in_key = p.inside; to = p.to; in_table = p.in_table; few = p.few }
+    where
+      known : (t : ℕ) (r : Bits) (b : Bool) → allowed_run (state 0 0 0 (drop bit bs)) marked t r b ≡ marked c.number (drop c.bit bs) → (K : ℕ → Scan) → read_allowed bit K t b ≡ K c.number
+      known t r true e K = clash (cc e)
+      known t r false e K =
+          let i : t ≡ c.number = cc e in
+          ap K i
 
-    pub chosen_never : is_never (fs t) ≡ true → {s : Stop} → s ≡ bad_at bit → Unchosen bs w fs bit s
-    chosen_never n i = record { in_key = h; is = λ K. ap (read_whole bit fs K) o.is ∙ ap (read_allowed bit K t) n; place = i }
+      by : (x : Field) → whole_run (state 0 0 0 (drop bit bs)) fs marked x ≡ marked c.number (drop c.bit bs) → (K : ℕ → Scan) → read_whole bit fs K x ≡ K c.number
+      by short e K = clash (cc e)
+      by (field t r) e K = known t r (is_never (fs t)) e K
 
-    pub chosen_to : {form n : ℕ} → is_never (fs t) ≡ false → fs t ≡ form_of T steps n form → form < 2 ^ 32 → n < 2 ^ 32 → Chosen bs T steps w fs bit (record { bit = bit + w; form = form; n = n })
-    chosen_to v q a b =
-        record {
-          number = t;
-          is = λ K. ap (read_whole bit fs K) o.is ∙ ap (read_allowed bit K t) v;
-          next = refl;
-          in_key = o.within h;
-          to = q;
-          in_table = a;
-          few = b;
-        }
+  -- One that is refused is refused.
+  pub unchosen_as : bit ≤ length bs → {s : Stop} → ((n k m : ℕ) (K : ℕ → Bits → Ran) → Halts bs (choice_run w fs (state n k m (drop bit bs)) K) s) → (K : ℕ → Scan) → Stops (length bs) (read_choice bs w fs bit K) s
+  unchosen_as h {s} p K = record { in_key = (p 0 0 0 marked).in_key; is = by (take_field w (drop bit bs)) (p 0 0 0 marked).is }
+    where
+      place : halt bad_key (length (drop bit bs)) ≡ halt (number_of s.why) (length bs - s.bit) → fails bad_key bit ≡ fails (number_of s.why) s.bit
+      place e =
+          let i : bad_key ≡ number_of s.why = cc e in
+          let j : length (drop bit bs) ≡ length bs - s.bit = cc e in
+          let k : bit ≡ s.bit = omega (arith, length-drop bit bs, (p 0 0 0 marked).in_key) in
+          ap₂ fails i k
+
+      known : (t : ℕ) (r : Bits) (b : Bool) → allowed_run (state 0 0 0 (drop bit bs)) marked t r b ≡ halt (number_of s.why) (length bs - s.bit) → read_allowed bit K t b ≡ fails (number_of s.why) s.bit
+      known t r true e = place e
+      known t r false e = clash (cc e)
+
+      by : (x : Field) → whole_run (state 0 0 0 (drop bit bs)) fs marked x ≡ halt (number_of s.why) (length bs - s.bit) → read_whole bit fs K x ≡ fails (number_of s.why) s.bit
+      by short e = place e
+      by (field t r) e = known t r (is_never (fs t)) e
 
 -- ---- Steps inside a node
 
@@ -212,7 +234,7 @@ module _ (bs : Bits) (T : List ℕ) (steps : ℕ) (r : Row) (s : Spot) where
           }
       by (Err t) d =
           λ X. subst (λ (f : Form). Stops (length bs) (read_form bs X f s.bit) t) (at_op (suc (suc (suc (suc (suc (r.op - 5)))))) above)
-          (stops_bad d.in_key (d.is (λ k. after (chooses k ends) (read_form bs X (fs k) (s.bit + r.w)))) d.place)
+          (d (λ k. after (chooses k ends) (read_form bs X (fs k) (s.bit + r.w))))
 
   pub plain_words : r.op ≡ 2 → r.b < 2 ^ 32 → {b : ℕ} → SpellingsOn bs r.w s.n s.bit (Ok b) → Stepped bs T steps r s (record { bit = b; form = r.b; n = 1 })
   plain_words e y {b} d =

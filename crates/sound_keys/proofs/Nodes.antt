@@ -5,11 +5,12 @@ use Prim.Native.Nat.{ℕ, zero, suc, ◌+◌, ◌-◌, ◌*◌, ◌^◌, ◌≤�
 use Rattle.std.proofs.Common.{Result, Ok, Err}
 use native.Mathlib.Omega.{arith}
 use lib.ListN.{length}
+use Rattle.words.specs.Refusal.{number_of}
 use Rattle.words.specs.declared.refusal.Refusal.TheVariants.{TooTall}
 use Rattle.keys.specs.Bits.{Bits}
 use Rattle.keys.proofs.BitsLaws.{length_bytes}
 use Rattle.keys.specs.Form.{Form, child, Grammar}
-use Rattle.keys.specs.Limits.{bad_key, too_tall, widest}
+use Rattle.keys.specs.Limits.{too_tall, widest}
 use Rattle.key_parts.specs.Widths.{Sized}
 use Rattle.key_parts.proofs.NeverLaws.{before_one}
 use Rattle.key_parts.proofs.Walk.{row_sized}
@@ -17,11 +18,11 @@ use Rattle.node_table.specs.Forms.{Entry, form_of, form_by, leads, grammar_of, e
 use Rattle.node_table.proofs.FormsLaws.{form_at_lem}
 use Rattle.node_table.specs.declared.forms.Row.{Row}
 use Rattle.differs.specs.Content.{ends, chooses, enters}
-use Rattle.sound_keys.specs.Sound.{Scan, fails, ◌⊕◌, after, as_node, read_choice, read_form, Stops, Goes, Passes, bits, nodes_of, rest_of, Spotted, AfterOn, Chosen, Unchosen, Stepped, PlainOn, NodeOn, RestOn, NodesOn}
+use Rattle.sound_keys.specs.Sound.{Scan, fails, ◌⊕◌, after, as_node, read_choice, read_form, Stops, Goes, Passes, bits, nodes_of, rest_of, Spotted, AfterOn, Chosen, Stepped, PlainOn, NodeOn, RestOn, NodesOn}
 use Rattle.sound_keys.specs.declared.source.Source.{Source}
 use Rattle.key_parts.specs.declared.refusal.Stop.{Stop}
 use Rattle.sound_keys.specs.declared.sound.Spot.{Spot}
-use Rattle.sound_keys.proofs.Checking.{on_none, on_then, on_stop, on_first, first_stop, stops_bad}
+use Rattle.sound_keys.proofs.Checking.{on_none, on_then, on_stop, on_first, first_stop}
 
 -- ---- What is left of a node
 
@@ -146,12 +147,12 @@ module _ (source : Source) (class bit : ℕ) (h : bit ≤ length source.key.now 
   abbrev below : (l t : ℕ) → Scan
   below l t = after (chooses t ends) (read_form (bits source) (nodes_of source l) (G.row class t) (bit + G.tag_width class))
 
-  pub node_bad : (left : ℕ) {s : Stop} → Unchosen (bits source) tags.w (leads source.forms.now (form_of source.forms.now steps) (entry_of tags) 0) bit s → NodeOn source left class bit (Err s)
-  node_bad left {s} p = stops_bad p.in_key (by left) p.place
+  pub node_bad : (left : ℕ) {s : Stop} → ((K : ℕ → Scan) → Stops (length (bits source)) (read_choice (bits source) tags.w (leads source.forms.now (form_of source.forms.now steps) (entry_of tags) 0) bit K) s) → NodeOn source left class bit (Err s)
+  node_bad left {s} p = record { in_key = (p (below 0)).in_key; is = by left }
     where
-      by : (left : ℕ) → nodes_of source left class bit ≡ fails bad_key bit
-      by zero = choice_is (λ t. fails too_tall bit) ∙ p.is (λ t. fails too_tall bit)
-      by (suc l) = ap (as_node bit) (choice_is (below l) ∙ p.is (below l))
+      by : (left : ℕ) → nodes_of source left class bit ≡ fails (number_of s.why) s.bit
+      by zero = choice_is (λ t. fails too_tall bit) ∙ (p (λ t. fails too_tall bit)).is
+      by (suc l) = ap (as_node bit) (choice_is (below l) ∙ (p (below l)).is)
 
   module _ {tag : Spot} (p : Chosen (bits source) source.forms.now steps tags.w (leads source.forms.now (form_of source.forms.now steps) (entry_of tags) 0) bit tag) where
     pub node_tall : (left : ℕ) → left ≡ 0 → NodeOn source left class bit (Err (record { why = TooTall; bit = bit }))

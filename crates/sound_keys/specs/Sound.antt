@@ -162,16 +162,10 @@ pub record Chosen (bs : Bits) (T : List ℕ) (steps w : ℕ) (fs : ℕ → Form)
   pub in_table : s.form < 2 ^ 32
   pub few : s.n < 2 ^ 32
 
--- A choice that is refused with 10 at its bit.
-pub record Unchosen (bs : Bits) (w : ℕ) (fs : ℕ → Form) (bit : ℕ) (s : Stop) : Type 0 where
-  pub in_key : bit ≤ length bs
-  pub is : (K : ℕ → Scan) → read_choice bs w fs bit K ≡ fails bad_key bit
-  pub place : s ≡ bad_at bit
-
--- One or the other.
+-- The same; or it is refused, whatever is done with its number.
 abbrev pub ChoiceOn : (bs : Bits) (T : List ℕ) (steps w : ℕ) (fs : ℕ → Form) (bit : ℕ) → Result Spot Stop → Type 0
 ChoiceOn bs T steps w fs bit (Ok s) = Chosen bs T steps w fs bit s
-ChoiceOn bs T steps w fs bit (Err s) = Unchosen bs w fs bit s
+ChoiceOn bs T steps w fs bit (Err s) = (K : ℕ → Scan) → Stops (length bs) (read_choice bs w fs bit K) s
 
 -- The form that a row comes to, its first step done n times, where the forms that it leads to have so many steps.
 abbrev pub form_by_row : (T : List ℕ) (steps : ℕ) → TableRow → (n : ℕ) → Form

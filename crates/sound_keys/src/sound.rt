@@ -9,7 +9,7 @@ ghost use Rattle.sound_keys.specs.Sound as check;
 use crate::source::Source;
 use fields::take;
 use key_parts::refusal::{Refusal, Stop};
-use key_parts::{never, padding};
+use key_parts::{choice, padding};
 use node_table::forms;
 use node_table::forms::Row;
 use words::limits::{Key, Tree};
@@ -67,17 +67,11 @@ impl Source<'_> {
         requires { (bit ≤ length self.now.key.now * 8) × Sized r × (5 ≤ r.op) }
         ensures { check.Chooses self.now steps r bit result }
     {
-        let Some(n) = take::take_field(self.key, bit, r.w) else {
-            return Err(bad_key(bit));
-        };
-        let j = forms::jump_at(self.forms, r, n as usize);
-        if never::is_never(self.forms, steps, j.n, j.form) {
-            return Err(bad_key(bit));
-        }
+        let c = choice::take_choice(self.forms, self.key, steps, r, bit)?;
         Ok(Spot {
-            bit: bit + r.w,
-            form: j.form,
-            n: j.n,
+            bit: c.bit,
+            form: c.form,
+            n: c.n,
         })
     }
 

@@ -16,7 +16,7 @@ pub struct Sides<'a, 'b> {
 
 impl Sides<'_, '_> {
     // A form on each side.
-    pub fn rows(&self, form: usize) -> (Row, Row)
+    pub(crate) fn rows(&self, form: usize) -> (Row, Row)
         requires { form < table_most }
         ensures { IsRow (entry_at self.now.left.forms.now form) result.0 × (result.1 ≡ result.0) }
     {
@@ -27,7 +27,7 @@ impl Sides<'_, '_> {
     }
 
     // The choice of a class's tag on each side.
-    pub fn tags(&self, class: usize) -> (Row, Row)
+    pub(crate) fn tags(&self, class: usize) -> (Row, Row)
         requires { class < table_most }
         ensures { IsRow (class_at self.now.left.forms.now class) result.0 × (result.1 ≡ result.0) }
     {

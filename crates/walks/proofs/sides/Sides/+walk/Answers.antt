@@ -5,43 +5,43 @@ use Rattle.keys.specs.Form.{one}
 use Rattle.walks.specs.Walk.{left_bits, right_bits, grammar}
 use Rattle.walks.proofs.Rests.{tag_left, tag_right, apart_asks, apart_walks, rest_asks, rest_walks, some_height, coming_none, rest_end, some_op, nodes_ask, nodes_on, words_ask, words_on, word_asks, word_on, choice_left, choice_right, choice_on, choice_asks, choice_apart}
 use Rattle.walks.proofs.Walking.{inside_bits, inside_bytes, turn_none, node_left, node_right, word_left as next_left, word_right as next_right, turn_more}
-use Rattle.walks.proofs.walk.+walk.Goals as goal
+use Rattle.walks.proofs.sides.Sides.+walk.Goals as goal
 
 pub walk_node-number-t-requires : goal.walk_node-number-t-requires
 walk_node-number-t-requires t c =
-    tag_left c.args.sides.now c.args.high c.args.class c.args.p c.requires c.tags.ensures.0 c.tags.ensures.1
+    tag_left c.args.self.now c.args.high c.args.class c.args.p c.requires c.tags.ensures.0 c.tags.ensures.1
 
 pub walk_node-number-u-requires : goal.walk_node-number-u-requires
 walk_node-number-u-requires t c =
-    tag_right c.args.sides.now c.args.high c.args.class c.args.p c.requires c.tags.ensures.0 c.tags.ensures.1
+    tag_right c.args.self.now c.args.high c.args.class c.args.p c.requires c.tags.ensures.0 c.tags.ensures.1
 
 pub walk_node-apart-requires : goal.walk_node-apart-requires
 walk_node-apart-requires t c =
-    apart_asks c.args.sides.now c.args.high c.args.class c.args.p c.requires c.tags.ensures.0 c.tags.ensures.1 c.word_at-steps.ensures.0 c.number-t.ensures.0 c.number-u.ensures.0 c.listed_at-j.ensures c.if-t-u.true c.listed_at-k.ensures
+    apart_asks c.args.self.now c.args.high c.args.class c.args.p c.requires c.tags.ensures.0 c.tags.ensures.1 c.word_at-steps.ensures.0 c.number-t.ensures.0 c.number-u.ensures.0 c.listed_at-j.ensures c.if-t-u.true c.listed_at-k.ensures
 
 pub walk_node-returns-then-t-u : goal.walk_node-returns-then-t-u
 walk_node-returns-then-t-u t c =
-    apart_walks c.args.sides.now c.args.high c.args.class c.args.p c.requires c.tags.ensures.0 c.tags.ensures.1 c.word_at-steps.ensures.0 c.number-t.ensures.0 c.number-u.ensures.0 c.listed_at-j.ensures c.if-t-u.true c.listed_at-k.ensures c.apart.ensures
+    apart_walks c.args.self.now c.args.high c.args.class c.args.p c.requires c.tags.ensures.0 c.tags.ensures.1 c.word_at-steps.ensures.0 c.number-t.ensures.0 c.number-u.ensures.0 c.listed_at-j.ensures c.if-t-u.true c.listed_at-k.ensures c.apart.ensures
 
 pub walk_node-walk_rest-requires : goal.walk_node-walk_rest-requires
 walk_node-walk_rest-requires t c =
-    (omega (arith, some_height (left_bits c.args.sides.now) c.args.sides.now.left.forms.now c.args.high c.args.class c.args.p.left c.requires.2), rest_asks c.args.sides.now c.args.high c.args.class c.args.p c.requires c.tags.ensures.0 c.tags.ensures.1 c.word_at-steps.ensures.0 c.number-t.ensures.0 c.number-u.ensures.0 c.listed_at-j.ensures c.if-t-u.false)
+    (omega (arith, some_height (left_bits c.args.self.now) c.args.self.now.left.forms.now c.args.high c.args.class c.args.p.left c.requires.2), rest_asks c.args.self.now c.args.high c.args.class c.args.p c.requires c.tags.ensures.0 c.tags.ensures.1 c.word_at-steps.ensures.0 c.number-t.ensures.0 c.number-u.ensures.0 c.listed_at-j.ensures c.if-t-u.false)
 
 pub walk_node-returns : goal.walk_node-returns
 walk_node-returns t c =
-    rest_walks c.args.sides.now c.args.high c.args.class c.args.p c.requires c.tags.ensures.0 c.tags.ensures.1 c.word_at-steps.ensures.0 c.number-t.ensures.0 c.number-u.ensures.0 c.listed_at-j.ensures c.if-t-u.false c.walk_rest.ensures
+    rest_walks c.args.self.now c.args.high c.args.class c.args.p c.requires c.tags.ensures.0 c.tags.ensures.1 c.word_at-steps.ensures.0 c.number-t.ensures.0 c.number-u.ensures.0 c.listed_at-j.ensures c.if-t-u.false c.walk_rest.ensures
 
 pub walk_nodes-loop-init : goal.walk_nodes-loop-init
 walk_nodes-loop-init t c =
-    turn_none (left_bits c.args.sides.now) (right_bits c.args.sides.now) (grammar c.args.sides.now) c.args.high c.args.class c.args.w.left c.args.w.right c.args.n c.args.p c.args.list.now (inside_bits c.args.sides.now.left.key.now c.args.sides.now.right.key.now c.requires.3)
+    turn_none (left_bits c.args.self.now) (right_bits c.args.self.now) (grammar c.args.self.now) c.args.high c.args.class c.args.w.left c.args.w.right c.args.n c.args.p c.args.list.now (inside_bits c.args.self.now.left.key.now c.args.self.now.right.key.now c.requires.3)
 
 pub walk_nodes-walk_node-q-requires : goal.walk_nodes-walk_node-q-requires
 walk_nodes-walk_node-q-requires t c =
-    (omega arith, (c.requires.0, inside_bytes c.args.sides.now.left.key.now c.args.sides.now.right.key.now (c.loop.invariant.on one one).inside, node_left c.loop.invariant c.loop-test.true c.requires.4, node_right c.loop.invariant c.loop-test.true c.requires.5))
+    (omega arith, (c.requires.0, inside_bytes c.args.self.now.left.key.now c.args.self.now.right.key.now (c.loop.invariant.on one one).inside, node_left c.loop.invariant c.loop-test.true c.requires.4, node_right c.loop.invariant c.loop-test.true c.requires.5))
 
 pub walk_nodes-walk_after-q-requires : goal.walk_nodes-walk_after-q-requires
 walk_nodes-walk_after-q-requires t c =
-    (c.requires.1, c.requires.2, inside_bytes c.args.sides.now.left.key.now c.args.sides.now.right.key.now c.walk_node-q.ensures.inside, next_left c.loop.invariant c.loop-test.true c.walk_node-q.ensures c.requires.4, next_right c.loop.invariant c.loop-test.true c.walk_node-q.ensures c.requires.5)
+    (c.requires.1, c.requires.2, inside_bytes c.args.self.now.left.key.now c.args.self.now.right.key.now c.walk_node-q.ensures.inside, next_left c.loop.invariant c.loop-test.true c.walk_node-q.ensures c.requires.4, next_right c.loop.invariant c.loop-test.true c.walk_node-q.ensures c.requires.5)
 
 pub walk_nodes-loop-preserved : goal.walk_nodes-loop-preserved
 walk_nodes-loop-preserved t c =
@@ -49,7 +49,7 @@ walk_nodes-loop-preserved t c =
 
 pub walk_rest-loop-depth-init : goal.walk_rest-loop-depth-init
 walk_rest-loop-depth-init t c =
-    coming_none c.args.sides.now c.args.high c.args.steps c.args.from c.args.at c.args.first c.args.list.now c.requires
+    coming_none c.args.self.now c.args.high c.args.steps c.args.from c.args.at c.args.first c.args.list.now c.requires
 
 pub walk_rest-returns-in-1 : goal.walk_rest-returns-in-1
 walk_rest-returns-in-1 t c =
@@ -89,11 +89,11 @@ walk_rest-number-u-requires t c =
 
 pub walk_rest-overflow_add-next : goal.walk_rest-overflow_add-next
 walk_rest-overflow_add-next t c =
-    omega (arith, choice_left c.loop-depth.invariant c.loop-depth-test.true c.rows.ensures.0 c.rows.ensures.1 (omega arith), c.args.sides.now.left.short)
+    omega (arith, choice_left c.loop-depth.invariant c.loop-depth-test.true c.rows.ensures.0 c.rows.ensures.1 (omega arith), c.args.self.now.left.short)
 
 pub walk_rest-overflow_add-next-in-5-to-max : goal.walk_rest-overflow_add-next-in-5-to-max
 walk_rest-overflow_add-next-in-5-to-max t c =
-    omega (arith, choice_right c.loop-depth.invariant c.loop-depth-test.true c.rows.ensures.0 c.rows.ensures.1 (omega arith), c.args.sides.now.right.short)
+    omega (arith, choice_right c.loop-depth.invariant c.loop-depth-test.true c.rows.ensures.0 c.rows.ensures.1 (omega arith), c.args.self.now.right.short)
 
 pub walk_rest-apart-requires : goal.walk_rest-apart-requires
 walk_rest-apart-requires t c =
