@@ -22,6 +22,7 @@ pub fn four(bytes: &[u8], i: usize) -> u32
 }
 
 // Fills a buffer from a reader, and gives back how many bytes it put there: fewer where the reader ends or fails.
+// It counts them itself: after an error the library's own reading does not say how many there were.
 pub fn filled<R: Read>(from: &mut R, bytes: &mut [u8]) -> usize
     ensures in_bounds { IsPrefixLen result bytes.new }
     ensures read { Consumes (R.remaining from.old) (R.remaining from.new) (take result bytes.new) }
