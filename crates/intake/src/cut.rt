@@ -178,7 +178,7 @@ fn mark_kind(b: u8) -> usize {
     }
 }
 
-// The longest mark at the start of a text, or any other byte by itself.
+// The longest mark at the start of a text, any other byte by itself, or the end.
 fn mark(text: &[u8]) -> Piece
     ensures { result.len ≤ length text.now }
 {
@@ -189,7 +189,7 @@ fn mark(text: &[u8]) -> Piece
         [b'<', b'=', ..] => (Kind::LT_EQ, 2),
         [b'=', b'>', ..] => (Kind::ARROW, 2),
         [b, ..] => (mark_kind(*b), 1),
-        [] => (Kind::OTHER_MARK, 0),
+        [] => (Kind::EOF, 0),
     };
     Piece { kind, len }
 }
@@ -267,7 +267,7 @@ fn template(text: &[u8], goes_on: usize, ends: usize) -> Piece
     mark(text)
 }
 
-// The token at the start of a text; a `}` may end a type in a template.
+// The token at the start of a text, or its end; a `}` may end a type in a template.
 fn first_piece(text: &[u8], in_template: bool) -> Piece
     ensures { result.len ≤ length text.now }
 {
@@ -371,14 +371,7 @@ impl<'a> Cutter<'a> {
         }
         self.skip();
         let rest = &self.text[self.at..];
-        let p = if rest.is_empty() {
-            Piece {
-                kind: Kind::EOF,
-                len: 0,
-            }
-        } else {
-            first_piece(rest, self.nest.in_template())
-        };
+        let p = first_piece(rest, self.nest.in_template());
         let w = word(
             p.kind as u64,
             u64::from(self.new_line),
@@ -386,7 +379,7 @@ impl<'a> Cutter<'a> {
             p.len as u64,
             self.at as u64,
         );
-        self.ended = rest.is_empty();
+        self.ended = p.kind == Kind::EOF;
         self.nest.passed(p.kind);
         self.at += p.len;
         self.new_line = false;

@@ -53,21 +53,6 @@ pub struct Job {
     pub side: Option<Side>,
 }
 
-impl Job {
-    // A job for the line of a number.
-    pub fn for_line(self, line: usize) -> Job {
-        Job { line, ..self }
-    }
-
-    // A job for one of two sides.
-    pub fn on_side(self, side: Side) -> Job {
-        Job {
-            side: Some(side),
-            ..self
-        }
-    }
-}
-
 // What is asked for: what to read, and how it is read and printed.
 #[derive(Clone, Copy)]
 pub struct Asked {
@@ -115,13 +100,14 @@ impl Wrong {
 }
 
 // One line on what is wrong.
-pub fn complain<R: Env>(rt: &R, out: &mut Out, wrong: Wrong, buffer: &mut [u8]) {
+pub fn complain<R: Env>(rt: &R, wrong: Wrong, buffer: &mut [u8]) {
+    let mut out = Out::new();
     out.bytes(b"typekey: ");
     out.bytes(wrong.words().as_bytes());
     if let Some(i) = wrong.argument() {
         let n = argument(rt, i, buffer);
         out.byte(b' ');
-        copy(out, buffer, 0, n.min(200), Shape::Shown);
+        copy(&mut out, buffer, 0, n.min(200), Shape::Shown);
     }
     out.bytes(b"; typekey --help says how it is used\n");
     out.flush_to(2);

@@ -1,5 +1,6 @@
 // Two keys, or the keys of two types, compared by the library, and what differs printed.
 use crate::room::{Lent, Room, up_to};
+use crate::work::Work;
 use lines::given::argument;
 use lines::line::Out;
 use lines::sum::root;
@@ -7,7 +8,7 @@ use prints::differing::HALF;
 use prints::seen::{Seen, Whole};
 use prints::tagged::walk;
 use prints::{differing, reading};
-use speech::ask::{Job, Side};
+use speech::ask::{Form, Side};
 use speech::hex::digits;
 use std::alloc::AllocError;
 use typekey::differing::{Differing, differ};
@@ -18,60 +19,39 @@ use words::limits::Tree;
 // The words of the most pairs of places that are listed.
 const PAIRS: usize = 8192;
 
-// ---- The two keys
-
-// The key of a type, where it is read whole, at the start of the room for one; its length. Else what it came to is said.
-pub fn typed(out: &mut Out, text: &[u8], room: &mut Room, job: Job) -> Option<usize> {
-    let Lent {
-        tokens,
-        nodes,
-        names,
-        notes,
-        key,
-        ..
-    } = room.lend(text, usize::MAX, usize::MAX);
-    match read(text, tokens, 0, job.parens, nodes, names, notes, key) {
-        Reading::Read(c) if reading::is_whole(tokens, c.at) => return Some(c.key),
-        Reading::Read(c) => reading::unread(out, text, tokens, c, job),
-        Reading::Refused(x) => reading::refused(out, text, tokens, x, job),
+// One of two sides by its number.
+fn side_of(number: u32) -> Option<Side> {
+    match number {
+        1 => Some(Side::Left),
+        2 => Some(Side::Right),
+        _ => None,
     }
-    None
 }
 
-// The key that a text of hex stands for, likewise.
-pub fn hexed(_out: &mut Out, text: &[u8], room: &mut Room, _job: Job) -> Option<usize> {
-    digits(text, &mut room.key)
-        .inspect_err(|error| error.complain())
-        .ok()
-}
-
-// ---- The two trees
-
-// Takes a sound key back and walks its tree; how many words its visits have, 0 where it does not fit.
-fn walked(
+// The tree of a sound key, which is taken back and walked; with no visits where it does not fit.
+fn tree_of<'a>(
     key: &[u8],
     nodes: &mut [u64],
-    names: &mut [u64],
-    letters: &mut [u8],
-    visits: &mut [u64],
-) -> usize {
-    match take_back(key, nodes, names, letters) {
-        Taking::Taken(u) => {
-            let visits = up_to(HALF, visits);
-            walk(nodes, names, root(u.nodes), Tree::TALLEST, visits)
-        }
+    names: &'a mut [u64],
+    letters: &'a mut [u8],
+    visits: &'a mut [u64],
+) -> Whole<'a> {
+    let visits = up_to(HALF, visits);
+    let size = match take_back(key, nodes, names, letters) {
+        Taking::Taken(u) => walk(nodes, names, root(u.nodes), Tree::TALLEST, visits),
         Taking::Refused(_) => 0,
-    }
+    };
+    Whole::of(Seen::of(visits, names, letters), size)
 }
 
-// Both trees, and the pairs of a list.
-fn trees(
+// The trees of two keys side by side, and the pairs of places of a list.
+fn show_trees(
     out: &mut Out,
+    room: &mut Room,
     left: &[u8],
     right: &[u8],
-    list: &mut [u64; PAIRS],
-    room: &mut Room,
-    job: Job,
+    list: &[u64; PAIRS],
+    form: Form,
 ) -> Result<(), AllocError> {
     let alloc = *room.key.allocator();
     let mut others = vec![in alloc; 0; room.names.len()]?;
@@ -85,89 +65,103 @@ fn trees(
     } = room;
     let half = HALF.min(visits.len());
     let (first, second) = visits.split_at_mut(half);
-    let n = walked(left, nodes, names, letters, first);
-    let m = walked(right, nodes, &mut others, &mut marks, second);
-    let left = Whole::of(Seen::of(first, names, letters), n);
-    let right = Whole::of(Seen::of(second, &others, &marks), m);
-    differing::told(out, list, left, right, job.form);
+    let left = tree_of(left, nodes, names, letters, first);
+    let right = tree_of(right, nodes, &mut others, &mut marks, second);
+    differing::told(out, list, left, right, form);
     Ok(())
 }
 
-// ---- What differs
-
-// One of two sides by its number.
-fn side_of(number: u32) -> Option<Side> {
-    match number {
-        1 => Some(Side::Left),
-        2 => Some(Side::Right),
-        _ => None,
+impl Work {
+    // The key of a type that is read whole, at the start of the room for one; its length. Else what it came to is said.
+    pub fn typed(&mut self, text: &[u8]) -> Option<usize> {
+        let Work { out, room, job } = self;
+        let Lent {
+            tokens,
+            nodes,
+            names,
+            notes,
+            key,
+            ..
+        } = room.lend(text, usize::MAX, usize::MAX);
+        match read(text, tokens, 0, job.parens, nodes, names, notes, key) {
+            Reading::Read(c) if reading::is_whole(tokens, c.at) => return Some(c.key),
+            Reading::Read(c) => reading::unread(out, text, tokens, c, *job),
+            Reading::Refused(x) => reading::refused(out, text, tokens, x, *job),
+        }
+        None
     }
-}
 
-// Two keys compared, with room for as many pairs as asked.
-fn compared(
-    out: &mut Out,
-    left: &[u8],
-    right: &[u8],
-    room: &mut Room,
-    job: Job,
-) -> Result<(), AllocError> {
-    let mut list = [0; PAIRS];
-    let most = job.room.min(PAIRS / 2);
-    match differ(left, right, &mut list[..2 * most]) {
-        Differing::Found(0) => differing::alike(out, job.form),
-        Differing::Found(_) => trees(out, left, right, &mut list, room, job)?,
-        Differing::Refused(number, side, bit) => differing::refused(
-            out,
-            left,
-            right,
-            number as usize,
-            side_of(side),
-            bit,
-            most,
-            job.form,
-        ),
+    // The key that a text of hex stands for, likewise.
+    pub fn hexed(&mut self, text: &[u8]) -> Option<usize> {
+        digits(text, &mut self.room.key)
+            .inspect_err(|error| error.complain())
+            .ok()
     }
-    Ok(())
-}
 
-// The key that an argument stands for, by a function that makes one and says so where it cannot.
-fn keyed<F: Fn(&mut Out, &[u8], &mut Room, Job) -> Option<usize>>(
-    rt: &HostRuntime,
-    out: &mut Out,
-    text: &mut [u8],
-    room: &mut Room,
-    i: usize,
-    make: &F,
-    job: Job,
-) -> Result<Option<Vec<u8>>, AllocError>
-    requires { F.IsAlwaysCallable make.now }
-{
-    let n = argument(rt, i, text);
-    match make(out, &text[..n], room, job) {
-        Some(k) => Ok(Some(up_to(k, &mut room.key).to_vec(rt.alloc())?)),
-        None => Ok(None),
+    // The key that an argument stands for, by one of the two above.
+    fn keyed<F: Fn(&mut Work, &[u8]) -> Option<usize>>(
+        &mut self,
+        rt: &HostRuntime,
+        text: &mut [u8],
+        i: usize,
+        make: &F,
+    ) -> Result<Option<Vec<u8>>, AllocError>
+        requires { F.IsAlwaysCallable make.now }
+    {
+        let n = argument(rt, i, text);
+        match make(self, &text[..n]) {
+            Some(k) => Ok(Some(up_to(k, &mut self.room.key).to_vec(rt.alloc())?)),
+            None => Ok(None),
+        }
     }
-}
 
-// Where the keys differ that two arguments stand for.
-pub fn told<F: Fn(&mut Out, &[u8], &mut Room, Job) -> Option<usize>>(
-    rt: &HostRuntime,
-    out: &mut Out,
-    text: &mut [u8],
-    room: &mut Room,
-    left: usize,
-    right: usize,
-    make: F,
-    job: Job,
-) -> Result<(), AllocError>
-    requires { F.IsAlwaysCallable make }
-{
-    let Some(left) = keyed(rt, out, text, room, left, &make, job.on_side(Side::Left))? else {
-        return Ok(());
-    };
-    let Some(right) = keyed(rt, out, text, room, right, &make, job.on_side(Side::Right))? else {
-        return Ok(());
-    };
-    compared(out, &left, &right, room, job)
+    // Where two keys differ, with room for as many pairs as asked.
+    fn compare(&mut self, left: &[u8], right: &[u8]) -> Result<(), AllocError> {
+        let mut list = [0; PAIRS];
+        let most = self.job.room.min(PAIRS / 2);
+        match differ(left, right, &mut list[..2 * most]) {
+            Differing::Found(0) => differing::alike(&mut self.out, self.job.form),
+            Differing::Found(_) => show_trees(
+                &mut self.out,
+                &mut self.room,
+                left,
+                right,
+                &list,
+                self.job.form,
+            )?,
+            Differing::Refused(number, side, bit) => differing::refused(
+                &mut self.out,
+                left,
+                right,
+                number as usize,
+                side_of(side),
+                bit,
+                most,
+                self.job.form,
+            ),
+        }
+        Ok(())
+    }
+
+    // Where the keys differ that two arguments stand for; each has room in a text.
+    pub fn show_differences<F: Fn(&mut Work, &[u8]) -> Option<usize>>(
+        &mut self,
+        rt: &HostRuntime,
+        text: &mut [u8],
+        left: usize,
+        right: usize,
+        make: F,
+    ) -> Result<(), AllocError>
+        requires { F.IsAlwaysCallable make }
+    {
+        self.job.side = Some(Side::Left);
+        let Some(left) = self.keyed(rt, text, left, &make)? else {
+            return Ok(());
+        };
+        self.job.side = Some(Side::Right);
+        let Some(right) = self.keyed(rt, text, right, &make)? else {
+            return Ok(());
+        };
+        self.compare(&left, &right)
+    }
 }

@@ -6,73 +6,52 @@ mod batch;
 mod diff;
 mod room;
 mod show;
+mod work;
 
-use crate::room::Room;
+use crate::work::Work;
 use intake::source::sought;
-use lines::line::Out;
 use lines::room::letter_room;
 use speech::ask::{Asked, Source, all_arguments, complain};
 use speech::help::{help, version};
 use std::alloc::AllocError;
 use std::io::Input;
 
-// What is asked for; the arguments have room in a text.
-fn answer(
-    rt: &HostRuntime,
-    out: &mut Out,
-    text: &mut [u8],
-    asked: Asked,
-) -> Result<(), AllocError> {
-    let job = asked.job;
-    let mut room = Room::new(rt.alloc())?;
+// Answers what is asked for; a text or an argument has room in a buffer.
+fn answer(rt: &HostRuntime, asked: Asked, text: &mut [u8]) -> Result<(), AllocError> {
+    let mut work = Work::new(rt.alloc(), asked.job)?;
     match asked.source {
-        Source::Help => help(out),
-        Source::Version => version(out),
+        Source::Help => help(&mut work.out),
+        Source::Version => version(&mut work.out),
         Source::Type(place) => {
             if let Some(n) = sought(rt, place, text) {
-                show::shown(out, &text[..n], &mut room, job);
+                work.show(&text[..n]);
             }
         }
         Source::Key(place) => {
             if let Some(n) = sought(rt, place, text) {
-                back::shown(out, &text[..n], &mut room, job);
+                work.show_key(&text[..n]);
             }
         }
-        Source::Lines => batch::lines_of(rt.reader(), out, text, &mut room, job),
-        Source::Keys(left, right) => diff::told(
-            rt,
-            out,
-            text,
-            &mut room,
-            left,
-            right,
-            diff::hexed,
-            job,
-        )?,
-        Source::Types(left, right) => diff::told(
-            rt,
-            out,
-            text,
-            &mut room,
-            left,
-            right,
-            diff::typed,
-            job,
-        )?,
+        Source::Lines => work.show_lines(rt.reader(), text),
+        Source::Keys(left, right) => {
+            work.show_differences(rt, text, left, right, Work::hexed)?;
+        }
+        Source::Types(left, right) => {
+            work.show_differences(rt, text, left, right, Work::typed)?;
+        }
     }
+    work.out.flush();
     Ok(())
 }
 
 fn main(rt: HostRuntime) {
     let mut text = letter_room();
-    let mut out = Out::new();
     match all_arguments(&rt, &mut text) {
         Ok(asked) => {
-            if answer(&rt, &mut out, &mut text, asked).is_err() {
+            if answer(&rt, asked, &mut text).is_err() {
                 io::write_all(2, b"typekey: there is too little memory\n");
             }
-            out.flush();
         }
-        Err(wrong) => complain(&rt, &mut out, wrong, &mut text),
+        Err(wrong) => complain(&rt, wrong, &mut text),
     }
 }
