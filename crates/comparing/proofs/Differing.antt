@@ -1,5 +1,5 @@
 -- The whole call: each way in which it answers, and that there is one answer only.
-use mathlib.Core.Path.{◌≡◌, refl, sym, ap, ap₂, ◌∙◌}
+use mathlib.Core.Path.{◌≡◌, refl, sym, ap, ap₂, ◌∙◌, subst}
 use mathlib.Core.Bool.{Bool}
 use mathlib.Core.List.{List, [], ◌∷◌}
 use Prim.Native.Nat.{ℕ, zero, suc, ◌+◌, ◌*◌, ◌/◌, ◌≤◌, ◌<◌}
@@ -14,13 +14,12 @@ use Rattle.keys.specs.Key.{Taken, node_table}
 use Rattle.keys.specs.Store.{filled}
 use Rattle.node_table.specs.Forms.{grammar_of}
 use Rattle.differs.specs.Content.{Content, ends, enters, content_of, Pair, differences}
-use Rattle.differs.specs.Differ.{words_of, found, Differed, declined, reported, besides, begins, differ, many_differences, no_side, left_side, right_side}
-use Rattle.sound_keys.specs.Sound.{reads, read_node, Wholly}
+use Rattle.differs.specs.Differ.{words_of, found, Differed, declined, reported, besides, begins, differ, many_differences, no_side}
+use Rattle.sound_keys.specs.Sound.{reads, read_node, Good}
 use Rattle.walks.specs.Walk.{Begins, IsRead, Walked}
 use Rattle.comparing.specs.Call.{answer_of, seen, Differs}
 use Rattle.comparing.specs.declared.differ.Differing.{Differing}
 use Rattle.comparing.specs.declared.differ.Differing.TheVariants.{Found, Refused}
-use Rattle.sound_keys.specs.declared.sound.Check.{Check}
 use Rattle.walks.specs.declared.walk.Both.{Both}
 
 -- ---- One answer only
@@ -49,56 +48,51 @@ module _ (left right list : List ℕ) where
   seen_declined number side bit now after l e d r i =
       ap (λ (x : Differing). seen x after) i ∙ ap (seen (Refused number side bit)) (e ∙ ap (λ (n : ℕ). filled n []) l) ∙ sym d
 
-  pub bad_left : (T : List ℕ) (c : Check) → Wholly T left c → (c.why ≡ 0 → ⊥) → (after : List ℕ) → after ≡ filled (length list) [] → (r : Differing) → r ≡ Refused c.why left_side c.bit → Differs left right list r after
-  bad_left T c w z after e = seen_declined c.why left_side c.bit list after refl e (ap (λ (x : Taken). begins (length list) x right) (w.judges.stopped z))
-
-  module _ (T : List ℕ) (c : Check) (w : Wholly T left c) (z : c.why ≡ 0) where
-    pub bad_right : (U : List ℕ) (d : Check) → Wholly U right d → (d.why ≡ 0 → ⊥) → (after : List ℕ) → after ≡ filled (length list) [] → (r : Differing) → r ≡ Refused d.why right_side d.bit → Differs left right list r after
-    bad_right U d v y after e =
-        seen_declined d.why right_side d.bit list after refl e
-        (ap (λ (x : Taken). begins (length list) x right) (w.judges.good z) ∙ ap (besides (length list) w.judges.tree) (v.judges.stopped y))
-
+  module _ {T : List ℕ} (w : Good T left) where
     pub read_left : IsRead (read_node (bits_of_bytes left) (grammar_of T) tallest 0 4)
-    read_left = record { content = content_of node_table w.judges.tree; end = w.end; is = w.read z }
+    read_left = record { content = content_of node_table w.tree; end = w.end; is = w.read }
 
-    module _ (d : Check) (v : Wholly T right d) (y : d.why ≡ 0) where
+    module _ {U : List ℕ} (words : U ≡ T) (d : Good U right) where
+      v : Good T right
+      v = subst (λ (x : List ℕ). Good x right) words d
+
       pub read_right : IsRead (read_node (bits_of_bytes right) (grammar_of T) tallest 0 4)
-      read_right = record { content = content_of node_table v.judges.tree; end = v.end; is = v.read y }
+      read_right = record { content = content_of node_table v.tree; end = v.end; is = v.read }
 
       abbrev pairs : List Pair
-      pairs = differences (content_of node_table w.judges.tree) (content_of node_table v.judges.tree)
+      pairs = differences (content_of node_table w.tree) (content_of node_table v.tree)
 
-      module _ (q : Both) (now : List ℕ) (a : Walked (bits_of_bytes left) (bits_of_bytes right) (grammar_of T) tallest 0 (record { left = 4; right = 4; found = 0 }) q list now) where
-        content_left : content_of node_table w.judges.tree ≡ enters 4 a.u ends
+      module _ {q : Both} {now : List ℕ} (a : Walked (bits_of_bytes left) (bits_of_bytes right) (grammar_of T) tallest 0 (record { left = 4; right = 4; found = 0 }) q list now) where
+        content_left : content_of node_table w.tree ≡ enters 4 a.u ends
         content_left =
-            let e : reads (content_of node_table w.judges.tree) w.end ≡ reads (enters 4 a.u ends) q.left = sym (w.read z) ∙ a.left in
+            let e : reads (content_of node_table w.tree) w.end ≡ reads (enters 4 a.u ends) q.left = sym w.read ∙ a.left in
             cc e
 
-        content_right : content_of node_table v.judges.tree ≡ enters 4 a.v ends
+        content_right : content_of node_table v.tree ≡ enters 4 a.v ends
         content_right =
-            let e : reads (content_of node_table v.judges.tree) v.end ≡ reads (enters 4 a.v ends) q.right = sym (v.read y) ∙ a.right in
+            let e : reads (content_of node_table v.tree) v.end ≡ reads (enters 4 a.v ends) q.right = sym v.read ∙ a.right in
             cc e
 
-        found_is : q.found ≡ length (differences (content_of node_table w.judges.tree) (content_of node_table v.judges.tree))
+        found_is : q.found ≡ length (differences (content_of node_table w.tree) (content_of node_table v.tree))
         found_is =
             let e : length (differences (enters 4 a.u ends) (enters 4 a.v ends)) ≡ length pairs = ap₂ (λ (x x' : Content). length (differences x x')) (sym content_left) (sym content_right) in
             let f : q.found ≡ 0 + length (differences (enters 4 a.u ends) (enters 4 a.v ends)) = a.found in
             omega arith
 
-        by_both : differ (length list) left right ≡ reported (length list) (leb (length (differences (content_of node_table w.judges.tree) (content_of node_table v.judges.tree))) (length list / 2)) (differences (content_of node_table w.judges.tree) (content_of node_table v.judges.tree))
-        by_both = ap (λ (x : Taken). begins (length list) x right) (w.judges.good z) ∙ ap (besides (length list) w.judges.tree) (v.judges.good y)
+        by_both : differ (length list) left right ≡ reported (length list) (leb (length (differences (content_of node_table w.tree) (content_of node_table v.tree))) (length list / 2)) (differences (content_of node_table w.tree) (content_of node_table v.tree))
+        by_both = ap (λ (x : Taken). begins (length list) x right) w.is ∙ ap (besides (length list) w.tree) v.is
 
-        pub too_many : length now / 2 < q.found → (after : List ℕ) → after ≡ filled (length now) [] → (r : Differing) → r ≡ Refused many_differences no_side 0 → Differs left right list r after
-        too_many h after e =
+        pub too_many : length now / 2 < q.found → {after : List ℕ} → after ≡ filled (length now) [] → {r : Differing} → r ≡ Refused many_differences no_side 0 → Differs left right list r after
+        too_many h {after} e {r} =
             seen_declined many_differences no_side 0 now after a.grows.long e
-            (by_both ∙ ap (λ (b : Bool). reported (length list) b pairs) (lt-leb (length pairs) (length list / 2) (omega (arith, found_is, a.grows.long))))
+            (by_both ∙ ap (λ (b : Bool). reported (length list) b pairs) (lt-leb (length pairs) (length list / 2) (omega (arith, found_is, a.grows.long)))) r
 
         none_kept : Begins list []
         none_kept zero h l = refl
         none_kept (suc k) h l = absurd (omega arith)
 
         -- The list holds the pairs.
-        listed : q.found ≤ length now / 2 → take (q.found * 2) now ≡ words_of (differences (content_of node_table w.judges.tree) (content_of node_table v.judges.tree))
+        listed : q.found ≤ length now / 2 → take (q.found * 2) now ≡ words_of (differences (content_of node_table w.tree) (content_of node_table v.tree))
         listed h =
             let D : List Pair = differences (enters 4 a.u ends) (enters 4 a.v ends) in
             let f : q.found ≡ 0 + length D = a.found in
@@ -110,8 +104,8 @@ module _ (left right list : List ℕ) where
             take_all [] = refl
             take_all (x ∷ l) = ap (λ (y₁ : List Pair). x ∷ y₁) (take_all l)
 
-        pub all_listed : q.found ≤ length now / 2 → (after : List ℕ) → after ≡ filled (length now) (take (q.found * 2) now) → Differs left right list (Found q.found) after
-        all_listed h after e =
+        pub all_listed : q.found ≤ length now / 2 → {after : List ℕ} → after ≡ filled (length now) (take (q.found * 2) now) → Differs left right list (Found q.found) after
+        all_listed h {after} e =
             let i : after ≡ filled (length list) (words_of pairs) = e ∙ ap₂ filled a.grows.long (listed h) in
             (λ o. record { answer = found (found_is o); list = i o })
             ∙ sym (by_both ∙ ap (λ (b : Bool). reported (length list) b pairs) (le-leb (length pairs) (length list / 2) (omega (arith, found_is, a.grows.long))))

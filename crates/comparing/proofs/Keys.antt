@@ -3,6 +3,7 @@ use mathlib.Core.Path.{◌≡◌, refl, sym, ap, ◌∙◌}
 use mathlib.Core.Logic.{◌↔◌}
 use mathlib.Core.Bool.{Bool, true, false}
 use mathlib.Core.List.{List, [], ◌∷◌, ◌++◌}
+use Rattle.std.proofs.Common.{Result, Ok}
 use Prim.Native.Nat.{ℕ, zero, suc, ◌+◌, ◌*◌, ◌/◌, ◌≤◌, ◌<◌}
 use native.Mathlib.Omega.{arith}
 use borrow.Author.Tests.{le-leb, leb-true}
@@ -15,13 +16,13 @@ use Rattle.keys.proofs.FormLaws.{letters_written}
 use Rattle.keys.proofs.KeyLaws.{length_packed}
 use Rattle.keys.specs.Limits.{newest, edition}
 use Rattle.keys.specs.Table.{whole_key}
-use Rattle.keys.specs.Key.{Taken, taken, refused, node_table, key_of, IsTree, IsKey, IsRefusal, is_too_tall, is_no_room, is_bad_key, is_no_space}
+use Rattle.keys.specs.Key.{Taken, taken, refused, node_table, key_of, IsTree, IsKey}
 use Rattle.keys.proofs.TakeLaws.{with_edition}
-use Rattle.keys.proofs.Theorems.{exactly, refusals}
+use Rattle.keys.proofs.Theorems.{exactly}
 use Rattle.differs.specs.Content.{content_of, Pair, differences}
 use Rattle.differs.specs.Differ.{checked, found, Differed, reported, besides, begins, differ}
-use Rattle.sound_keys.specs.Sound.{verdict}
-use Rattle.sound_keys.specs.declared.sound.Check.{Check}
+use Rattle.sound_keys.specs.Sound.{said, verdict}
+use Rattle.key_parts.specs.declared.refusal.Stop.{Stop}
 use Rattle.differs.proofs.Theorems.{none_same}
 
 -- ---- Room enough
@@ -110,20 +111,15 @@ passes key ok t = (λ e. let k = (exactly newest ok).0 e in (k.is_tree, k.is), �
         let k = letters_written node_table (with_edition newest a.fits) in
         record { is_tree = a; has_room = record { for_nodes = omega arith; for_names = omega arith; for_text = omega arith }; is = e }
 
--- The check answers zero exactly for what passes.
-pub zero_passes : (key : List ℕ) (r : Check) → r ≡ verdict (checked key) → r.why ≡ 0 → Passed key
+-- The check answers without a refusal exactly for what passes.
+pub zero_passes : (key : List ℕ) (r : Result (Unit {0}) Stop) → said r ≡ verdict (checked key) → r ≡ Ok tt → Passed key
 zero_passes key r e z = by (checked key) refl
   where
-    some : {all n p : ℕ} → IsRefusal all n p → n ≡ 0 → ⊥
-    some (is_too_tall l) i = omega arith
-    some (is_no_room l) i = omega arith
-    some (is_bad_key l) i = omega arith
-    some is_no_space i = omega arith
-
     by : (x : Taken) → checked key ≡ x → Passed key
     by (taken t) i = record { tree = t; is = i }
     by (refused n p) i =
-        absurd (some (refusals newest (length key * 8) (length key * 8) (length key) key i) (sym (ap (λ (c : Check). c.why) (e ∙ ap verdict i)) ∙ z))
+        let q = sym (ap said z) ∙ e ∙ ap verdict i in
+        clash (cc q)
 
 -- Of two keys that pass, the call finds no pair exactly where they are the same bytes.
 pub same_bytes : (n : ℕ) (left right : List ℕ) → Bytes left → Bytes right → {t u : Value} → checked left ≡ taken t → checked right ≡ taken u

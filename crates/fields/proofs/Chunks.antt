@@ -6,12 +6,16 @@ use Prim.Native.Nat.{ℕ, zero, suc, ◌+◌, ◌-◌, ◌*◌, ◌/◌, ◌^◌
 use native.Mathlib.Nat.{suc-add, div-div-eq-div-mul}
 use native.Mathlib.Omega.{arith}
 use lib.Pow.{pow-add}
-use lib.ListN.{length, get_or, take, drop, set, length-drop, length-append, length-set}
-use lib.Seq.{drop_at, drop-append-add, drop-nil, take-suc-set}
+use lib.ListN.{length, get_or, take, drop, set, length-drop, length-set}
+use native.Mathlib.Numerals.{add-one}
+use lib.Seq.{drop_at, drop-append-add, drop-nil, take-suc-set, length-take-le, take_all}
+use borrow.Rule.Slice.PartMut.{put_mid}
+use Rattle.std.proofs.lemmas.Slice.{take-put_mid}
+use borrow.Author.Rules.{rules}
+use Rattle.std.specs.Prelude.{Some, None, IsSome}
 use Rattle.keys.specs.Bits.{Bits, odd, unit, bits_of, Field, short, field, take_on, take_field, bits_of_bytes, Row, cut, row, ahead, after_byte, take_bytes}
 use Rattle.keys.proofs.BitsLaws.{clash, length_bits, take_back_lem, take_whole_lem, take_short, length_bytes}
 use Rattle.fields.specs.Take.{answered, Copied}
-use Rattle.fields.specs.declared.take.TakenField.TheVariants.{Number, Short}
 
 -- ---- A part of a byte
 
@@ -58,7 +62,7 @@ part_at (x ∷ s) (suc q) r n h l =
 
 -- ---- A field
 
-pub taking_short : (s : List ℕ) (bit width : ℕ) → length s * 8 - bit < width → Short ≡ answered (take_field width (drop bit (bits_of_bytes s)))
+pub taking_short : (s : List ℕ) (bit width : ℕ) → length s * 8 - bit < width → None ≡ answered (take_field width (drop bit (bits_of_bytes s)))
 taking_short s bit width h = sym (ap answered (take_short width 0 (drop bit (bits_of_bytes s)) (omega (arith, length-drop bit (bits_of_bytes s), length_bytes s))))
 
 -- ---- What a field's answer tells
@@ -89,7 +93,7 @@ pub record Told (bs : Bits) (p w n : ℕ) : Type 0 where
   pub small : n < 2 ^ w
   pub within : p ≤ length bs → p + w ≤ length bs
 
-told : (bs : Bits) (p w n : ℕ) (x : Field) → take_field w (drop p bs) ≡ x → Number n ≡ answered x → Told bs p w n
+told : (bs : Bits) (p w n : ℕ) (x : Field) → take_field w (drop p bs) ≡ x → Some n ≡ answered x → Told bs p w n
 told bs p w n short i e = clash (cc)
 told bs p w n (field m r) i e =
     let q : n ≡ m = cc in
@@ -99,19 +103,18 @@ told bs p w n (field m r) i e =
       within = λ h. omega (arith, take_fits w 0 (drop p bs) m r i, length-drop p bs);
     }
 
-pub number_told : (bs : Bits) (p w n : ℕ) → Number n ≡ answered (take_field w (drop p bs)) → Told bs p w n
+pub number_told : (bs : Bits) (p w n : ℕ) → Some n ≡ answered (take_field w (drop p bs)) → Told bs p w n
 number_told bs p w n e = told bs p w n (take_field w (drop p bs)) refl e
 
-pub field_short : (x : Field) → Short ≡ answered x → x ≡ short
+pub field_short : (x : Field) → None ≡ answered x → x ≡ short
 field_short short e = refl
 field_short (field n r) e = clash (cc)
 
-pub not_short : (bs : Bits) (p w : ℕ) → Short ≡ answered (take_field w (drop p bs)) → p + w ≤ length bs → ⊥
-not_short bs p w e h =
+-- A field that ends before the bits do is there.
+pub is_there : (bs : Bits) (p w : ℕ) → p + w ≤ length bs → IsSome (answered (take_field w (drop p bs)))
+is_there bs p w h =
     let d = take_whole_lem w 0 (drop p bs) (omega (arith, length-drop p bs)) in
-    let i = d.is in
-    let j : take_field w (drop p bs) ≡ short = field_short (take_field w (drop p bs)) e in
-    clash (cc (i, j))
+    subst (λ (x : Field). IsSome (answered x)) (sym d.is) (search rules)
 
 -- ---- The bytes of a spelling
 
@@ -129,58 +132,59 @@ before_none cut = refl
 before_none (row s r) = refl
 
 -- i of n bytes are copied.
-pub record Copying (bs : Bits) (bit : ℕ) (old : List ℕ) (to n i : ℕ) (text : List ℕ) : Type 0 where
+pub record Copying (bs : Bits) (bit n i : ℕ) (text : List ℕ) : Type 0 where
   pub few : i ≤ n
-  pub same : length text ≡ length old
-  pub bytes : List ℕ
-  pub size : length bytes ≡ i
-  pub holds : take (to + i) text ≡ take to old ++ bytes
-  pub is : take_bytes n (drop bit bs) ≡ before bytes (take_bytes (n - i) (drop (bit + i * 8) bs))
+  pub same : length text ≡ n
+  pub is : take_bytes n (drop bit bs) ≡ before (take i text) (take_bytes (n - i) (drop (bit + i * 8) bs))
 
-pub copying_none : (bs : Bits) (bit : ℕ) (text : List ℕ) (to n : ℕ) → Copying bs bit text to n 0 text
-copying_none bs bit text to n =
-    let a : to + 0 ≡ to = omega arith in
-    let b : n ≡ n - 0 = omega arith in
+pub copying_none : (bs : Bits) (bit : ℕ) (text : List ℕ) → Copying bs bit (length text) 0 text
+copying_none bs bit text =
+    let b : length text ≡ length text - 0 = omega arith in
     let c : bit ≡ bit + 0 * 8 = omega arith in
     record {
       few = omega arith;
       same = refl;
-      bytes = [];
-      size = refl;
-      holds = ap (λ (x : ℕ). take x text) a ∙ sym (append-nil (take to text));
-      is = sym (before_none (take_bytes n (drop bit bs))) ∙ ap₂ (λ (x y : ℕ). before [] (take_bytes x (drop y bs))) b c;
+      is = sym (before_none (take_bytes (length text) (drop bit bs))) ∙ ap₂ (λ (x y : ℕ). before [] (take_bytes x (drop y bs))) b c;
     }
 
-pub copying_more : {bs : Bits} {bit : ℕ} {old : List ℕ} {to n i : ℕ} {text : List ℕ} (b : ℕ) → Copying bs bit old to n i text → i < n → to + i < length text
-    → Told bs (bit + i * 8) 8 b → Copying bs bit old to n (i + 1) (set text (to + i) b)
-copying_more {bs} {bit} {old} {to} {n} {i} {text} b d h l t =
+pub copying_more : {bs : Bits} {bit n i : ℕ} {text : List ℕ} (b : ℕ) → Copying bs bit n i text → i < n → Told bs (bit + i * 8) 8 b → Copying bs bit n (i + 1) (set text i b)
+copying_more {bs} {bit} {n} {i} {text} b d h t =
     let q : n - i ≡ suc (n - (i + 1)) = omega arith in
-    let p : to + (i + 1) ≡ suc (to + i) = omega arith in
     let z : bit + i * 8 + 8 ≡ bit + (i + 1) * 8 = omega arith in
     record {
       few = omega arith;
-      same = length-set text (to + i) b ∙ d.same;
-      bytes = d.bytes ++ (b ∷ []);
-      size = omega (arith, length-append d.bytes (b ∷ []), d.size);
-      holds =
-          ap (λ (x : ℕ). take x (set text (to + i) b)) p ∙ take-suc-set text (to + i) b l ∙ ap (λ (x : List ℕ). x ++ (b ∷ [])) d.holds
-          ∙ append_assoc (take to old) d.bytes (b ∷ []);
+      same = length-set text i b ∙ d.same;
       is =
-          d.is ∙ ap (λ (x : ℕ). before d.bytes (take_bytes x (drop (bit + i * 8) bs))) q
-          ∙ ap (λ (x : Field). before d.bytes (after_byte (λ r. take_bytes (n - (i + 1)) r) x)) t.is
-          ∙ before_ahead d.bytes b (take_bytes (n - (i + 1)) (drop (bit + i * 8 + 8) bs))
-          ∙ ap (λ (x : ℕ). before (d.bytes ++ (b ∷ [])) (take_bytes (n - (i + 1)) (drop x bs))) z;
+          d.is ∙ ap (λ (x : ℕ). before (take i text) (take_bytes x (drop (bit + i * 8) bs))) q
+          ∙ ap (λ (x : Field). before (take i text) (after_byte (λ r. take_bytes (n - (i + 1)) r) x)) t.is
+          ∙ before_ahead (take i text) b (take_bytes (n - (i + 1)) (drop (bit + i * 8 + 8) bs))
+          ∙ ap₂ (λ (l : List ℕ) (x : ℕ). before l (take_bytes (n - (i + 1)) (drop x bs)))
+          (sym (ap (λ (x : ℕ). take x (set text i b)) (add-one i) ∙ take-suc-set text i b (omega (arith, d.same)))) z;
     }
 
-pub copying_all : {bs : Bits} {bit : ℕ} {old : List ℕ} {to n i : ℕ} {text : List ℕ} → Copying bs bit old to n i text → n ≤ i → Copied bs bit old to n text
-copying_all {bs} {bit} {old} {to} {n} {i} {text} d h =
+pub copying_all : {bs : Bits} {bit n i : ℕ} {old text : List ℕ} → Copying bs bit n i text → n ≤ i → Copied bs bit old 0 n text
+copying_all {bs} {bit} {n} {i} {old} {text} d h =
     let e : i ≡ n = omega (arith, d.few) in
     let q : n - i ≡ 0 = omega arith in
     record {
-      bytes = d.bytes;
-      many = d.size ∙ e;
-      text = ap (λ (x : ℕ). take (to + x) text) (sym e) ∙ d.holds;
+      bytes = take i text;
+      many = length-take-le i text (omega (arith, d.same)) ∙ e;
+      text = ap (λ (x : ℕ). take x text) (omega arith);
       are =
-          d.is ∙ ap (λ (x : ℕ). before d.bytes (take_bytes x (drop (bit + i * 8) bs))) q
-          ∙ ap₂ (λ (x : List ℕ) (y : ℕ). row x (drop (bit + y * 8) bs)) (append-nil d.bytes) e;
+          d.is ∙ ap (λ (x : ℕ). before (take i text) (take_bytes x (drop (bit + i * 8) bs))) q
+          ∙ ap₂ (λ (x : List ℕ) (y : ℕ). row x (drop (bit + y * 8) bs)) (append-nil (take i text)) e;
+    }
+
+-- What was copied to a part of the text.
+pub copied_within : {bs : Bits} {at m : ℕ} {old new : List ℕ} (bit : ℕ) (text : List ℕ) (to n k : ℕ) → to + n ≤ length text → k ≡ n → at ≡ bit → length old ≡ m → old ≡ take k (drop to text)
+    → length new ≡ m → Copied bs at old 0 m new → Copied bs bit text to n (put_mid to k text new)
+copied_within {bs} {at} {m} {old} {new} bit text to n k h e p l o q d =
+    let z : 0 + m ≡ m = omega arith in
+    let many : m ≡ n = sym l ∙ ap length o ∙ length-take-le k (drop to text) (omega (arith, length-drop to text)) ∙ e in
+    let whole : d.bytes ≡ new = sym d.text ∙ ap (λ (x : ℕ). take x new) z ∙ take_all m new (omega arith) in
+    record {
+      bytes = d.bytes;
+      many = d.many ∙ many;
+      are = subst (λ (x : ℕ). take_bytes n (drop x bs) ≡ row d.bytes (drop (x + n * 8) bs)) p (subst (λ (x : ℕ). take_bytes x (drop at bs) ≡ row d.bytes (drop (at + x * 8) bs)) many d.are);
+      text = take-put_mid to k text new (to + n) (omega arith) (omega arith) ∙ ap (λ (x : List ℕ). take to text ++ x) (sym whole);
     }

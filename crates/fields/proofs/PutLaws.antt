@@ -7,10 +7,9 @@ use Prim.Native.Nat.{ℕ, zero, suc, ◌+◌, ◌-◌, ◌*◌, ◌/◌, ◌%◌
 use native.Mathlib.Nat.{add-zero, add-suc, suc-add, zero-add, mod-lt, mod-eq_of_lt}
 use native.Mathlib.Numerals.{add-one}
 use native.Mathlib.Omega.{arith}
-use lib.Arith.{digits_lt}
-use lib.Pow.{pow-add, pow_pos, pow_mono, shr-shr, shr_lt, split, high}
-use lib.ListN.{length, get_or, set, take, drop, replicate, length-append, length-set, length-drop}
-use lib.Seq.{sets, length-sets, set-append_left, set_out, take-suc, get_or-drop}
+use lib.Pow.{pow_pos, pow_mono, shr-shr, split, high}
+use lib.ListN.{length, get_or, set, take, replicate, length-append, length-set}
+use lib.Seq.{sets, length-sets, set-append_left, set_out, take-suc}
 use Rattle.keys.specs.Bits.{Bits, odd, bits_of, bits_of_bytes}
 use Rattle.keys.proofs.BitsLaws.{length_bits, length_bytes, bits_low, le_or_lt}
 use Rattle.keys.specs.Store.{part, filled}
@@ -100,68 +99,6 @@ module _ {A : Type 0} where
       ∙ ap (λ (l : List A). l ++ cs)
       (ap (λ (k : ℕ). sets (xs ++ bs) k vs) (e ∙ sym (add-zero (length xs))) ∙ sets_right vs xs bs 0 ∙ ap (λ (l : List A). xs ++ l) (sets_whole vs bs h))
 
--- ---- A byte with a part replaced
-
-module _ (old skip size rest part : ℕ) (e : 8 ≡ skip + size + rest) (h : part < 2 ^ size) where
-  -- The byte with the part.
-  abbrev pub with_part : ℕ
-  with_part = (old / 2 ^ (8 - skip) * 2 ^ size + part) * 2 ^ rest + old % 2 ^ rest
-
-  top : old / 2 ^ (8 - skip) ≡ old / 2 ^ rest / 2 ^ size
-  top =
-      let q : 8 - skip ≡ rest + size = omega arith in
-      ap (λ (k : ℕ). old / 2 ^ k) q ∙ sym (shr-shr old rest size)
-
-  parts : bits_of 8 old ≡ (bits_of skip (old / 2 ^ (8 - skip)) ++ bits_of size (old / 2 ^ rest)) ++ bits_of rest old
-  parts =
-      bits_front 8 (skip + size) rest old e
-      ∙ ap (λ (x : Bits). x ++ bits_of rest old)
-      (bits_front (skip + size) skip size (old / 2 ^ rest) refl ∙ ap (λ (k : ℕ). bits_of skip k ++ bits_of size (old / 2 ^ rest)) (sym top))
-
-  pub part_bits : bits_of 8 with_part ≡ sets (bits_of 8 old) skip (bits_of size part)
-  part_bits =
-      bits_three 8 skip size rest (old / 2 ^ (8 - skip)) part (old % 2 ^ rest) e h (mod-lt old (pow_pos rest))
-      ∙ ap (λ (x : Bits). (bits_of skip (old / 2 ^ (8 - skip)) ++ bits_of size part) ++ x) (bits_mod rest old)
-      ∙ sym (sets_middle (bits_of skip (old / 2 ^ (8 - skip))) (bits_of size (old / 2 ^ rest)) (bits_of rest old) (bits_of size part) skip
-      (sym (length_bits skip (old / 2 ^ (8 - skip)))) (length_bits size part ∙ sym (length_bits size (old / 2 ^ rest))))
-      ∙ ap (λ (x : Bits). sets x skip (bits_of size part)) (sym parts)
-
-  upper : old < 2 ^ 8 → old / 2 ^ (8 - skip) * 2 ^ size + part < 2 ^ (skip + size)
-  upper l = subst (λ (k : ℕ). old / 2 ^ (8 - skip) * 2 ^ size + part < k) (sym (pow-add 2 skip size)) (digits_lt below h)
-    where
-      below : old / 2 ^ (8 - skip) < 2 ^ skip
-      below =
-          let q : 8 ≡ skip + (8 - skip) = omega arith in
-          shr_lt skip (8 - skip) (subst (λ (k : ℕ). old < 2 ^ k) q l)
-
-  pub part_byte : old < 2 ^ 8 → with_part < 2 ^ 8
-  part_byte l =
-      subst (λ (k : ℕ). with_part < 2 ^ k) (sym e)
-      (subst (λ (k : ℕ). with_part < k) (sym (pow-add 2 (skip + size) rest)) (digits_lt (upper l) (mod-lt old (pow_pos rest))))
-
-  pub part_upper : old < 2 ^ 8 → old / 2 ^ (8 - skip) * 2 ^ size + part < 2 ^ 8
-  part_upper l =
-      let fits : skip + size ≤ 8 = omega arith in
-      omega (arith, upper l, pow_mono {j = 8} fits)
-
--- The same as the code has it.
-module _ (old skip size part u : ℕ) (l : old < 256) (b : skip + size ≤ 8) (h : part < 2 ^ size) (p : u ≡ old / 2 ^ (8 - skip) * 2 ^ size) where
-  eight : 8 ≡ skip + size + (8 - skip - size)
-  eight = omega arith
-
-  pub code_upper : u + part < 256
-  code_upper = subst (λ (x : ℕ). x + part < 256) (sym p) (part_upper old skip size (8 - skip - size) part eight h l)
-
-  module _ (v w : ℕ) (q : v ≡ (u + part) * 2 ^ (8 - skip - size)) (r : w ≡ old % 2 ^ (8 - skip - size)) where
-    code_is : v + w ≡ with_part old skip size (8 - skip - size) part eight h
-    code_is = ap₂ (λ (x y : ℕ). x + y) (q ∙ ap (λ (x : ℕ). (x + part) * 2 ^ (8 - skip - size)) p) r
-
-    pub code_byte : v + w < 256
-    code_byte = subst (λ (x : ℕ). x < 256) (sym code_is) (part_byte old skip size (8 - skip - size) part eight h l)
-
-    pub code_bits : bits_of 8 (v + w) ≡ sets (bits_of 8 old) skip (bits_of size part)
-    code_bits = ap (bits_of 8) code_is ∙ part_bits old skip size (8 - skip - size) part eight h
-
 -- ---- Bytes and their bits
 
 pub bytes_set : (s : List ℕ) (q r y : ℕ) (bs : Bits) → q < length s → r + length bs ≤ 8 → bits_of 8 y ≡ sets (bits_of 8 (get_or s q 0)) r bs
@@ -197,9 +134,6 @@ pub record Putting (all : Bits) (bit width number at left : ℕ) (key : List ℕ
   pub is : at + left ≡ bit + width
   pub same : sets all bit (bits_of width number) ≡ sets (bits_of_bytes key) at (bits_of left number)
 
-pub putting_none : (key : List ℕ) (bit width number : ℕ) → Putting (bits_of_bytes key) bit width number bit width key
-putting_none key bit width number = record { within = omega arith; is = refl; same = refl }
-
 pub putting_more : {all : Bits} {bit width number at left : ℕ} {key : List ℕ} (size part : ℕ) (new : List ℕ) → Putting all bit width number at left key → size ≤ left
     → part ≡ number / 2 ^ (left - size) % 2 ^ size → bits_of_bytes new ≡ sets (bits_of_bytes key) at (bits_of size part)
     → Putting all bit width number (at + size) (left - size) new
@@ -215,10 +149,6 @@ putting_more {all} {bit} {width} {number} {at} {left} {key} size part new d h p 
           (ap (sets (bits_of_bytes key) at) (sym (ap (bits_of size) p ∙ bits_mod size (number / 2 ^ (left - size)))) ∙ sym e)
           (length_bits size (number / 2 ^ (left - size)));
     }
-
-pub putting_all : (old : List ℕ) {bit width number at left : ℕ} {key : List ℕ} → Putting (bits_of_bytes old) bit width number at left key → left ≡ 0
-    → bits_of_bytes key ≡ sets (bits_of_bytes old) bit (bits_of width number)
-putting_all old {bit} {width} {number} {at} {left} {key} d z = sym (d.same ∙ ap (λ (k : ℕ). sets (bits_of_bytes key) at (bits_of k number)) z)
 
 -- A number that is put.
 pub number_put : (bit width number next : ℕ) (old key : List ℕ) → length old * 8 ≤ far → length key ≡ length old → next ≡ onward bit width
@@ -257,24 +187,15 @@ pub bytes_append : (s t : List ℕ) → bits_of_bytes (s ++ t) ≡ bits_of_bytes
 bytes_append [] t = refl
 bytes_append (x ∷ s) t = ap (λ (y : Bits). bits_of 8 x ++ y) (bytes_append s t) ∙ sym (append_assoc (bits_of 8 x) (bits_of_bytes s) (bits_of_bytes t))
 
--- One byte more of a text.
-pub text_suc : (text : List ℕ) (start i : ℕ) → start + i < length text
-    → bits_of_bytes (part text start (i + 1)) ≡ bits_of_bytes (part text start i) ++ bits_of 8 (get_or text (start + i) 0)
-text_suc text start i h =
-    ap bits_of_bytes
-    (ap (λ (n : ℕ). part text start n) (add-one i) ∙ take-suc (drop start text) i 0 (omega (arith, length-drop start text))
-    ∙ ap (λ (x : ℕ). part text start i ++ (x ∷ [])) (get_or-drop start text i 0))
-    ∙ bytes_append (part text start i) (get_or text (start + i) 0 ∷ [])
-    ∙ ap (λ (x : Bits). bits_of_bytes (part text start i) ++ x) (append-nil (bits_of 8 (get_or text (start + i) 0)))
+-- One byte more.
+pub text_suc : (text : List ℕ) (i : ℕ) → i < length text → bits_of_bytes (take (i + 1) text) ≡ bits_of_bytes (take i text) ++ bits_of 8 (get_or text i 0)
+text_suc text i h =
+    ap bits_of_bytes (ap (λ (n : ℕ). take n text) (add-one i) ∙ take-suc text i 0 h) ∙ bytes_append (take i text) (get_or text i 0 ∷ [])
+    ∙ ap (λ (x : Bits). bits_of_bytes (take i text) ++ x) (append-nil (bits_of 8 (get_or text i 0)))
 
-module _ {bit m : ℕ} {k k1 : List ℕ} (text : List ℕ) (start i : ℕ) (p : Put bit (bits_of_bytes (part text start i)) m k k1) where
-  pub text_more : {r : ℕ} {k2 : List ℕ} (x : ℕ) → start + i < length text → x ≡ get_or text (start + i) 0 → Put m (bits_of 8 x) r k1 k2
-      → Put bit (bits_of_bytes (part text start (i + 1))) r k k2
-  text_more {r} {k2} x h e q =
-      subst (λ (b : Bits). Put bit b r k k2) (ap (λ (y : ℕ). bits_of_bytes (part text start i) ++ bits_of 8 y) e ∙ sym (text_suc text start i h)) (put_append p q)
-
-  pub text_all : (n : ℕ) → i ≡ n → Put bit (bits_of_bytes (part text start n)) m k k1
-  text_all n e = subst (λ (y : ℕ). Put bit (bits_of_bytes (part text start y)) m k k1) e p
+pub text_more : {bit m : ℕ} {k k1 : List ℕ} (text : List ℕ) (i : ℕ) {r : ℕ} {k2 : List ℕ} → Put bit (bits_of_bytes (take i text)) m k k1 → i < length text
+    → Put m (bits_of 8 (get_or text i 0)) r k1 k2 → Put bit (bits_of_bytes (take (i + 1) text)) r k k2
+text_more {bit} {m} {k} {k1} text i {r} {k2} p h q = subst (λ (b : Bits). Put bit b r k k2) (sym (text_suc text i h)) (put_append p q)
 
 -- ---- Into zeros
 

@@ -1,13 +1,11 @@
 -- What taking a field and a spelling's bytes from a key answers in code (01, The key).
-use Rattle.std.specs.Prelude.{◌≡◌, List, ◌++◌, ℕ, ◌+◌, ◌*◌, ◌<◌, length, take, drop, get_or}
+use Rattle.std.specs.Prelude.{◌≡◌, List, ◌++◌, ℕ, ◌+◌, ◌*◌, ◌<◌, length, take, drop, get_or, Option, Some, None}
 use Rattle.keys.specs.Bits.{Bits, Field, short, field, row, take_bytes}
-use Rattle.fields.specs.declared.take.TakenField.{TakenField}
-use Rattle.fields.specs.declared.take.TakenField.TheVariants.{Number, Short}
 
--- The answer for a field: its number, or that it is cut short.
-abbrev pub answered : Field → TakenField
-answered short = Short
-answered (field n r) = Number n
+-- The answer for a field: its number, or none where it is cut short.
+abbrev pub answered : Field → Option ℕ
+answered short = None
+answered (field n r) = Some n
 
 -- The number of the four bytes from a place on, 0 for each past the end.
 pub record Four (s : List ℕ) (at w : ℕ) : Type 0 where

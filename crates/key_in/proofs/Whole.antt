@@ -8,7 +8,8 @@ use borrow.Author.Tests.{le-leb, lt-leb}
 use lib.Dec.{eqb}
 use lib.ListN.{length, take, drop}
 use Rattle.keys.specs.Bits.{Bits, take_field, bits_of_bytes}
-use Rattle.keys.specs.Form.{Value, nothing, spelt, choice, pair, node, Form, child, Grammar, is_never, branch, left, right, class, nodes, names, letters, State, state, Result, got, stop, into, allowed, if_whole, take_form, take_node}
+use Rattle.keys.specs.Form as form
+use Rattle.keys.specs.Form.{Value, nothing, spelt, choice, pair, node, Form, child, Grammar, is_never, branch, left, right, class, nodes, names, letters, State, state, got, stop, into, allowed, if_whole, take_form, take_node}
 use Rattle.keys.specs.Limits.{longest_key, tallest, newest, count_width, record_words, bad_key, no_space}
 use Rattle.keys.specs.Table.{type, type_under, whole_key}
 use Rattle.keys.specs.Placed.{bare, laid}
@@ -21,18 +22,20 @@ use Rattle.keys.specs.Words.{first_nodes, first_names}
 use Rattle.keys.specs.Stored.{letters_in}
 use Rattle.fields.specs.Take.{answered}
 use Rattle.fields.specs.Reader.{remembered}
-use Rattle.fields.specs.declared.reader.Field.TheVariants.{Read, Cut}
+use Rattle.std.specs.Prelude.{Some, None, Result, Ok, Err}
+use Rattle.words.specs.Refusal.{number_of}
+use Rattle.words.specs.declared.refusal.Refusal.TheVariants.{BadKey}
+use Rattle.key_parts.specs.declared.refusal.Stop.{Stop}
 use Rattle.fields.proofs.Chunks.{Told}
 use Rattle.fields.proofs.ReaderLaws.{field_cut, read_told, read_next}
 use Rattle.node_table.specs.Forms.{grammar_of, table_words}
 use Rattle.node_table.proofs.FormsLaws.{words_are}
 use Rattle.key_parts.specs.Runs.{ran, halt, node_run}
-use Rattle.key_parts.specs.Place.{state_at, refused_at}
+use Rattle.key_parts.specs.Place.{state_at}
 use Rattle.key_parts.specs.Padding.{Ends}
 use Rattle.key_parts.specs.Widths.{Slim}
 use Rattle.key_in.specs.Back.{NodeIn, Asks, Grown, Held, WholeIn, Answers}
 use Rattle.key_parts.specs.declared.place.Pos.{Pos}
-use Rattle.key_in.specs.declared.back.Answer.TheVariants.{Taken, Refused}
 use Rattle.key_parts.proofs.Lines.{run_by, node_run_lem, lined_run}
 use Rattle.key_parts.proofs.Rows.{table_fine, words_slim, other_edition}
 
@@ -48,19 +51,19 @@ letters_plant G f (node t v) x r = ap (λ (l : List ℕ). l ++ letters_in r) (le
 
 -- ---- From a run back to the value
 
-record Was (G : Grammar) (f : Form) (y : Result) (r : Run) (s : State) : Type 0 where
+record Was (G : Grammar) (f : Form) (y : form.Result) (r : Run) (s : State) : Type 0 where
   value : Value
   is : y ≡ got value s
   plants : plant G f (laid value 0) done ≡ r
 
-was : (G : Grammar) (f : Form) (y : Result) (r : Run) (s : State) → run_by G f 0 y ≡ ran r s → Was G f y r s
+was : (G : Grammar) (f : Form) (y : form.Result) (r : Run) (s : State) → run_by G f 0 y ≡ ran r s → Was G f y r s
 was G f (got v q) r s e =
     let a : plant G f (laid v 0) done ≡ r = cc in
     let b : q ≡ s = cc in
     record { value = v; is = ap (got v) b; plants = a }
 was G f (stop n l) r s e = clash (cc)
 
-was_stop : (G : Grammar) (f : Form) (y : Result) (n l : ℕ) → run_by G f 0 y ≡ halt n l → y ≡ stop n l
+was_stop : (G : Grammar) (f : Form) (y : form.Result) (n l : ℕ) → run_by G f 0 y ≡ halt n l → y ≡ stop n l
 was_stop G f (got v q) n l e = clash (cc)
 was_stop G f (stop x y) n l e =
     let a : x ≡ n = cc in
@@ -93,16 +96,14 @@ module _ (key : List ℕ) (n k m : ℕ) where
   abbrev S : State
   S = state n k m (bits_of_bytes key)
 
-  abbrev X : ℕ → State → Result
+  abbrev X : ℕ → State → form.Result
   X = take_node node_table tallest
 
-  bad : (q : Pos) → q ≡ refused_at 10 0 → take_key n k m key ≡ refused bad_key 0 → (N M Z : List ℕ) → WholeIn key n k m q N M Z
-  bad q e i N M Z =
-      subst (λ (x : Pos). WholeIn key n k m x N M Z) (sym e)
-      (record { stopped = λ _. i ∙ ap (refused bad_key) (sym (place_zero (eqb 10 no_space))); held = λ z. absurd (omega arith) })
+  bad : take_key n k m key ≡ refused bad_key 0 → (N M Z : List ℕ) → WholeIn key n k m (Err (record { why = BadKey; bit = 0 })) N M Z
+  bad i N M Z = record { stopped = i ∙ ap (refused bad_key) (sym (place_zero (eqb 10 no_space))); held = tt }
 
-  pub whole_long : longest_key < length key → (q : Pos) → q ≡ refused_at 10 0 → (N M Z : List ℕ) → WholeIn key n k m q N M Z
-  whole_long h q e N M Z = bad q e (ap (λ (b : Bool). take_within newest b n k m key) (lt-leb (length key) longest_key h)) N M Z
+  pub whole_long : longest_key < length key → (N M Z : List ℕ) → WholeIn key n k m (Err (record { why = BadKey; bit = 0 })) N M Z
+  whole_long h N M Z = bad (ap (λ (b : Bool). take_within newest b n k m key) (lt-leb (length key) longest_key h)) N M Z
 
   module _ (h : length key ≤ longest_key) where
     within : take_key n k m key ≡ outcome (length (bits_of_bytes key)) (closed (take_form (take_node node_table tallest) whole_key (state n k m (bits_of_bytes key))))
@@ -110,17 +111,17 @@ module _ (key : List ℕ) (n k m : ℕ) where
 
     early : take_form (take_node node_table tallest) whole_key (state n k m (bits_of_bytes key)) ≡ stop bad_key (length (bits_of_bytes key)) → take_key n k m key ≡ refused bad_key 0
     early e =
-        within ∙ ap (λ (y : Result). outcome (length (bits_of_bytes key)) (closed y)) e
+        within ∙ ap (λ (y : form.Result). outcome (length (bits_of_bytes key)) (closed y)) e
         ∙ ap (λ (x : ℕ). refused bad_key (refusal_place (eqb bad_key no_space) x)) (let z : length (bits_of_bytes key) - length (bits_of_bytes key) ≡ 0 = omega arith in z)
         ∙ ap (refused bad_key) (place_zero (eqb bad_key no_space))
 
-    abbrev K : ℕ → Bits → Result
+    abbrev K : ℕ → Bits → form.Result
     K t r = into (choice t) (take_form (take_node node_table tallest) (type_under newest t) (state n k m r))
 
-    pub whole_short : Cut ≡ remembered (answered (take_field 4 (drop 0 (bits_of_bytes key)))) (0 + 4) → (q : Pos) → q ≡ refused_at 10 0 → (N M Z : List ℕ) → WholeIn key n k m q N M Z
-    whole_short e q i N M Z = bad q i (early (ap (if_whole S (type_under newest) K) (field_cut (take_field 4 bs) (0 + 4) e))) N M Z
+    pub whole_short : None ≡ remembered (answered (take_field 4 (drop 0 (bits_of_bytes key)))) (0 + 4) → (N M Z : List ℕ) → WholeIn key n k m (Err (record { why = BadKey; bit = 0 })) N M Z
+    whole_short e N M Z = bad (early (ap (if_whole S (type_under newest) K) (field_cut (take_field 4 bs) (0 + 4) e))) N M Z
 
-    module _ (e next : ℕ) (i : Read e next ≡ remembered (answered (take_field 4 (drop 0 (bits_of_bytes key)))) (0 + 4)) where
+    module _ (e next : ℕ) (i : Some (e, next) ≡ remembered (answered (take_field 4 (drop 0 (bits_of_bytes key)))) (0 + 4)) where
       t : Told (bits_of_bytes key) 0 4 e
       t = read_told (bits_of_bytes key) 0 4 (0 + 4) e next i
 
@@ -134,12 +135,12 @@ module _ (key : List ℕ) (n k m : ℕ) where
           ≡ allowed (state n k m (bits_of_bytes key)) K e (drop (0 + 4) (bits_of_bytes key)) (is_never (type_under newest e))
       in_edition = ap (if_whole S (type_under newest) K) t.is
 
-      pub whole_other : (e ≡ 1 → ⊥) → (q : Pos) → q ≡ refused_at 10 0 → (N M Z : List ℕ) → WholeIn key n k m q N M Z
-      whole_other z q j N M Z = bad q j (early (in_edition ∙ ap (allowed S K e (drop (0 + 4) bs)) (other_edition e z))) N M Z
+      pub whole_other : (e ≡ 1 → ⊥) → (N M Z : List ℕ) → WholeIn key n k m (Err (record { why = BadKey; bit = 0 })) N M Z
+      whole_other z N M Z = bad (early (in_edition ∙ ap (allowed S K e (drop (0 + 4) bs)) (other_edition e z))) N M Z
 
       module _ (z : e ≡ 1) (T : List ℕ) (w : T ≡ table_words count_width) (N M Z : List ℕ) (lm : length M ≡ k) (lz : length Z ≡ m) where
         abbrev p : Pos
-        p = record { why = 0; bit = next; nodes = n; used = 0; names = 0; chars = 0 }
+        p = record { bit = next; nodes = n; used = 0; names = 0; chars = 0 }
 
         in_tree : take_form (take_node node_table tallest) whole_key (state n k m (bits_of_bytes key)) ≡ into (choice 1) (take_node node_table tallest 0 (state n k m (drop next (bits_of_bytes key))))
         in_tree =
@@ -158,27 +159,28 @@ module _ (key : List ℕ) (n k m : ℕ) where
         node_eq : run_by node_table (child 0) 0 (take_node node_table tallest 0 (state n k m (drop next (bits_of_bytes key)))) ≡ node_run m (grammar_of T) tallest 0 (state_at (bits_of_bytes key) k m p)
         node_eq = node_is k m T w bs p refl refl tallest 0
 
-        module _ (q : Pos) (N' M' Z' : List ℕ) (d' : NodeIn (bits_of_bytes key) (length M) (length Z) (grammar_of T) tallest 0 p N M Z q N' M' Z') where
-          d : NodeIn (bits_of_bytes key) k m (grammar_of T) tallest 0 p N M Z q N' M' Z'
-          d = subst₂ (λ (x y : ℕ). NodeIn bs x y (grammar_of T) tallest 0 p N M Z q N' M' Z') lm lz d'
+        module _ (N' M' Z' : List ℕ) where
+          node_at : (r : Result Pos Stop) → NodeIn (bits_of_bytes key) (length M) (length Z) (grammar_of T) tallest 0 p N M Z r N' M' Z' → NodeIn (bits_of_bytes key) k m (grammar_of T) tallest 0 p N M Z r N' M' Z'
+          node_at r d = subst₂ (λ (x y : ℕ). NodeIn bs x y (grammar_of T) tallest 0 p N M Z r N' M' Z') lm lz d
 
           back_to : (x : ℕ) → x ≤ length (bits_of_bytes key) → length (bits_of_bytes key) - (length (bits_of_bytes key) - x) ≡ x
           back_to x l = omega arith
 
-          pub whole_stop : (q.why ≡ 0 → ⊥) → WholeIn key n k m q N' M' Z'
-          whole_stop o =
+          pub whole_stop : (e : Stop) → NodeIn (bits_of_bytes key) (length M) (length Z) (grammar_of T) tallest 0 p N M Z (Err e) N' M' Z' → WholeIn key n k m (Err e) N' M' Z'
+          whole_stop e d' =
+              let d = (node_at (Err e) d').stopped in
               record {
                 stopped =
-                    λ _. within
-                    ∙ ap (λ (y : Result). outcome (length bs) (closed y))
-                    (in_tree ∙ ap (into (choice 1)) (was_stop node_table (child 0) (take_node node_table tallest 0 (state n k m (drop next bs))) q.why (length bs - q.bit) (node_eq ∙ d.stopped o)))
-                    ∙ ap (λ (x : ℕ). refused q.why (refusal_place (eqb q.why no_space) x)) (back_to q.bit d.in_key);
-                held = λ j. absurd (o j);
+                    within
+                    ∙ ap (λ (y : form.Result). outcome (length bs) (closed y))
+                    (in_tree ∙ ap (into (choice 1)) (was_stop node_table (child 0) (take_node node_table tallest 0 (state n k m (drop next bs))) (number_of e.why) (length bs - e.bit) (node_eq ∙ d.is)))
+                    ∙ ap (λ (x : ℕ). refused (number_of e.why) (refusal_place (eqb (number_of e.why) no_space) x)) (back_to e.bit d.in_key);
+                held = tt;
               }
 
-          module _ (o : q.why ≡ 0) (r : ℕ) (f : Ends (bits_of_bytes key) q.bit r) where
+          module _ (q : Pos) (d' : NodeIn (bits_of_bytes key) (length M) (length Z) (grammar_of T) tallest 0 p N M Z (Ok q) N' M' Z') (r : ℕ) (f : Ends (bits_of_bytes key) q.bit r) where
             g : Grown (bits_of_bytes key) k m (grammar_of T) tallest 0 p N M Z q N' M' Z'
-            g = d.grown o
+            g = (node_at (Ok q) d').grown
 
             v : Was node_table (child 0) (take_node node_table tallest 0 (state n k m (drop next (bits_of_bytes key)))) (kid 0 0 g.run done) (state_at (bits_of_bytes key) k m q)
             v = was node_table (child 0) (take_node node_table tallest 0 (state n k m (drop next bs))) (kid 0 0 g.run done) (state_at bs k m q) (node_eq ∙ g.is)
@@ -187,17 +189,16 @@ module _ (key : List ℕ) (n k m : ℕ) where
             tree = v.value
 
             in_padding : take_key n k m key ≡ outcome (length (bits_of_bytes key)) (padding (choice 1 tree) (length (drop q.bit (bits_of_bytes key)) % 8) (drop q.bit (bits_of_bytes key)))
-            in_padding = within ∙ ap (λ (y : Result). outcome (length bs) (closed y)) (in_tree ∙ ap (into (choice 1)) v.is)
+            in_padding = within ∙ ap (λ (y : form.Result). outcome (length bs) (closed y)) (in_tree ∙ ap (into (choice 1)) v.is)
 
-            pub whole_left : r < length key * 8 → (q' : Pos) → q' ≡ refused_at 10 r → WholeIn key n k m q' N' M' Z'
-            whole_left l q' j =
-                subst (λ (x : Pos). WholeIn key n k m x N' M' Z') (sym j)
-                (record {
+            pub whole_left : r < length key * 8 → WholeIn key n k m (Err (record { why = BadKey; bit = r })) N' M' Z'
+            whole_left l =
+                record {
                   stopped =
-                      λ _. in_padding ∙ ap (outcome (length bs)) (f.stopped (omega (arith, length_bytes key)) (choice 1 tree))
+                      in_padding ∙ ap (outcome (length bs)) (f.stopped (omega (arith, length_bytes key)) (choice 1 tree))
                       ∙ ap (λ (x : ℕ). refused bad_key (refusal_place (eqb bad_key no_space) x)) (back_to r f.inside);
-                  held = λ y. absurd (omega arith);
-                })
+                  held = tt;
+                }
 
             run_is : plant node_table type (laid tree 0) done ≡ kid 0 0 g.run done
             run_is = v.plants
@@ -221,12 +222,12 @@ module _ (key : List ℕ) (n k m : ℕ) where
             unfolding first_names
             names_first = g.stored.names_are ∙ ap names_in (sym run_is)
 
-            pub whole_done : length key * 8 ≤ r → WholeIn key n k m q N' M' Z'
+            pub whole_done : length key * 8 ≤ r → WholeIn key n k m (Ok q) N' M' Z'
             whole_done l =
                 record {
-                  stopped = λ y. absurd (y o);
+                  stopped = tt;
                   held =
-                      λ _. record {
+                      record {
                         tree = tree;
                         is = in_padding ∙ ap (outcome (length bs)) (f.went (omega (arith, f.inside, length_bytes key)) (choice 1 tree));
                         room = omega (arith, g.total);
@@ -241,42 +242,42 @@ module _ (key : List ℕ) (n k m : ℕ) where
 
 -- ---- What the call leaves
 
-module _ (key : List ℕ) (a b c : ℕ) (q : Pos) (N M X : List ℕ) (w : WholeIn key (a / record_words) b c q N M X)
-    (la : length N ≡ a) (lb : length M ≡ b) (lc : length X ≡ c) where
-  pub call_refused : (q.why ≡ 0 → ⊥) → (place : ℕ) → place ≡ refusal_place (eqb q.why no_space) q.bit → (N' M' X' : List ℕ)
-      → N' ≡ filled (length N) (take 0 N) → M' ≡ filled (length M) (take 0 M) → X' ≡ filled (length X) (take 0 X) → Answers (take_back key a b c) (Refused q.why place) N' M' X'
-  call_refused o place e N' M' X' i j k =
-      let z = ap (lent a b c) (w.stopped o) in
+module _ (key : List ℕ) (a b c : ℕ) (N M X : List ℕ) (la : length N ≡ a) (lb : length M ≡ b) (lc : length X ≡ c) where
+  pub call_refused : (e : Stop) → WholeIn key (a / record_words) b c (Err e) N M X → (place : ℕ) → place ≡ refusal_place (eqb (number_of e.why) no_space) e.bit → (N' M' X' : List ℕ)
+      → N' ≡ filled (length N) (take 0 N) → M' ≡ filled (length M) (take 0 M) → X' ≡ filled (length X) (take 0 X) → Answers (take_back key a b c) (Err (record { why = e.why; bit = place })) N' M' X'
+  call_refused e w place p N' M' X' i j k =
+      let z = ap (lent a b c) w.stopped in
       record {
-        answer = ap (store.no q.why) e ∙ sym (ap (λ (t : store.TakenBack). t.answer) z);
+        answer = ap (store.no (number_of e.why)) p ∙ sym (ap (λ (t : store.TakenBack). t.answer) z);
         nodes_are = i ∙ ap (λ (x : ℕ). filled x []) la ∙ sym (ap (λ (t : store.TakenBack). t.node_words) z);
         names_are = j ∙ ap (λ (x : ℕ). filled x []) lb ∙ sym (ap (λ (t : store.TakenBack). t.name_words) z);
         text_is = k ∙ ap (λ (x : ℕ). filled x []) lc ∙ sym (ap (λ (t : store.TakenBack). t.text) z);
       }
 
-  -- The nodes used fit.
-  pub used_small : q.why ≡ 0 → q.used * 4 ≤ a
-  used_small o = omega (arith, (w.held o).room)
-
-  module _ (o : q.why ≡ 0) (N' M' X' : List ℕ) (i : N' ≡ filled (length N) (take (q.used * 4) N)) (j : M' ≡ filled (length M) (take q.names M))
-      (k : X' ≡ filled (length X) (take q.chars X)) where
+  module _ (q : Pos) (w : WholeIn key (a / record_words) b c (Ok q) N M X) where
     h : Held key (a / record_words) b c q N M X
-    h = w.held o
+    h = w.held
 
-    nodes_are' : take (q.used * 4) N ≡ nodes_of (laid h.tree 0)
-    unfolding first_nodes
-    nodes_are' = (let z : q.used * 4 ≡ 4 * q.used = omega arith in ap (λ (x : ℕ). take x N) z) ∙ h.nodes_are
+    -- The nodes used fit.
+    pub used_small : q.used * 4 ≤ a
+    used_small = omega (arith, h.room)
 
-    names_are' : take q.names M ≡ names_of (laid h.tree 0)
-    unfolding first_names
-    names_are' = h.names_are
+    module _ (N' M' X' : List ℕ) (i : N' ≡ filled (length N) (take (q.used * 4) N)) (j : M' ≡ filled (length M) (take q.names M))
+        (k : X' ≡ filled (length X) (take q.chars X)) where
+      nodes_are' : take (q.used * 4) N ≡ nodes_of (laid h.tree 0)
+      unfolding first_nodes
+      nodes_are' = (let z : q.used * 4 ≡ 4 * q.used = omega arith in ap (λ (x : ℕ). take x N) z) ∙ h.nodes_are
 
-    pub call_taken : Answers (take_back key a b c) (Taken q.used q.names q.chars) N' M' X'
-    call_taken =
-        let z = ap (lent a b c) h.is in
-        record {
-          answer = (λ t. store.back (h.used t) (h.named t) (h.chars t)) ∙ sym (ap (λ (t : store.TakenBack). t.answer) z);
-          nodes_are = i ∙ ap₂ filled la nodes_are' ∙ sym (ap (λ (t : store.TakenBack). t.node_words) z);
-          names_are = j ∙ ap₂ filled lb names_are' ∙ sym (ap (λ (t : store.TakenBack). t.name_words) z);
-          text_is = k ∙ ap₂ filled lc h.text_is ∙ sym (ap (λ (t : store.TakenBack). t.text) z);
-        }
+      names_are' : take q.names M ≡ names_of (laid h.tree 0)
+      unfolding first_names
+      names_are' = h.names_are
+
+      pub call_taken : Answers (take_back key a b c) (Ok (q.used, q.names, q.chars)) N' M' X'
+      call_taken =
+          let z = ap (lent a b c) h.is in
+          record {
+            answer = (λ t. store.back (h.used t) (h.named t) (h.chars t)) ∙ sym (ap (λ (t : store.TakenBack). t.answer) z);
+            nodes_are = i ∙ ap₂ filled la nodes_are' ∙ sym (ap (λ (t : store.TakenBack). t.node_words) z);
+            names_are = j ∙ ap₂ filled lb names_are' ∙ sym (ap (λ (t : store.TakenBack). t.name_words) z);
+            text_is = k ∙ ap₂ filled lc h.text_is ∙ sym (ap (λ (t : store.TakenBack). t.text) z);
+          }

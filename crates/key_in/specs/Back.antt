@@ -1,5 +1,5 @@
 -- What each function that takes a key back answers, and what it leaves in the outputs (01, The two calls; Refusal numbers).
-use Rattle.std.specs.Prelude.{◌≡◌, List, ℕ, ◌+◌, ◌-◌, ◌*◌, ◌/◌, ◌≤◌, ◌<◌, eqb, length, take}
+use Rattle.std.specs.Prelude.{◌≡◌, List, ℕ, ◌+◌, ◌-◌, ◌*◌, ◌/◌, ◌≤◌, ◌<◌, eqb, length, take, Result, Ok, Err, IfOk, IfErr}
 use Rattle.keys.specs.Bits.{Bits, bits_of_bytes}
 use Rattle.keys.specs.Form.{Value, nodes, names, letters, Form, Grammar}
 use Rattle.keys.specs.Limits.{longest_key, record_words, no_space, choices_wide}
@@ -11,14 +11,14 @@ use Rattle.keys.specs.Words.{first_nodes, first_names}
 use Rattle.keys.specs.Stored.{base, Stored}
 use Rattle.node_table.specs.Forms.{grammar_of, nodes_then, table_most}
 use Rattle.node_table.specs.declared.forms.Row.{Row}
-use Rattle.key_parts.specs.Runs.{ran, halt, form_run, node_run}
-use Rattle.key_parts.specs.Place.{state_at, Inside, Lent, Filled, bits_in, long}
+use Rattle.words.specs.Refusal.{number_of}
+use Rattle.key_parts.specs.Runs.{ran, form_run, node_run}
+use Rattle.key_parts.specs.Place.{state_at, Inside, Halts, Lent, Filled, bits_in, long}
 use Rattle.key_parts.specs.Widths.{Spans, Slim, Sized}
 use Rattle.key_parts.specs.Step.{Steady, Housed, Went}
 use Rattle.key_parts.specs.declared.place.Pos.{Pos}
 use Rattle.key_parts.specs.declared.place.Fill.{Fill}
-use Rattle.key_in.specs.declared.back.Answer.{Answer}
-use Rattle.key_in.specs.declared.back.Answer.TheVariants.{Taken, Refused}
+use Rattle.key_parts.specs.declared.refusal.Stop.{Stop}
 
 -- ---- Nodes
 
@@ -30,14 +30,13 @@ pub record Grown (bs : Bits) (lm lx : ℕ) (G : Grammar) (left c : ℕ) (p : Pos
   pub total : q.used + q.nodes ≡ p.used + p.nodes
   pub inside : Inside bs lm lx q
 
--- A node: refused as q says, or taken.
-pub record NodeIn (bs : Bits) (lm lx : ℕ) (G : Grammar) (left c : ℕ) (p : Pos) (N M X : List ℕ) (q : Pos) (N' M' X' : List ℕ) : Type 0 where
+-- A node: refused, or taken.
+pub record NodeIn (bs : Bits) (lm lx : ℕ) (G : Grammar) (left c : ℕ) (p : Pos) (N M X : List ℕ) (r : Result Pos Stop) (N' M' X' : List ℕ) : Type 0 where
   pub nodes_same : length N' ≡ length N
   pub names_same : length M' ≡ length M
   pub text_same : length X' ≡ length X
-  pub in_key : q.bit ≤ length bs
-  pub stopped : (q.why ≡ 0 → ⊥) → node_run lx G left c (state_at bs lm lx p) ≡ halt q.why (length bs - q.bit)
-  pub grown : q.why ≡ 0 → Grown bs lm lx G left c p N M X q N' M' X'
+  pub stopped : IfErr r λ e. Halts bs (node_run lx G left c (state_at bs lm lx p)) e
+  pub grown : IfOk r λ q. Grown bs lm lx G left c p N M X q N' M' X'
 
 -- What a node asks.
 pub record Asks (bs : Bits) (ln lm lx : ℕ) (T : List ℕ) (class : ℕ) (p : Pos) : Type 0 where
@@ -46,14 +45,13 @@ pub record Asks (bs : Bits) (ln lm lx : ℕ) (T : List ℕ) (class : ℕ) (p : P
   pub in_table : class < table_most
   pub slim : Slim T
 
--- n nodes, a spelling after each if w > 0: refused as s' says, or gone on to the next form.
-pub record NodesIn (bs : Bits) (lm lx : ℕ) (G : Grammar) (left : ℕ) (r : Row) (s : Fill) (N M X : List ℕ) (s' : Fill) (N' M' X' : List ℕ) : Type 0 where
+-- n nodes, a spelling after each if w > 0: refused, or gone on to the next form.
+pub record NodesIn (bs : Bits) (lm lx : ℕ) (G : Grammar) (left : ℕ) (r : Row) (s : Fill) (N M X : List ℕ) (q : Result Fill Stop) (N' M' X' : List ℕ) : Type 0 where
   pub nodes_same : length N' ≡ length N
   pub names_same : length M' ≡ length M
   pub text_same : length X' ≡ length X
-  pub in_key : s'.at.bit ≤ length bs
-  pub stopped : (s'.at.why ≡ 0 → ⊥) → (g : Form) → Spans g (choices_wide - s.shift) → form_run lx (node_run lx G left) (nodes_then s.n r.a r.w g) (state_at bs lm lx s.at) ≡ halt s'.at.why (length bs - s'.at.bit)
-  pub went : s'.at.why ≡ 0 → (g : Form) → Spans g (choices_wide - s.shift)
+  pub stopped : IfErr q λ e. (g : Form) → Spans g (choices_wide - s.shift) → Halts bs (form_run lx (node_run lx G left) (nodes_then s.n r.a r.w g) (state_at bs lm lx s.at)) e
+  pub went : IfOk q λ s'. (g : Form) → Spans g (choices_wide - s.shift)
       → (s'.form ≡ r.b) × (s'.n ≡ 1) × Went bs lm lx (node_run lx G left) (nodes_then s.n r.a r.w g) g s N M X s' N' M' X'
 
 -- ---- The whole key
@@ -70,17 +68,21 @@ pub record Held (key : List ℕ) (n k m : ℕ) (q : Pos) (N M X : List ℕ) : Ty
   pub names_are : first_names M q.names ≡ names_of (laid tree 0)
   pub text_is : take q.chars X ≡ text_of tree
 
--- A whole key: refused as q says, or taken.
-pub record WholeIn (key : List ℕ) (n k m : ℕ) (q : Pos) (N M X : List ℕ) : Type 0 where
-  pub stopped : (q.why ≡ 0 → ⊥) → take_key n k m key ≡ refused q.why (refusal_place (eqb q.why no_space) q.bit)
-  pub held : q.why ≡ 0 → Held key n k m q N M X
+-- A whole key: refused, or taken.
+pub record WholeIn (key : List ℕ) (n k m : ℕ) (r : Result Pos Stop) (N M X : List ℕ) : Type 0 where
+  pub stopped : IfErr r λ e. take_key n k m key ≡ refused (number_of e.why) (refusal_place (eqb (number_of e.why) no_space) e.bit)
+  pub held : IfOk r λ q. Held key n k m q N M X
 
 -- ---- The call
 
+-- What taking back answers: the nodes, names and bytes of text used; or a refusal and its place.
+abbrev pub Answer : Type 0
+Answer = Result (ℕ × ℕ × ℕ) Stop
+
 -- 01's number and values for each case of the answer.
 abbrev pub told : Answer → store.Answer
-told (Taken n k m) = store.back n k m
-told (Refused number place) = store.no number place
+told (Ok (n, k, m)) = store.back n k m
+told (Err e) = store.no (number_of e.why) e.bit
 
 -- The answer and the final content of each output are those of the definition.
 pub record Answers (d : TakenBack) (r : Answer) (N M X : List ℕ) : Type 0 where
@@ -102,17 +104,17 @@ AsksNodes forms key nodes names text r s =
 
 -- ---- What is answered over what is lent
 
-abbrev pub TakesNode : (forms key : Lent) (nodes names text : Filled) (left class : ℕ) (p q : Pos) → Type 0
+abbrev pub TakesNode : (forms key : Lent) (nodes names text : Filled) (left class : ℕ) (p : Pos) (q : Result Pos Stop) → Type 0
 TakesNode forms key nodes names text left class p q =
     NodeIn (bits_in key) (long names) (long text) (grammar_of forms.entry.now) left class p
     nodes.entry.now names.entry.now text.entry.now q nodes.exit.now names.exit.now text.exit.now
 
-abbrev pub TakesNodes : (forms key : Lent) (nodes names text : Filled) (left : ℕ) (r : Row) (s q : Fill) → Type 0
+abbrev pub TakesNodes : (forms key : Lent) (nodes names text : Filled) (left : ℕ) (r : Row) (s : Fill) (q : Result Fill Stop) → Type 0
 TakesNodes forms key nodes names text left r s q =
     NodesIn (bits_in key) (long names) (long text) (grammar_of forms.entry.now) left r s
     nodes.entry.now names.entry.now text.entry.now q nodes.exit.now names.exit.now text.exit.now
 
-abbrev pub TakesWhole : (key : Lent) (nodes names text : Filled) (q : Pos) → Type 0
+abbrev pub TakesWhole : (key : Lent) (nodes names text : Filled) (q : Result Pos Stop) → Type 0
 TakesWhole key nodes names text q =
     WholeIn key.entry.now (long nodes / record_words) (long names) (long text) q nodes.exit.now names.exit.now text.exit.now
 

@@ -2,13 +2,13 @@
 ghost use Rattle.std.specs.Prelude.{◌≡◌, eqb};
 ghost use Rattle.keys.specs.Limits.{no_space};
 ghost use Rattle.keys.specs.Key.{refusal_place};
+ghost use Rattle.words.specs.Refusal.{number_of};
 ghost use Rattle.key_in.specs.Back as back;
 
 use fields::reader;
-use fields::reader::Field;
 use key_parts::place::{Fill, Pos};
-use key_parts::refusal::Refusal;
-use key_parts::{choice, padding, place, step};
+use key_parts::refusal::{Refusal, Stop};
+use key_parts::{choice, padding, step};
 use keys::store;
 use node_table::forms;
 use node_table::forms::{Row, TABLE};
@@ -25,33 +25,32 @@ fn take_node(
     class: usize,
     left: usize,
     p: Pos,
-) -> Pos
+) -> Result<Pos, Stop>
     requires { back.AsksNode forms.now key.now nodes.old names.old text.old class p }
     ensures { back.TakesNode forms key nodes names text left class p result }
 {
     let bit = p.bit;
     let steps = forms::word_at(forms, 1);
     let tags = forms::class_at(forms, class);
-    let tag = choice::take_tag(forms, key, steps, tags, bit);
-    if tag.why != 0 {
-        return place::refused(Refusal::BAD_KEY, bit);
-    }
+    let tag = choice::take_tag(forms, key, steps, tags, bit)?;
     if left == 0 {
-        return place::refused(Refusal::TOO_TALL, bit);
+        return Err(Stop {
+            why: Refusal::TooTall,
+            bit,
+        });
     }
     if p.nodes == 0 {
-        return place::refused(Refusal::NO_ROOM, bit);
+        return Err(Stop {
+            why: Refusal::NoRoom,
+            bit,
+        });
     }
-    let at = Pos {
-        why: 0,
-        bit: tag.bit,
-        nodes: p.nodes - 1,
-        used: p.used,
-        names: p.names,
-        chars: p.chars,
-    };
     let mut s = Fill {
-        at,
+        at: Pos {
+            bit: tag.bit,
+            nodes: p.nodes - 1,
+            ..p
+        },
         base: p.used,
         word: tag.number as u64,
         shift: tags.w,
@@ -59,39 +58,25 @@ fn take_node(
         form: tag.form,
         n: tag.n,
     };
-    let mut depth = steps;
-    while 0 < depth {
+    for done in 0..steps {
         let r = forms::row_at(forms, s.form);
-        let op = r.op;
-        if op == forms::END {
-            let q = s.at;
-            store::append_node(nodes, q.used, s.word, 0, 0, s.child, p.names);
-            return Pos {
-                why: 0,
-                bit: q.bit,
-                nodes: q.nodes,
-                used: q.used + 1,
-                names: q.names,
-                chars: q.chars,
-            };
+        if r.op == forms::END {
+            store::append_node(nodes, s.at.used, s.word, 0, 0, s.child, p.names);
+            return Ok(Pos {
+                used: s.at.used + 1,
+                ..s.at
+            });
         }
-        depth -= 1;
-        if op == forms::NODES {
-            s = take_nodes(forms, key, nodes, names, text, left - 1, r, s);
-            let q = s.at;
-            if q.why != 0 {
-                return q;
-            }
+        if r.op == forms::NODES {
+            s = take_nodes(forms, key, nodes, names, text, left - 1, r, s)?;
         } else {
-            s = step::take_plain(forms, key, names, text, depth, r, s);
-            let q = s.at;
-            if q.why != 0 {
-                return q;
-            }
+            s = step::take_plain(forms, key, names, text, steps - (done + 1), r, s)?;
         }
     }
-    let q = s.at;
-    place::refused(Refusal::BAD_KEY, q.bit)
+    Err(Stop {
+        why: Refusal::BadKey,
+        bit: s.at.bit,
+    })
 }
 
 // n nodes, one after the other, a spelling after each if its length has any bits.
@@ -105,56 +90,47 @@ fn take_nodes(
     left: usize,
     r: Row,
     s: Fill,
-) -> Fill
+) -> Result<Fill, Stop>
     requires { back.AsksNodes forms.now key.now nodes.old names.old text.old r s }
     ensures { back.TakesNodes forms key nodes names text left r s result }
 {
-    let n = s.n;
     let mut q = s;
-    let mut i: usize = 0;
-    while i < n {
-        let from = q.at;
-        let at = take_node(forms, key, nodes, names, text, r.a, left, from);
-        if at.why != 0 {
-            return place::moved(q, at);
-        }
+    for _ in 0..s.n {
+        let at = take_node(forms, key, nodes, names, text, r.a, left, q.at)?;
         q = step::link_child(nodes, q, at);
-        q = step::take_after(key, names, text, r.w, q);
-        let p = q.at;
-        if p.why != 0 {
-            return q;
-        }
-        i += 1;
+        q = step::take_after(key, names, text, r.w, q)?;
     }
-    let at = q.at;
-    Fill {
-        at,
-        base: q.base,
-        word: q.word,
-        shift: q.shift,
-        child: q.child,
+    Ok(Fill {
         form: r.b,
         n: 1,
-    }
+        ..q
+    })
 }
 
 // A whole key: not too long, its edition, its tree, zero bits to the byte and no byte more.
-fn take_whole(key: &[u8], nodes: &mut [u64], names: &mut [u64], text: &mut [u8]) -> Pos
+fn take_whole(
+    key: &[u8],
+    nodes: &mut [u64],
+    names: &mut [u64],
+    text: &mut [u8],
+) -> Result<Pos, Stop>
     ensures { back.TakesWhole key nodes names text result }
 {
+    let bad = Stop {
+        why: Refusal::BadKey,
+        bit: 0,
+    };
     if Key::MOST < key.len() {
-        return place::refused(Refusal::BAD_KEY, 0);
+        return Err(bad);
     }
-    let taken = reader::field_at(key, 0, forms::EDITION_WIDTH);
-    let Field::Read(e, next) = taken else {
-        return place::refused(Refusal::BAD_KEY, 0);
+    let Some((e, next)) = reader::field_at(key, 0, forms::EDITION_WIDTH) else {
+        return Err(bad);
     };
     if e != forms::EDITION {
-        return place::refused(Refusal::BAD_KEY, 0);
+        return Err(bad);
     }
     let words = forms::words();
     let start = Pos {
-        why: 0,
         bit: next,
         nodes: nodes.len() / store::RECORD,
         used: 0,
@@ -170,47 +146,49 @@ fn take_whole(key: &[u8], nodes: &mut [u64], names: &mut [u64], text: &mut [u8])
         forms::TYPE,
         Tree::TALLEST,
         start,
-    );
-    if q.why != 0 {
-        return q;
-    }
+    )?;
     let end = padding::pad_end(key, q.bit);
     if end < key.len() * 8 {
-        return place::refused(Refusal::BAD_KEY, end);
+        return Err(Stop { bit: end, ..bad });
     }
-    q
-}
-
-// What taking back answers: the nodes, names and bytes of text used; or a refusal's number and place.
-#[derive(Clone, Copy)]
-pub enum Answer {
-    Taken(usize, usize, usize),
-    Refused(u32, usize),
+    Ok(q)
 }
 
 // A refusal's place is its bit; that of 11 is 0.
-fn place_of(why: u32, bit: usize) -> usize
-    ensures { result ≡ refusal_place (eqb why no_space) bit }
+fn place_of(stop: Stop) -> usize
+    ensures { result ≡ refusal_place (eqb (number_of stop.why) no_space) stop.bit }
 {
-    if why == Refusal::NO_SPACE {
-        return 0;
+    if stop.why == Refusal::NoSpace {
+        0
+    } else {
+        stop.bit
     }
-    bit
 }
 
-// Takes a key back: its tree, its names and its spellings, then zeros; all zeros on a refusal.
-pub fn take_back(key: &[u8], nodes: &mut [u64], names: &mut [u64], text: &mut [u8]) -> Answer
+// Takes a key back: its tree, its names and its spellings, then zeros, and how many nodes, names and bytes of text it has used; all zeros on a refusal.
+pub fn take_back(
+    key: &[u8],
+    nodes: &mut [u64],
+    names: &mut [u64],
+    text: &mut [u8],
+) -> Result<(usize, usize, usize), Stop>
     ensures { back.GivesBack key nodes names text result }
 {
-    let q = take_whole(key, nodes, names, text);
-    if q.why != 0 {
-        store::clear_words(nodes, 0);
-        store::clear_words(names, 0);
-        store::clear_bytes(text, 0);
-        return Answer::Refused(q.why, place_of(q.why, q.bit));
+    match take_whole(key, nodes, names, text) {
+        Ok(q) => {
+            store::clear_words(nodes, q.used * store::RECORD);
+            store::clear_words(names, q.names);
+            store::clear_bytes(text, q.chars);
+            Ok((q.used, q.names, q.chars))
+        }
+        Err(stop) => {
+            store::clear_words(nodes, 0);
+            store::clear_words(names, 0);
+            store::clear_bytes(text, 0);
+            Err(Stop {
+                bit: place_of(stop),
+                ..stop
+            })
+        }
     }
-    store::clear_words(nodes, q.used * store::RECORD);
-    store::clear_words(names, q.names);
-    store::clear_bytes(text, q.chars);
-    Answer::Taken(q.used, q.names, q.chars)
 }

@@ -1,6 +1,6 @@
 -- Whether the table has no form at a number, as the code tests it.
 use mathlib.Core.Path.{◌≡◌, refl, sym, ap, ◌∙◌}
-use mathlib.Core.Bool.{Bool, true, false}
+use mathlib.Core.Bool.{false}
 use mathlib.Core.List.{List}
 use Prim.Native.Nat.{ℕ, zero, suc, ◌-◌, ◌≤◌, ◌<◌}
 use native.Mathlib.Omega.{arith}
@@ -28,37 +28,13 @@ never_by T go (suc n) e (suc (suc (suc zero))) h = some_op 2
 never_by T go n e (suc (suc (suc (suc zero)))) h = some_op 3
 never_by T go n e (suc (suc (suc (suc (suc k))))) h = some_op (suc (suc (suc (suc k))))
 
-never_none : (T : List ℕ) (go : ℕ → ℕ → Form) (e : Entry) (k : ℕ) → (k ≡ 2 → ⊥) → (k ≡ 3 → ⊥) → eqb k 0 ≡ is_never (form_by T go 0 e k)
-never_none T go e zero a b = eq-eqb 0 0 refl
-never_none T go e (suc zero) a b = some_op 0
-never_none T go e (suc (suc zero)) a b = absurd (a refl)
-never_none T go e (suc (suc (suc zero))) a b = absurd (b refl)
-never_none T go e (suc (suc (suc (suc zero)))) a b = some_op 3
-never_none T go e (suc (suc (suc (suc (suc k))))) a b = some_op (suc (suc (suc (suc k))))
-
 module _ (T : List ℕ) (steps f : ℕ) where
-  pub no_steps : (n : ℕ) → steps ≡ 0 → true ≡ is_never (form_of T steps n f)
-  no_steps n e = sym (ap (λ (x : ℕ). is_never (form_of T x n f)) e)
-
   module _ (r : Row) (i : IsRow (entry_at T f) r) (h : steps ≡ 0 → ⊥) where
     at : (n k : ℕ) → r.op ≡ k → form_of T steps n f ≡ form_by T (λ m g. form_of T (steps - 1) m g) n (entry_of r) k
     at n k e = form_at_lem T steps (steps - 1) n f (before_one steps h) r i k e
 
     pub some_steps : (n : ℕ) → 1 ≤ n → eqb r.op 0 ≡ is_never (form_of T steps n f)
     some_steps n l = never_by T (λ m g. form_of T (steps - 1) m g) n (entry_of r) r.op l ∙ sym (ap is_never (at n r.op refl))
-
-    module _ (n : ℕ) (z : n ≡ 0) where
-      at_none : (k : ℕ) → r.op ≡ k → form_of T steps n f ≡ form_by T (λ m g. form_of T (steps - 1) m g) 0 (entry_of r) k
-      at_none k e = ap (λ (x : ℕ). form_of T steps x f) z ∙ at 0 k e
-
-      pub past_words : (b : Bool) → r.op ≡ 2 → ((m : ℕ) → 1 ≤ m → b ≡ is_never (form_of T (steps - 1) m r.b)) → b ≡ is_never (form_of T steps n f)
-      past_words b e k = k 1 (omega arith) ∙ sym (ap is_never (at_none 2 e))
-
-      pub past_nodes : (b : Bool) → r.op ≡ 3 → ((m : ℕ) → 1 ≤ m → b ≡ is_never (form_of T (steps - 1) m r.b)) → b ≡ is_never (form_of T steps n f)
-      past_nodes b e k = k 1 (omega arith) ∙ sym (ap is_never (at_none 3 e))
-
-      pub past_none : (r.op ≡ 2 → ⊥) → (r.op ≡ 3 → ⊥) → eqb r.op 0 ≡ is_never (form_of T steps n f)
-      past_none a b = never_none T (λ m g. form_of T (steps - 1) m g) (entry_of r) r.op a b ∙ sym (ap is_never (at_none r.op refl))
 
 pub some_times : (n : ℕ) → (n ≡ 0 → ⊥) → 1 ≤ n
 some_times zero h = absurd (h refl)

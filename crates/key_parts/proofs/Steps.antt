@@ -1,5 +1,5 @@
 -- Steps of taking back: names, choices, and how runs join.
-use mathlib.Core.Path.{◌≡◌, refl, sym, ap, ap₂, ◌∙◌, subst}
+use mathlib.Core.Path.{◌≡◌, refl, sym, ap, ap₂, ◌∙◌, subst, subst₂}
 use mathlib.Core.Bool.{Bool, true, false}
 use mathlib.Core.List.{List, [], ◌∷◌, ◌++◌}
 use mathlib.Core.Logic.{◌⊎◌, inl, inr}
@@ -10,7 +10,8 @@ use lib.Dec.{leb}
 use lib.ListN.{length, take, drop, length-drop}
 use lib.Seq.{drop-drop}
 use Rattle.keys.specs.Bits.{Bits, field, take_field, cut, row, ahead, after_byte, take_bytes}
-use Rattle.keys.specs.Form.{spelt, Form, word, both, is_never, State, state, Result, got, stop, keep, take_letters, take_length, take_spelling}
+use Rattle.keys.specs.Form as form
+use Rattle.keys.specs.Form.{spelt, Form, one, word, both, is_never, State, state, got, stop, keep, take_letters, take_length, take_spelling}
 use Rattle.keys.specs.Limits.{bad_key, no_space, half_word}
 use Rattle.keys.specs.Store.{Run, done, name, ◌⊕◌}
 use Rattle.keys.proofs.StoreLaws.{join_join}
@@ -20,16 +21,18 @@ use Rattle.keys.specs.Stored.{Stored, Own}
 use Rattle.keys.proofs.StoredLaws.{stored_same, own_same, stored_name, own_name}
 use Rattle.fields.specs.Take.{answered}
 use Rattle.fields.specs.Reader.{remembered}
-use Rattle.fields.specs.declared.reader.Field.TheVariants.{Read, Cut}
+use Rattle.std.specs.Prelude.{Some, None, Result, Ok, Err}
+use Rattle.words.specs.Refusal.{number_of}
+use Rattle.words.specs.declared.refusal.Refusal.TheVariants.{BadKey}
 use Rattle.fields.proofs.Chunks.{Told, take_rest}
 use Rattle.fields.proofs.ReaderLaws.{field_cut, read_told, read_next}
 use Rattle.node_table.specs.Forms.{form_of, spellings_then, spelling_if, table_most}
 use Rattle.key_parts.specs.Runs.{Ran, ran, halt, after, then_run, as_name, choice_run, whole_run, allowed_run, form_run}
-use Rattle.key_parts.specs.Place.{state_at, Inside, refused_at}
-use Rattle.key_parts.specs.Spelling.{Named, NamesIn, SpellingIn, SpellingsIn}
-use Rattle.key_parts.specs.Choice.{Picked, unpicked}
+use Rattle.key_parts.specs.Place.{state_at, Inside, Halts}
+use Rattle.key_parts.specs.Spelling.{Gone, SpellingIn, SpellingsIn}
+use Rattle.key_parts.specs.Choice.{PickedIn}
 use Rattle.key_parts.specs.declared.place.Pos.{Pos}
-use Rattle.key_parts.specs.declared.choice.Pick.{Pick}
+use Rattle.key_parts.specs.declared.refusal.Stop.{Stop}
 
 -- ---- Runs
 
@@ -48,103 +51,89 @@ then_after u (halt n l) k = refl
 -- ---- Names, one after the other
 
 module _ (bs : Bits) (lm lx : ℕ) where
-  pub names_none : (g : Form) (p : Pos) (M X : List ℕ) → p.why ≡ 0 → Inside bs lm lx p → NamesIn bs lm lx g g p M X p M X
-  names_none g p M X z h =
+  pub gone_none : (g : Form) (p : Pos) (M X : List ℕ) → Inside bs lm lx p → Gone bs lm lx g g p M X p M X
+  gone_none g p M X h =
       record {
-        names_same = refl;
-        text_same = refl;
-        in_key = h.in_key;
-        stopped = λ o. absurd (o z);
         run = done;
-        went = λ _ Y. sym (after_done (form_run lx Y g (state_at bs lm lx p)));
-        left = λ _. record { ok = z; inside = h; used = refl; nodes = refl; stored = λ B t N d. stored_same d; own = λ B t a b c o. own_same o };
+        went = λ Y. sym (after_done (form_run lx Y g (state_at bs lm lx p)));
+        left = record { inside = h; used = refl; nodes = refl; stored = λ B t N d. stored_same d; own = λ B t a b c o. own_same o };
       }
 
-  named_then : {p q r : Pos} {M X M' X' M'' X'' : List ℕ} {u v : Run} → Named bs lm lx p M X q M' X' u → Named bs lm lx q M' X' r M'' X'' v → Named bs lm lx p M X r M'' X'' (u ⊕ v)
-  named_then {p} {q} {r} {M} {X} {M'} {X'} {M''} {X''} {u} {v} d e =
+  pub gone_then : {f g h : Form} {p q r : Pos} {M X M' X' M'' X'' : List ℕ} → Gone bs lm lx f g p M X q M' X' → Gone bs lm lx g h q M' X' r M'' X'' → Gone bs lm lx f h p M X r M'' X''
+  gone_then {h = h} {r = r} {M'' = M''} {X'' = X''} d e =
       record {
-        ok = e.ok;
-        inside = e.inside;
-        used = e.used ∙ d.used;
-        nodes = e.nodes ∙ d.nodes;
-        stored = λ B t N x. subst (λ (y : Run). Stored B y N M'' X'' r.used r.names r.chars) (join_join t u v) (e.stored B (t ⊕ u) N (d.stored B t N x));
-        own = λ B t a b c x. subst (λ (y : Run). Own B y a b c) (join_join t u v) (e.own B (t ⊕ u) a b c (d.own B t a b c x));
-      }
-
-  pub names_then : {f g h : Form} {p q r : Pos} {M X M' X' M'' X'' : List ℕ} → NamesIn bs lm lx f g p M X q M' X' → q.why ≡ 0 → NamesIn bs lm lx g h q M' X' r M'' X''
-      → NamesIn bs lm lx f h p M X r M'' X''
-  names_then {h = h} {r = r} d z e =
-      record {
-        names_same = e.names_same ∙ d.names_same;
-        text_same = e.text_same ∙ d.text_same;
-        in_key = e.in_key;
-        stopped = λ o Y. d.went z Y ∙ ap (after d.run) (e.stopped o Y);
         run = d.run ⊕ e.run;
-        went = λ o Y. d.went z Y ∙ ap (after d.run) (e.went o Y) ∙ after_after d.run e.run (form_run lx Y h (state_at bs lm lx r));
-        left = λ o. named_then (d.left z) (e.left o);
+        went = λ Y. d.went Y ∙ ap (after d.run) (e.went Y) ∙ after_after d.run e.run (form_run lx Y h (state_at bs lm lx r));
+        left =
+            record {
+              inside = e.left.inside;
+              used = e.left.used ∙ d.left.used;
+              nodes = e.left.nodes ∙ d.left.nodes;
+              stored =
+                  λ B t N x. subst (λ (y : Run). Stored B y N M'' X'' r.used r.names r.chars) (join_join t d.run e.run) (e.left.stored B (t ⊕ d.run) N (d.left.stored B t N x));
+              own = λ B t a b c x. subst (λ (y : Run). Own B y a b c) (join_join t d.run e.run) (e.left.own B (t ⊕ d.run) a b c (d.left.own B t a b c x));
+            };
       }
+
+  -- A refusal further on.
+  pub halts_after : {x y : Ran} {e : Stop} (u : Run) → x ≡ after u y → Halts bs y e → Halts bs x e
+  halts_after u i d = record { in_key = d.in_key; is = i ∙ ap (after u) d.is }
 
   -- i of n spellings are taken.
   pub record Spelling (w n : ℕ) (p : Pos) (M X : List ℕ) (i : ℕ) (q : Pos) (M' X' : List ℕ) : Type 0 where
-    pub few : i ≤ n
-    pub ok : q.why ≡ 0
     pub inside : Inside bs lm lx q
     pub names_same : length M' ≡ length M
     pub text_same : length X' ≡ length X
-    pub names : (g : Form) → NamesIn bs lm lx (spellings_then n w g) (spellings_then (n - i) w g) p M X q M' X'
+    pub gone : (g : Form) → Gone bs lm lx (spellings_then n w g) (spellings_then (n - i) w g) p M X q M' X'
 
-  pub spelling_none : (w n : ℕ) (p : Pos) (M X : List ℕ) → p.why ≡ 0 → Inside bs lm lx p → Spelling w n p M X 0 p M X
-  spelling_none w n p M X z h =
+  pub spelling_none : (w n : ℕ) (p : Pos) (M X : List ℕ) → Inside bs lm lx p → Spelling w n p M X 0 p M X
+  spelling_none w n p M X h =
       let e : n ≡ n - 0 = omega arith in
       record {
-        few = omega arith;
-        ok = z;
         inside = h;
         names_same = refl;
         text_same = refl;
-        names = λ g. subst (λ (k : ℕ). NamesIn bs lm lx (spellings_then n w g) (spellings_then k w g) p M X p M X) e (names_none (spellings_then n w g) p M X z h);
+        gone = λ g. subst (λ (k : ℕ). Gone bs lm lx (spellings_then n w g) (spellings_then k w g) p M X p M X) e (gone_none (spellings_then n w g) p M X h);
       }
 
-  module _ {w n : ℕ} {p : Pos} {M X : List ℕ} {i : ℕ} {q : Pos} {M' X' : List ℕ} (d : Spelling w n p M X i q M' X') (h : i < n) {r : Pos} {M'' X'' : List ℕ}
-      (lm' lx' : ℕ) (a : lm' ≡ lm) (b : lx' ≡ lx) (e : SpellingIn bs lm' lx' w q M' X' r M'' X'') where
-    next : (g : Form) → NamesIn bs lm lx (spellings_then n w g) (spellings_then (n - (i + 1)) w g) p M X r M'' X''
-    next g =
+  module _ {w n : ℕ} {p : Pos} {M X : List ℕ} {i : ℕ} {q : Pos} {M' X' : List ℕ} (d : Spelling w n p M X i q M' X') (h : i < n) where
+    here : (g : Form) → Gone bs lm lx (spellings_then n w g) (both (word w) (spellings_then (n - (i + 1)) w g)) p M X q M' X'
+    here g =
         let z : n - i ≡ suc (n - (i + 1)) = omega arith in
-        let o : NamesIn bs lm lx (both (word w) (spellings_then (n - (i + 1)) w g)) (spellings_then (n - (i + 1)) w g) q M' X' r M'' X'' =
-        subst (λ (x : ℕ). NamesIn bs x lx (both (word w) (spellings_then (n - (i + 1)) w g)) (spellings_then (n - (i + 1)) w g) q M' X' r M'' X'') a
-        (subst (λ (x : ℕ). NamesIn bs lm' x (both (word w) (spellings_then (n - (i + 1)) w g)) (spellings_then (n - (i + 1)) w g) q M' X' r M'' X'') b (e (spellings_then (n - (i + 1)) w g))) in
-        names_then (subst (λ (k : ℕ). NamesIn bs lm lx (spellings_then n w g) (spellings_then k w g) p M X q M' X') z (d.names g)) d.ok o
+        subst (λ (k : ℕ). Gone bs lm lx (spellings_then n w g) (spellings_then k w g) p M X q M' X') z (d.gone g)
 
-    pub spelling_more : r.why ≡ 0 → Spelling w n p M X (i + 1) r M'' X''
-    spelling_more z =
+    pub spelling_more : {r : Pos} {M'' X'' : List ℕ} → SpellingIn bs lm lx w q M' X' (Ok r) M'' X'' → Spelling w n p M X (i + 1) r M'' X''
+    spelling_more e =
         record {
-          few = omega arith;
-          ok = z;
-          inside = ((next word₀).left z).inside;
-          names_same = (next word₀).names_same;
-          text_same = (next word₀).text_same;
-          names = next;
-        }
-      where
-        word₀ : Form
-        word₀ = word w
-
-    pub spelling_stop : (r.why ≡ 0 → ⊥) → SpellingsIn bs lm lx w n p M X r M'' X''
-    spelling_stop z g =
-        record {
-          names_same = (next g).names_same;
-          text_same = (next g).text_same;
-          in_key = (next g).in_key;
-          stopped = (next g).stopped;
-          run = done;
-          went = λ o. absurd (z o);
-          left = λ o. absurd (z o);
+          inside = (e one).gone.left.inside;
+          names_same = (e one).names_same ∙ d.names_same;
+          text_same = (e one).text_same ∙ d.text_same;
+          gone = λ g. gone_then (here g) (e (spellings_then (n - (i + 1)) w g)).gone;
         }
 
-  pub spelling_all : {w n : ℕ} {p : Pos} {M X : List ℕ} {i : ℕ} {q : Pos} {M' X' : List ℕ} → Spelling w n p M X i q M' X' → n ≤ i → SpellingsIn bs lm lx w n p M X q M' X'
+    pub spelling_stop : {r : Stop} {M'' X'' : List ℕ} → SpellingIn bs lm lx w q M' X' (Err r) M'' X'' → SpellingsIn bs lm lx w n p M X (Err r) M'' X''
+    spelling_stop e g =
+        record {
+          names_same = (e one).names_same ∙ d.names_same;
+          text_same = (e one).text_same ∙ d.text_same;
+          stopped = λ Y. halts_after (here g).run ((here g).went Y) ((e (spellings_then (n - (i + 1)) w g)).stopped Y);
+          gone = tt;
+        }
+
+  pub spelling_all : {w n : ℕ} {p : Pos} {M X : List ℕ} {i : ℕ} {q : Pos} {M' X' : List ℕ} → Spelling w n p M X i q M' X' → n ≤ i → SpellingsIn bs lm lx w n p M X (Ok q) M' X'
   spelling_all {w} {n} {p} {M} {X} {i} {q} {M'} {X'} d h g =
       let z : n - i ≡ 0 = omega arith in
-      subst (λ (k : ℕ). NamesIn bs lm lx (spellings_then n w g) (spellings_then k w g) p M X q M' X') z (d.names g)
+      record {
+        names_same = d.names_same;
+        text_same = d.text_same;
+        stopped = tt;
+        gone = subst (λ (k : ℕ). Gone bs lm lx (spellings_then n w g) (spellings_then k w g) p M X q M' X') z (d.gone g);
+      }
+
+-- The same over lengths that are equal.
+pub spelling_as : {bs : Bits} {lm lx lm' lx' w : ℕ} {p : Pos} {M X : List ℕ} {q : Result Pos Stop} {M' X' : List ℕ} → lm' ≡ lm → lx' ≡ lx
+    → SpellingIn bs lm' lx' w p M X q M' X' → SpellingIn bs lm lx w p M X q M' X'
+spelling_as {bs} {lm} {lx} {lm'} {lx'} {w} {p} {M} {X} {q} {M'} {X'} a b d = subst₂ (λ (x y : ℕ). SpellingIn bs x y w p M X q M' X') a b d
 
 pub inside_as : {bs : Bits} {lm lx lm' lx' : ℕ} {p : Pos} → Inside bs lm lx p → lm' ≡ lm → lx' ≡ lx → Inside bs lm' lx' p
 inside_as h a b =
@@ -188,7 +177,7 @@ module _ (bs : Bits) (bit w a k m : ℕ) where
   abbrev S : State
   S = state a k m (drop bit bs)
 
-  pub word_short : Cut ≡ remembered (answered (take_field w (drop bit bs))) (bit + w) → take_spelling w S ≡ stop bad_key (length (drop bit bs))
+  pub word_short : None ≡ remembered (answered (take_field w (drop bit bs))) (bit + w) → take_spelling w S ≡ stop bad_key (length (drop bit bs))
   word_short e = ap (take_length S) (field_cut (take_field w (drop bit bs)) (bit + w) e)
 
   module _ (n : ℕ) (t : Told bs bit w n) where
@@ -229,56 +218,56 @@ module _ (bs : Bits) (bit w a k m : ℕ) where
 -- ---- What the code answers for a spelling
 
 module _ (bs : Bits) (lm lx w : ℕ) (p : Pos) (M X : List ℕ) where
-  pub spelling_bad : (n : ℕ) → 1 ≤ n → p.bit ≤ length bs → take_spelling w (state_at bs lm lx p) ≡ stop n (length (drop p.bit bs)) → (q : Pos) → q ≡ refused_at n p.bit
-      → SpellingIn bs lm lx w p M X q M X
-  spelling_bad n h k e q i g =
-      subst (λ (x : Pos). NamesIn bs lm lx (both (word w) g) g p M X x M X) (sym i)
-      (record {
+  pub spelling_bad : (e : Stop) → e.bit ≡ p.bit → p.bit ≤ length bs → take_spelling w (state_at bs lm lx p) ≡ stop (number_of e.why) (length (drop p.bit bs)) → SpellingIn bs lm lx w p M X (Err e) M X
+  spelling_bad e b k i g =
+      record {
         names_same = refl;
         text_same = refl;
-        in_key = k;
         stopped =
-            λ _ Y. ap (λ (x : Result). then_run (as_name (lx - (lx - p.chars)) x) λ r. form_run lx Y g r) e ∙ ap (halt n) (length-drop p.bit bs);
-        run = done;
-        went = λ z. absurd (omega arith);
-        left = λ z. absurd (omega arith);
-      })
+            λ Y. record {
+              in_key = omega arith;
+              is =
+                  ap (λ (x : form.Result). then_run (as_name (lx - (lx - p.chars)) x) λ r. form_run lx Y g r) i
+                  ∙ ap (halt (number_of e.why)) (length-drop p.bit bs ∙ ap (λ (x : ℕ). length bs - x) (sym b));
+            };
+        gone = tt;
+      }
 
-  pub spelling_good : (s : List ℕ) (n : ℕ) (M' X' : List ℕ) → length s ≡ n → 1 ≤ n → Inside bs lm lx p → p.chars + n ≤ lx → p.names < lm → p.bit + w + n * 8 ≤ length bs
+  pub spelling_good : (s : List ℕ) (n : ℕ) (M' X' : List ℕ) → length s ≡ n → Inside bs lm lx p → p.chars + n ≤ lx → p.names < lm → 1 ≤ n → p.bit + w + n * 8 ≤ length bs
       → take_spelling w (state_at bs lm lx p) ≡ got (spelt s) (state p.nodes (lm - (p.names + 1)) (lx - p.chars - length s) (drop (p.bit + w + n * 8) bs))
       → length M' ≡ length M → length X' ≡ length X
       → first_names M' (p.names + 1) ≡ first_names M p.names ++ ((p.chars * half_word + n) ∷ []) → take (p.chars + n) X' ≡ take p.chars X ++ s
-      → SpellingIn bs lm lx w p M X (record { why = 0; bit = p.bit + w + n * 8; nodes = p.nodes; used = p.used; names = p.names + 1; chars = p.chars + n }) M' X'
-  spelling_good s n M' X' l one_up h room fewer key e a b c d g =
-      let q : Pos = record { why = 0; bit = p.bit + w + n * 8; nodes = p.nodes; used = p.used; names = p.names + 1; chars = p.chars + n } in
+      → SpellingIn bs lm lx w p M X (Ok (record { bit = p.bit + w + n * 8; nodes = p.nodes; used = p.used; names = p.names + 1; chars = p.chars + n })) M' X'
+  spelling_good s n M' X' l h room fewer some key e a b c d g =
       let here : lx - (lx - p.chars) ≡ p.chars = omega (arith, h.in_text) in
       let there : lx - p.chars - length s ≡ lx - (p.chars + n) = omega arith in
       record {
         names_same = a;
         text_same = b;
-        in_key = key;
-        stopped = λ z. absurd (z refl);
-        run = name p.chars s done;
-        went =
-            λ _ Y. ap (λ (x : Result). then_run (as_name (lx - (lx - p.chars)) x) λ r. form_run lx Y g r) e
-            ∙ ap₂ (λ (x y : ℕ). after (name x s done) (form_run lx Y g (state p.nodes (lm - (p.names + 1)) y (drop (p.bit + w + n * 8) bs)))) here there;
-        left =
-            λ _. record {
-              ok = refl;
-              inside =
+        stopped = tt;
+        gone =
+            record {
+              run = name p.chars s done;
+              went =
+                  λ Y. ap (λ (x : form.Result). then_run (as_name (lx - (lx - p.chars)) x) λ r. form_run lx Y g r) e
+                  ∙ ap₂ (λ (x y : ℕ). after (name x s done) (form_run lx Y g (state p.nodes (lm - (p.names + 1)) y (drop (p.bit + w + n * 8) bs)))) here there;
+              left =
                   record {
-                    in_key = key;
-                    in_names = omega arith;
-                    in_text = room;
-                    few_names = omega (arith, h.few_names);
-                    few_chars = omega (arith, h.few_chars);
+                    inside =
+                        record {
+                          in_key = key;
+                          in_names = omega arith;
+                          in_text = room;
+                          few_names = omega (arith, h.few_names);
+                          few_chars = omega (arith, h.few_chars);
+                        };
+                    used = refl;
+                    nodes = refl;
+                    stored =
+                        λ B t N x. subst (λ (y : ℕ). Stored B (t ⊕ name p.chars s done) N M' X' p.used (p.names + 1) (p.chars + y)) l
+                        (stored_name s M' X' x (c ∙ ap (λ (y : ℕ). first_names M p.names ++ ((p.chars * half_word + y) ∷ [])) (sym l)) (ap (λ (y : ℕ). take (p.chars + y) X') l ∙ d));
+                    own = λ B t x y z o. own_name p.chars s o;
                   };
-              used = refl;
-              nodes = refl;
-              stored =
-                  λ B t N x. subst (λ (y : ℕ). Stored B (t ⊕ name p.chars s done) N M' X' p.used (p.names + 1) (p.chars + y)) l
-                  (stored_name s M' X' x (c ∙ ap (λ (y : ℕ). first_names M p.names ++ ((p.chars * half_word + y) ∷ [])) (sym l)) (ap (λ (y : ℕ). take (p.chars + y) X') l ∙ d));
-              own = λ B t x y z o. own_name p.chars s o;
             };
       }
 
@@ -290,41 +279,36 @@ if_spelled (suc w) g h = refl
 -- ---- A choice, as the code meets it
 
 module _ (bs : Bits) (T : List ℕ) (steps w : ℕ) (fs : ℕ → Form) (bit : ℕ) (h : bit ≤ length bs) where
-  picked_bad : ((n k m : ℕ) (K : ℕ → Bits → Ran) → choice_run w fs (state n k m (drop bit bs)) K ≡ halt bad_key (length (drop bit bs))) → {c : Pick} → c ≡ unpicked bit → Picked bs T steps w fs bit c
-  picked_bad e {c} u =
-      subst (Picked bs T steps w fs bit) (sym u) (record {
-        stopped = λ _ n k m K. e n k m K ∙ ap (halt bad_key) (length-drop bit bs);
-        went = λ z. absurd (omega arith);
-        small = λ z. absurd (omega arith);
-        next = λ z. absurd (omega arith);
-        inside = h;
-        to = λ z. absurd (omega arith);
-        in_table = omega arith;
-        few = omega arith;
-      })
+  abbrev bad : Stop
+  bad = record { why = BadKey; bit = bit }
 
-  pub picked_short : {c : Pick} → c ≡ unpicked bit → Cut ≡ remembered (answered (take_field w (drop bit bs))) (bit + w) → Picked bs T steps w fs bit c
-  picked_short u e = picked_bad (λ n k m K. ap (whole_run (state n k m (drop bit bs)) fs K) (field_cut (take_field w (drop bit bs)) (bit + w) e)) u
+  picked_bad : ((n k m : ℕ) (K : ℕ → Bits → Ran) → choice_run w fs (state n k m (drop bit bs)) K ≡ halt bad_key (length (drop bit bs))) → PickedIn bs T steps w fs bit (Err bad)
+  picked_bad e = record { stopped = λ n k m K. record { in_key = h; is = e n k m K ∙ ap (halt bad_key) (length-drop bit bs) }; picked = tt }
 
-  module _ (t next : ℕ) (read : Read t next ≡ remembered (answered (take_field w (drop bit bs))) (bit + w)) where
+  pub picked_short : None ≡ remembered (answered (take_field w (drop bit bs))) (bit + w) → PickedIn bs T steps w fs bit (Err bad)
+  picked_short e = picked_bad (λ n k m K. ap (whole_run (state n k m (drop bit bs)) fs K) (field_cut (take_field w (drop bit bs)) (bit + w) e))
+
+  module _ (t next : ℕ) (read : Some (t, next) ≡ remembered (answered (take_field w (drop bit bs))) (bit + w)) where
     o : Told bs bit w t
     o = read_told bs bit w (bit + w) t next read
 
-    pub picked_never : {c : Pick} → c ≡ unpicked bit → is_never (fs t) ≡ true → Picked bs T steps w fs bit c
-    picked_never u e =
-        picked_bad (λ n k m K. ap (whole_run (state n k m (drop bit bs)) fs K) o.is ∙ ap (allowed_run (state n k m (drop bit bs)) K t (drop (bit + w) bs)) e) u
+    pub picked_never : is_never (fs t) ≡ true → PickedIn bs T steps w fs bit (Err bad)
+    picked_never e = picked_bad (λ n k m K. ap (whole_run (state n k m (drop bit bs)) fs K) o.is ∙ ap (allowed_run (state n k m (drop bit bs)) K t (drop (bit + w) bs)) e)
 
     pub picked_to : (form n : ℕ) → is_never (fs t) ≡ false → fs t ≡ form_of T steps n form → form < table_most → n < table_most
-        → Picked bs T steps w fs bit (record { why = 0; bit = next; number = t; form = form; n = n })
+        → PickedIn bs T steps w fs bit (Ok (record { bit = next; number = t; form = form; n = n }))
     picked_to form n e q a b =
-        subst (λ (x : ℕ). Picked bs T steps w fs bit (record { why = 0; bit = x; number = t; form = form; n = n })) (sym (read_next bs bit w (bit + w) t next read))
+        subst (λ (x : ℕ). PickedIn bs T steps w fs bit (Ok (record { bit = x; number = t; form = form; n = n }))) (sym (read_next bs bit w (bit + w) t next read))
         (record {
-          stopped = λ z. absurd (z refl);
-          went = λ _ i k m K. ap (whole_run (state i k m (drop bit bs)) fs K) o.is ∙ ap (allowed_run (state i k m (drop bit bs)) K t (drop (bit + w) bs)) e;
-          small = λ _. o.small;
-          next = λ _. refl;
-          inside = o.within h;
-          to = λ _. q;
-          in_table = a;
-          few = b;
+          stopped = tt;
+          picked =
+              record {
+                went = λ i k m K. ap (whole_run (state i k m (drop bit bs)) fs K) o.is ∙ ap (allowed_run (state i k m (drop bit bs)) K t (drop (bit + w) bs)) e;
+                small = o.small;
+                next = refl;
+                inside = o.within h;
+                to = q;
+                in_table = a;
+                few = b;
+              };
         })

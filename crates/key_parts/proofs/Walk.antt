@@ -1,13 +1,12 @@
 -- The walk of a node's fields: steps, and how they join.
 use mathlib.Core.Path.{◌≡◌, refl, sym, ap, ap₂, ◌∙◌, subst, subst₂}
 use mathlib.Core.List.{List}
-use mathlib.Core.Logic.{◌⊎◌, inl, inr}
 use Prim.Native.Nat.{ℕ, zero, suc, ◌+◌, ◌-◌, ◌*◌, ◌≤◌, ◌<◌}
 use native.Mathlib.Omega.{arith}
 use lib.ListN.{length, set, length-set, length-drop}
 use Rattle.keys.specs.Limits.{widest, choices_wide}
 use Rattle.keys.specs.Bits.{Bits}
-use Rattle.keys.specs.Form.{Form, word, choose, both, State}
+use Rattle.keys.specs.Form.{Form, one, word, choose, both, State}
 use Rattle.keys.specs.Store.{Run, done, chose, ◌⊕◌}
 use Rattle.keys.proofs.StoreLaws.{join_join}
 use Rattle.keys.specs.Stored.{Base, Stored, Own}
@@ -15,16 +14,19 @@ use Rattle.keys.proofs.StoredLaws.{stored_same, own_same, stored_choice, own_cho
 use Rattle.node_table.specs.Forms.{Entry, form_by, form_of, leads, entry_of, spellings_then, nodes_then, spelling_if, table_most, entry_at, IsRow, Narrow}
 use Rattle.node_table.specs.declared.forms.Row.{Row}
 use Rattle.key_parts.specs.Runs.{Ran, halt, after, form_run}
-use Rattle.key_parts.specs.Place.{state_at, Inside, refused_at, fill_at, at_bit}
-use Rattle.key_parts.specs.Spelling.{NamesIn, SpellingIn, SpellingsIn}
-use Rattle.key_parts.specs.Choice.{chosen, Picked}
+use Rattle.key_parts.specs.Place.{state_at, Inside, Halts, fill_at, at_bit}
+use Rattle.key_parts.specs.Spelling.{Gone, NamesIn, SpellingIn, SpellingsIn}
+use Rattle.key_parts.specs.Choice.{chosen, Picked, PickedIn}
 use Rattle.key_parts.specs.Widths.{Spans, Sized}
 use Rattle.key_parts.specs.Step.{Steady, with_child, fill_on, Went, PlainIn, Linked, AfterIn}
+use Rattle.std.specs.Prelude.{Result, Ok, Err}
+use Rattle.words.specs.declared.refusal.Refusal.TheVariants.{BadKey}
+use Rattle.key_parts.specs.declared.refusal.Stop.{Stop}
 use Rattle.key_parts.specs.declared.place.Pos.{Pos}
 use Rattle.key_parts.specs.declared.place.Fill.{Fill}
 use Rattle.key_parts.specs.declared.choice.Pick.{Pick}
 use Rattle.key_parts.proofs.ChoiceLaws.{pack_lt}
-use Rattle.key_parts.proofs.Steps.{after_done, after_after, names_none, if_spelled}
+use Rattle.key_parts.proofs.Steps.{after_done, after_after, gone_none, if_spelled}
 
 -- ---- Widths
 
@@ -98,21 +100,21 @@ module _ (bs : Bits) (lm lx : ℕ) (Y : ℕ → State → Ran) where
           (e.fill B (t ⊕ d.run) i a o)
 
   -- Names alone are a step.
-  pub names_went : {f g : Form} (s : Fill) {M X : List ℕ} (q : Pos) {M' X' : List ℕ} → NamesIn bs lm lx f g s.at M X q M' X' → q.why ≡ 0 → Steady bs lm lx s
+  pub names_went : {f g : Form} (s : Fill) {M X : List ℕ} (q : Pos) {M' X' : List ℕ} → Gone bs lm lx f g s.at M X q M' X' → length M' ≡ length M → length X' ≡ length X → Steady bs lm lx s
       → Spans g (choices_wide - s.shift) → (form n : ℕ) → form < table_most → n < table_most → (N : List ℕ) → Went bs lm lx Y f g s N M X (fill_on s q form n) N M' X'
-  names_went s q d z h sp form n a b N =
-      let l = d.left z in
+  names_went s q d e f h sp form n a b N =
+      let l = d.left in
       record {
-        steady = record { ok = z; inside = l.inside; small = h.small; narrow = h.narrow; in_table = a; few = b };
+        steady = record { inside = l.inside; small = h.small; narrow = h.narrow; in_table = a; few = b };
         housed = λ x. record { above = omega (arith, l.used, x.above); nodes_fit = omega (arith, l.used, l.nodes, x.nodes_fit); in_nodes = x.in_nodes };
         spans = sp;
         base_same = refl;
         total = ap₂ (λ (x y : ℕ). x + y) l.used l.nodes;
         nodes_same = refl;
-        names_same = d.names_same;
-        text_same = d.text_same;
+        names_same = e;
+        text_same = f;
         run = d.run;
-        same = d.went z Y;
+        same = d.went Y;
         fill = λ B t i x o. (l.stored B t N x, l.own B t s.word s.shift s.child o);
       }
 
@@ -122,7 +124,7 @@ module _ (bs : Bits) (lm lx : ℕ) (Y : ℕ → State → Ran) where
   went_fill_on d form n a b =
       let h = d.steady in
       record {
-        steady = record { ok = h.ok; inside = h.inside; small = h.small; narrow = h.narrow; in_table = a; few = b };
+        steady = record { inside = h.inside; small = h.small; narrow = h.narrow; in_table = a; few = b };
         housed = λ x. let y = d.housed x in record { above = y.above; nodes_fit = y.nodes_fit; in_nodes = y.in_nodes };
         spans = d.spans;
         base_same = d.base_same;
@@ -145,27 +147,38 @@ module _ (bs : Bits) (lm lx : ℕ) (T : List ℕ) (steps : ℕ) (r : Row) (s : F
   at_op : (o : ℕ) → r.op ≡ o → F ≡ form_by T (form_of T steps) s.n (entry_of r) o
   at_op o e = ap (form_by T (form_of T steps) s.n (entry_of r)) e
 
-  names_plain : (f : Form) (n : ℕ) → F ≡ f → n < table_most → Spans (form_of T steps n r.b) (choices_wide - s.shift) → (M X : List ℕ) (q : Pos) (M' X' : List ℕ)
-      → NamesIn bs lm lx f (form_of T steps n r.b) s.at M X q M' X' → PlainIn bs lm lx T steps r s M X (fill_on s q r.b n) M' X'
-  names_plain f n e l sp M X q M' X' d =
+  -- A walk on over names to the row's next form, done n times.
+  abbrev pub onward : ℕ → Result Pos Stop → Result Fill Stop
+  onward n (Ok q) = Ok (fill_on s q r.b n)
+  onward n (Err e) = Err e
+
+  names_plain : (f : Form) (n : ℕ) → F ≡ f → n < table_most → Spans (form_of T steps n r.b) (choices_wide - s.shift) → (M X : List ℕ) (q : Result Pos Stop) (M' X' : List ℕ)
+      → NamesIn bs lm lx f (form_of T steps n r.b) s.at M X q M' X' → PlainIn bs lm lx T steps r s M X (onward n q) M' X'
+  names_plain f n e l sp M X (Err x) M' X' d =
       record {
         names_same = d.names_same;
         text_same = d.text_same;
-        in_key = d.in_key;
-        stopped = λ o Y. ap (λ (x : Form). form_run lx Y x (state_at bs lm lx s.at)) e ∙ d.stopped o Y;
+        stopped = λ Y. subst (λ (g : Form). Halts bs (form_run lx Y g (state_at bs lm lx s.at)) x) (sym e) (d.stopped Y);
+        went = tt;
+      }
+  names_plain f n e l sp M X (Ok q) M' X' d =
+      record {
+        names_same = d.names_same;
+        text_same = d.text_same;
+        stopped = tt;
         went =
-            λ o Y N. subst (λ (x : Form). Went bs lm lx Y x (form_of T steps n r.b) s N M X (fill_on s q r.b n) N M' X') (sym e)
-            (names_went bs lm lx Y s q d o h sp r.b n z.b l N);
+            λ Y N. subst (λ (x : Form). Went bs lm lx Y x (form_of T steps n r.b) s N M X (fill_on s q r.b n) N M' X') (sym e)
+            (names_went bs lm lx Y s q d.gone d.names_same d.text_same h sp r.b n z.b l N);
       }
 
-  pub plain_words : r.op ≡ 2 → (M X : List ℕ) (q : Pos) (M' X' : List ℕ) → SpellingsIn bs lm lx r.w s.n s.at M X q M' X'
-      → PlainIn bs lm lx T steps r s M X (fill_on s q r.b 1) M' X'
+  pub plain_words : r.op ≡ 2 → (M X : List ℕ) (q : Result Pos Stop) (M' X' : List ℕ) → SpellingsIn bs lm lx r.w s.n s.at M X q M' X'
+      → PlainIn bs lm lx T steps r s M X (onward 1 q) M' X'
   plain_words e M X q M' X' d =
       names_plain (spellings_then s.n r.w (form_of T steps 1 r.b)) 1 (at_op 2 e) (omega arith)
       (spans_words s.n r.w (form_of T steps 1 r.b) (choices_wide - s.shift) (subst (λ (x : Form). Spans x (choices_wide - s.shift)) (at_op 2 e) y)) M X q M' X' (d (form_of T steps 1 r.b))
 
-  pub plain_word : r.op ≡ 4 → (M X : List ℕ) (q : Pos) (M' X' : List ℕ) → SpellingIn bs lm lx r.w s.at M X q M' X'
-      → PlainIn bs lm lx T steps r s M X (fill_on s q r.b s.n) M' X'
+  pub plain_word : r.op ≡ 4 → (M X : List ℕ) (q : Result Pos Stop) (M' X' : List ℕ) → SpellingIn bs lm lx r.w s.at M X q M' X'
+      → PlainIn bs lm lx T steps r s M X (onward s.n q) M' X'
   plain_word e M X q M' X' d =
       names_plain (both (word r.w) (form_of T steps s.n r.b)) s.n (at_op 4 e) h.few
       (subst (λ (x : Form). Spans x (choices_wide - s.shift)) (at_op 4 e) y) M X q M' X' (d (form_of T steps s.n r.b))
@@ -192,23 +205,18 @@ module _ (bs : Bits) (lm lx : ℕ) (T : List ℕ) (steps : ℕ) (r : Row) (s : F
     pub choice_fits : s.shift + r.w ≤ choices_wide
     choice_fits = omega (arith, spanned.0, h.narrow)
 
+    pub choice_bad : (e : Stop) → PickedIn bs T steps r.w (leads T (form_of T steps) (entry_of r) (r.op - 5)) s.at.bit (Err e) → (M X : List ℕ) → PlainIn bs lm lx T steps r s M X (Err e) M X
+    choice_bad e d M X =
+        record {
+          names_same = refl;
+          text_same = refl;
+          stopped =
+              λ Y. subst (λ (x : Form). Halts bs (form_run lx Y x (state_at bs lm lx s.at)) e) (sym is_choice) (d.stopped s.at.nodes (lm - s.at.names) (lx - s.at.chars) _);
+          went = tt;
+        }
+
     module _ (c : Pick) (d : Picked bs T steps r.w (leads T (form_of T steps) (entry_of r) (r.op - 5)) s.at.bit c) (M X : List ℕ) where
-      choice_bad : (s' : Fill) → (c.why ≡ 0 → ⊥) → s'.at.why ≡ 10 → s'.at.bit ≡ s.at.bit → PlainIn bs lm lx T steps r s M X s' M X
-      choice_bad s' o a b =
-          record {
-            names_same = refl;
-            text_same = refl;
-            in_key = omega (arith, h.inside.in_key);
-            stopped =
-                λ _ Y. ap (λ (x : Form). form_run lx Y x (state_at bs lm lx s.at)) is_choice ∙ d.stopped o s.at.nodes (lm - s.at.names) (lx - s.at.chars) _
-                ∙ ap₂ (λ (x i : ℕ). halt x (length bs - i)) (sym a) (sym b);
-            went = λ i. absurd (omega arith);
-          }
-
-      module _ (o : c.why ≡ 0) (Y : ℕ → State → Ran) (N : List ℕ) where
-        g : Form
-        g = form_of T steps c.n c.form
-
+      module _ (Y : ℕ → State → Ran) (N : List ℕ) where
         less : (i j : ℕ) → choices_wide - i - j ≡ choices_wide - (i + j)
         less i j = omega arith
 
@@ -217,23 +225,22 @@ module _ (bs : Bits) (lm lx : ℕ) (T : List ℕ) (steps : ℕ) (r : Row) (s : F
             record {
               steady =
                   record {
-                    ok = refl;
                     inside =
                         record {
                           in_key = d.inside;
                           in_names = h.inside.in_names;
                           in_text = h.inside.in_text;
                           few_names = h.inside.few_names;
-                          few_chars = omega (arith, d.next o, h.inside.few_chars);
+                          few_chars = omega (arith, d.next, h.inside.few_chars);
                         };
-                    small = pack_lt s.word s.shift c.number r.w h.small (d.small o);
+                    small = pack_lt s.word s.shift c.number r.w h.small (d.small);
                     narrow = choice_fits;
                     in_table = d.in_table;
                     few = d.few;
                   };
               housed = λ x. record { above = x.above; nodes_fit = x.nodes_fit; in_nodes = x.in_nodes };
               spans =
-                  subst (λ (x : Form). Spans x (choices_wide - (s.shift + r.w))) (d.to o)
+                  subst (λ (x : Form). Spans x (choices_wide - (s.shift + r.w))) (d.to)
                   (subst (λ (x : ℕ). Spans (fs c.number) x) (less s.shift r.w) (spanned.1 c.number));
               base_same = refl;
               total = refl;
@@ -242,38 +249,21 @@ module _ (bs : Bits) (lm lx : ℕ) (T : List ℕ) (steps : ℕ) (r : Row) (s : F
               text_same = refl;
               run = chose r.w c.number done;
               same =
-                  ap (λ (x : Form). form_run lx Y x (state_at bs lm lx s.at)) is_choice ∙ d.went o s.at.nodes (lm - s.at.names) (lx - s.at.chars) _
-                  ∙ ap (λ (x : Form). after (chose r.w c.number done) (form_run lx Y x (state_at bs lm lx (at_bit s.at c.bit)))) (d.to o);
+                  ap (λ (x : Form). form_run lx Y x (state_at bs lm lx s.at)) is_choice ∙ d.went s.at.nodes (lm - s.at.names) (lx - s.at.chars) _
+                  ∙ ap (λ (x : Form). after (chose r.w c.number done) (form_run lx Y x (state_at bs lm lx (at_bit s.at c.bit)))) (d.to);
               fill = λ B t i x q. (stored_choice r.w c.number x, own_choice r.w c.number q);
             }
 
-      choice_good : c.why ≡ 0 → PlainIn bs lm lx T steps r s M X (chosen s c r.w) M X
-      choice_good o = record { names_same = refl; text_same = refl; in_key = d.inside; stopped = λ i. absurd (i refl); went = λ _ Y N. choice_went o Y N }
+      pub choice_good : PlainIn bs lm lx T steps r s M X (Ok (chosen s c r.w)) M X
+      choice_good = record { names_same = refl; text_same = refl; stopped = tt; went = λ Y N. choice_went Y N }
 
-      zero_or : (n : ℕ) → (n ≡ 0) ⊎ (n ≡ 0 → ⊥)
-      zero_or zero = inl refl
-      zero_or (suc n) = inr (λ i. omega arith)
-
-      pub plain_choice : (s' : Fill) → ((c.why ≡ 0 → ⊥) → (s'.at.why ≡ 10) × (s'.at.bit ≡ s.at.bit)) → (c.why ≡ 0 → s' ≡ chosen s c r.w)
-          → PlainIn bs lm lx T steps r s M X s' M X
-      plain_choice s' a b = by (zero_or c.why)
-        where
-          by : (c.why ≡ 0) ⊎ (c.why ≡ 0 → ⊥) → PlainIn bs lm lx T steps r s M X s' M X
-          by (inl o) = subst (λ (x : Fill). PlainIn bs lm lx T steps r s M X x M X) (sym (b o)) (choice_good o)
-          by (inr o) = choice_bad s' o (a o).0 (a o).1
-
-  pub plain_never : r.op ≡ 0 → (p : Pos) (s' : Fill) → p ≡ refused_at 10 s.at.bit → s' ≡ fill_at s p → (M X : List ℕ) → PlainIn bs lm lx T steps r s M X s' M X
-  plain_never e p s' a b M X =
-      let why : s'.at.why ≡ 10 = ap (λ (x : Fill). x.at.why) b ∙ ap (λ (x : Pos). x.why) a in
-      let bit : s'.at.bit ≡ s.at.bit = ap (λ (x : Fill). x.at.bit) b ∙ ap (λ (x : Pos). x.bit) a in
+  pub plain_never : r.op ≡ 0 → (M X : List ℕ) → PlainIn bs lm lx T steps r s M X (Err (record { why = BadKey; bit = s.at.bit })) M X
+  plain_never e M X =
       record {
         names_same = refl;
         text_same = refl;
-        in_key = omega (arith, h.inside.in_key);
-        stopped =
-            λ _ Y. ap (λ (x : Form). form_run lx Y x (state_at bs lm lx s.at)) (at_op 0 e)
-            ∙ ap₂ (λ (x k : ℕ). halt x k) (sym why) (length-drop s.at.bit bs ∙ ap (λ (x : ℕ). length bs - x) (sym bit));
-        went = λ o. absurd (omega arith);
+        stopped = λ Y. record { in_key = h.inside.in_key; is = ap (λ (x : Form). form_run lx Y x (state_at bs lm lx s.at)) (at_op 0 e) ∙ ap (halt 10) (length-drop s.at.bit bs) };
+        went = tt;
       }
 
 -- ---- A child
@@ -301,17 +291,33 @@ linked_first N s p h l =
     }
 
 module _ (bs : Bits) (lm lx w : ℕ) (s : Fill) (M X : List ℕ) where
-  pub after_none : w ≡ 0 → s.at.why ≡ 0 → Inside bs lm lx s.at → AfterIn bs lm lx w s M X s M X
-  after_none e z h =
+  pub after_none : w ≡ 0 → Inside bs lm lx s.at → AfterIn bs lm lx w s M X (Ok s) M X
+  after_none e h =
       record {
-        at = s.at;
-        is = refl;
-        names = λ g. subst (λ (x : ℕ). NamesIn bs lm lx (spelling_if x g) g s.at M X s.at M X) (sym e) (names_none bs lm lx g s.at M X z h);
+        names_same = refl;
+        text_same = refl;
+        stopped = tt;
+        gone = (refl, λ g. subst (λ (x : ℕ). Gone bs lm lx (spelling_if x g) g s.at M X s.at M X) (sym e) (gone_none bs lm lx g s.at M X h));
       }
 
-  pub after_some : (w ≡ 0 → ⊥) → (p : Pos) (M' X' : List ℕ) → SpellingIn bs lm lx w s.at M X p M' X' → (q : Fill) → q ≡ fill_at s p → AfterIn bs lm lx w s M X q M' X'
-  after_some z p M' X' d q e =
-      record { at = p; is = e; names = λ g. subst (λ (x : Form). NamesIn bs lm lx x g s.at M X p M' X') (if_spelled w g z) (d g) }
+  module _ (z : w ≡ 0 → ⊥) (M' X' : List ℕ) where
+    pub after_some : (p : Pos) → SpellingIn bs lm lx w s.at M X (Ok p) M' X' → AfterIn bs lm lx w s M X (Ok (fill_at s p)) M' X'
+    after_some p d =
+        record {
+          names_same = (d one).names_same;
+          text_same = (d one).text_same;
+          stopped = tt;
+          gone = (refl, λ g. subst (λ (x : Form). Gone bs lm lx x g s.at M X p M' X') (if_spelled w g z) (d g).gone);
+        }
+
+    pub after_stop : (e : Stop) → SpellingIn bs lm lx w s.at M X (Err e) M' X' → AfterIn bs lm lx w s M X (Err e) M' X'
+    after_stop e d =
+        record {
+          names_same = (d one).names_same;
+          text_same = (d one).text_same;
+          stopped = λ g Y. subst (λ (x : Form). Halts bs (form_run lx Y x (state_at bs lm lx s.at)) e) (if_spelled w g z) ((d g).stopped Y);
+          gone = tt;
+        }
 
 -- An operation that is none of the others is never.
 pub nothing_else : (o : ℕ) → (o ≡ 1 → ⊥) → (o ≡ 2 → ⊥) → (o ≡ 3 → ⊥) → (o ≡ 4 → ⊥) → o < 5 → o ≡ 0

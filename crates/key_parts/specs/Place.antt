@@ -1,9 +1,12 @@
 -- Where taking is: what is left there, and what is lent (01, The two calls).
-use Rattle.std.specs.Prelude.{List, ℕ, ◌-◌, ◌*◌, ◌≤◌, length, drop}
+use Rattle.std.specs.Prelude.{◌≡◌, List, ℕ, ◌-◌, ◌*◌, ◌≤◌, length, drop}
 use Rattle.std.specs.Borrow.{Bor, MutBor}
 use denote.Triple.Both.{Both}
 use Rattle.keys.specs.Bits.{Bits, bits_of_bytes}
 use Rattle.keys.specs.Form.{State, state}
+use Rattle.words.specs.Refusal.{number_of}
+use Rattle.key_parts.specs.Runs.{Ran, halt}
+use Rattle.key_parts.specs.declared.refusal.Stop.{Stop}
 use Rattle.key_parts.specs.declared.place.Pos.{Pos}
 use Rattle.key_parts.specs.declared.place.Fill.{Fill}
 
@@ -19,9 +22,10 @@ pub record Inside (bs : Bits) (lm lx : ℕ) (p : Pos) : Type 0 where
   pub few_names : p.names ≤ p.chars
   pub few_chars : p.chars * 8 ≤ p.bit
 
--- A place that is refused.
-abbrev pub refused_at : (why bit : ℕ) → Pos
-refused_at why bit = record { why = why; bit = bit; nodes = 0; used = 0; names = 0; chars = 0 }
+-- What taking comes to is a refusal, of this number and at this bit of the key.
+pub record Halts (bs : Bits) (x : Ran) (e : Stop) : Type 0 where
+  pub in_key : e.bit ≤ length bs
+  pub is : x ≡ halt (number_of e.why) (length bs - e.bit)
 
 -- The walk of a node at another place.
 abbrev pub fill_at : Fill → Pos → Fill
@@ -29,7 +33,7 @@ fill_at s p = record { at = p; base = s.base; word = s.word; shift = s.shift; ch
 
 -- A place further on in the key.
 abbrev pub at_bit : Pos → ℕ → Pos
-at_bit p bit = record { why = 0; bit = bit; nodes = p.nodes; used = p.used; names = p.names; chars = p.chars }
+at_bit p bit = record { bit = bit; nodes = p.nodes; used = p.used; names = p.names; chars = p.chars }
 
 -- ---- What is lent
 

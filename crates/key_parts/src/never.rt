@@ -10,11 +10,7 @@ pub fn is_none(forms: &[u16], steps: usize, form: usize) -> bool
     requires { form < table_most }
     ensures { (n : ℕ) → 1 ≤ n → result ≡ is_never (form_of forms.now steps n form) }
 {
-    if steps == 0 {
-        return true;
-    }
-    let r = forms::row_at(forms, form);
-    r.op == 0
+    steps == 0 || forms::row_at(forms, form).op == 0
 }
 
 // The same where the form's first step is done n times: done 0 times it is the form after it.
@@ -29,12 +25,8 @@ pub fn is_never(forms: &[u16], steps: usize, n: usize, form: usize) -> bool
         return true;
     }
     let r = forms::row_at(forms, form);
-    let op = r.op;
-    if op == forms::SPELLINGS {
+    if r.op == forms::SPELLINGS || r.op == forms::NODES {
         return is_none(forms, steps - 1, r.b);
     }
-    if op == forms::NODES {
-        return is_none(forms, steps - 1, r.b);
-    }
-    op == 0
+    r.op == 0
 }

@@ -11,12 +11,11 @@ pub fn pad_end(key: &[u8], bit: usize) -> usize
     requires { (length key.now ≤ longest_key) × (bit ≤ length key.now * 8) }
     ensures { Ends (bits_of_bytes key.now) bit result }
 {
-    let mut at = bit;
-    while at % 8 != 0 {
+    let end = bit.div_ceil(8) * 8;
+    for at in bit..end {
         if take::number_at(key, at, 1) == 1 {
             return at;
         }
-        at += 1;
     }
-    at
+    end
 }

@@ -1,13 +1,9 @@
-// The refusals that taking back meets, by document 01's numbers.
-#[derive(Clone, Copy)]
-pub struct Refusal {}
+// Why taking a key back stops, and where.
+pub use words::refusal::Refusal;
 
-impl Refusal {
-    pub const TOO_TALL: u32 = 6;
-
-    pub const NO_ROOM: u32 = 8;
-
-    pub const BAD_KEY: u32 = 10;
-
-    pub const NO_SPACE: u32 = 11;
+// A refusal and the bit that it is met at.
+#[derive(Clone, Copy, Debug, PartialEq, Eq)]
+pub struct Stop {
+    pub why: Refusal,
+    pub bit: usize,
 }

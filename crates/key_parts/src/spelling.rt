@@ -1,48 +1,48 @@
 // Spellings taken from a key: their bytes go into the text, and where they stand into the names.
-ghost use Rattle.key_parts.specs.Spelling.{AsksSpelling, TakesSpelling, AsksSpellings, TakesSpellings};
+ghost use Rattle.key_parts.specs.Spelling.{AsksSpelling, TakesSpelling, TakesSpellings};
 
-use crate::place;
 use crate::place::Pos;
-use crate::refusal::Refusal;
-use fields::reader::Field;
+use crate::refusal::{Refusal, Stop};
 use fields::{reader, take};
 use keys::store;
 
 // A spelling: 10 where it is cut short or has no byte, 11 where there is no room for its bytes or its name.
-pub fn take_spelling(key: &[u8], names: &mut [u64], text: &mut [u8], w: usize, p: Pos) -> Pos
+pub fn take_spelling(
+    key: &[u8],
+    names: &mut [u64],
+    text: &mut [u8],
+    w: usize,
+    p: Pos,
+) -> Result<Pos, Stop>
     requires { AsksSpelling key.now names.old text.old w p }
     ensures { TakesSpelling key names text w p result }
 {
     let bit = p.bit;
-    let taken = reader::field_at(key, bit, w);
-    let Field::Read(n, from) = taken else {
-        return place::refused(Refusal::BAD_KEY, bit);
+    let bad = Stop {
+        why: Refusal::BadKey,
+        bit,
     };
-    let count = place::slim(n);
-    if count == 0 {
-        return place::refused(Refusal::BAD_KEY, bit);
+    let Some((n, from)) = reader::field_at(key, bit, w) else {
+        return Err(bad);
+    };
+    let count = n as usize;
+    if count == 0 || (key.len() * 8 - from) / 8 < count {
+        return Err(bad);
     }
-    if (key.len() * 8 - from) / 8 < count {
-        return place::refused(Refusal::BAD_KEY, bit);
+    if text.len() - p.chars < count || names.len() <= p.names {
+        return Err(Stop {
+            why: Refusal::NoSpace,
+            bit,
+        });
     }
-    let chars = p.chars;
-    let named = p.names;
-    if text.len() - chars < count {
-        return place::refused(Refusal::NO_SPACE, bit);
-    }
-    if names.len() <= named {
-        return place::refused(Refusal::NO_SPACE, bit);
-    }
-    take::copy_bytes(key, from, text, chars, count);
-    store::append_name(names, named, chars, count);
-    Pos {
-        why: 0,
+    take::copy_bytes(key, from, text, p.chars, count);
+    store::append_name(names, p.names, p.chars, count);
+    Ok(Pos {
         bit: from + count * 8,
-        nodes: p.nodes,
-        used: p.used,
-        names: named + 1,
-        chars: chars + count,
-    }
+        names: p.names + 1,
+        chars: p.chars + count,
+        ..p
+    })
 }
 
 // n spellings.
@@ -53,25 +53,13 @@ pub fn take_spellings(
     w: usize,
     n: usize,
     p: Pos,
-) -> Pos
-    requires { AsksSpellings key.now names.old text.old w p }
+) -> Result<Pos, Stop>
+    requires { AsksSpelling key.now names.old text.old w p }
     ensures { TakesSpellings key names text w n p result }
 {
-    let mut q = Pos {
-        why: p.why,
-        bit: p.bit,
-        nodes: p.nodes,
-        used: p.used,
-        names: p.names,
-        chars: p.chars,
-    };
-    let mut i: usize = 0;
-    while i < n {
-        q = take_spelling(key, names, text, w, q);
-        if q.why != 0 {
-            return q;
-        }
-        i += 1;
+    let mut q = p;
+    for _ in 0..n {
+        q = take_spelling(key, names, text, w, q)?;
     }
-    q
+    Ok(q)
 }

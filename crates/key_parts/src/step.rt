@@ -1,12 +1,12 @@
 // The steps of a node's walk: past choices and spellings, and past a child.
 ghost use Rattle.std.specs.Prelude.{◌*◌, ◌<◌, ◌≤◌, length};
 ghost use Rattle.keys.specs.Limits.{record_words};
-ghost use Rattle.key_parts.specs.Spelling.{AsksSpellings};
+ghost use Rattle.key_parts.specs.Spelling.{AsksSpelling};
 ghost use Rattle.key_parts.specs.Step.{AsksPlain, TakesPlain, Linked, TakesAfter};
 
 use crate::place::{Fill, Pos};
-use crate::refusal::Refusal;
-use crate::{choice, place, spelling};
+use crate::refusal::{Refusal, Stop};
+use crate::{choice, spelling};
 use keys::store;
 use node_table::forms;
 use node_table::forms::{Row, TABLE};
@@ -20,42 +20,32 @@ pub fn take_plain(
     steps: usize,
     r: Row,
     s: Fill,
-) -> Fill
+) -> Result<Fill, Stop>
     requires { AsksPlain forms.now key.now names.old text.old steps r s }
     ensures { TakesPlain forms key names text steps r s result }
 {
     let op = r.op;
     if forms::CHOICE <= op {
-        let p = s.at;
-        let c = choice::take_choice(forms, key, steps, r, p.bit);
-        return choice::choose(s, r.w, c);
+        let c = choice::take_choice(forms, key, steps, r, s.at.bit)?;
+        return Ok(choice::choose(s, r.w, c));
     }
-    let p = s.at;
     if op == forms::SPELLINGS {
-        let at = spelling::take_spellings(key, names, text, r.w, s.n, p);
-        return Fill {
+        let at = spelling::take_spellings(key, names, text, r.w, s.n, s.at)?;
+        return Ok(Fill {
             at,
-            base: s.base,
-            word: s.word,
-            shift: s.shift,
-            child: s.child,
             form: r.b,
             n: 1,
-        };
+            ..s
+        });
     }
     if op == forms::SPELLING {
-        let at = spelling::take_spelling(key, names, text, r.w, p);
-        return Fill {
-            at,
-            base: s.base,
-            word: s.word,
-            shift: s.shift,
-            child: s.child,
-            form: r.b,
-            n: s.n,
-        };
+        let at = spelling::take_spelling(key, names, text, r.w, s.at)?;
+        return Ok(Fill { at, form: r.b, ..s });
     }
-    place::moved(s, place::refused(Refusal::BAD_KEY, p.bit))
+    Err(Stop {
+        why: Refusal::BadKey,
+        bit: s.at.bit,
+    })
 }
 
 // The walk after a child: it is the first, or the next of the child before it.
@@ -63,41 +53,33 @@ pub fn link_child(nodes: &mut [u64], s: Fill, at: Pos) -> Fill
     requires { (s.base ≤ s.at.used) × (s.at.used < at.used) × (at.used * record_words ≤ length nodes.old) × (s.child * record_words ≤ length nodes.old) }
     ensures { Linked nodes.old s at result nodes.new }
 {
-    let p = s.at;
-    let used = p.used;
+    let used = s.at.used;
     let last = at.used - 1;
     if s.base < used {
         store::link_node(nodes, used - 1, last);
-        return Fill {
-            at,
-            base: s.base,
-            word: s.word,
-            shift: s.shift,
-            child: s.child,
-            form: s.form,
-            n: s.n,
-        };
+        return Fill { at, ..s };
     }
     Fill {
         at,
-        base: s.base,
-        word: s.word,
-        shift: s.shift,
         child: last,
-        form: s.form,
-        n: s.n,
+        ..s
     }
 }
 
 // The spelling after a child, if its length has any bits.
-pub fn take_after(key: &[u8], names: &mut [u64], text: &mut [u8], w: usize, s: Fill) -> Fill
-    requires { AsksSpellings key.now names.old text.old w s.at }
+pub fn take_after(
+    key: &[u8],
+    names: &mut [u64],
+    text: &mut [u8],
+    w: usize,
+    s: Fill,
+) -> Result<Fill, Stop>
+    requires { AsksSpelling key.now names.old text.old w s.at }
     ensures { TakesAfter key names text w s result }
 {
     if w == 0 {
-        return s;
+        return Ok(s);
     }
-    let from = s.at;
-    let at = spelling::take_spelling(key, names, text, w, from);
-    place::moved(s, at)
+    let at = spelling::take_spelling(key, names, text, w, s.at)?;
+    Ok(Fill { at, ..s })
 }

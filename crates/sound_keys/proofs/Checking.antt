@@ -2,7 +2,8 @@
 use mathlib.Core.Path.{◌≡◌, refl, sym, ap, ap₂, ◌∙◌, subst}
 use mathlib.Core.Bool.{true, false}
 use mathlib.Core.List.{List}
-use Prim.Native.Nat.{ℕ, zero, suc, ◌+◌, ◌-◌, ◌*◌, ◌/◌, ◌^◌, ◌≤◌, ◌<◌}
+use Rattle.std.proofs.Common.{Result, Ok, Err}
+use Prim.Native.Nat.{ℕ, suc, ◌+◌, ◌-◌, ◌*◌, ◌/◌, ◌^◌, ◌≤◌, ◌<◌}
 use native.Mathlib.Omega.{arith}
 use lib.ListN.{length, drop, length-drop}
 use Rattle.keys.specs.Bits.{Bits, field, take_field, take_bytes, bits_of_bytes}
@@ -10,16 +11,15 @@ use Rattle.keys.proofs.BitsLaws.{length_bytes}
 use Rattle.keys.specs.Form.{Form, word, both, child, is_never}
 use Rattle.keys.specs.Limits.{bad_key}
 use Rattle.fields.specs.Take.{answered}
-use Rattle.fields.specs.declared.take.TakenField.TheVariants.{Number, Short}
+use Rattle.std.proofs.Common.{Some, None}
 use Rattle.fields.proofs.Chunks.{Told, number_told, field_short}
 use Rattle.node_table.specs.Forms.{form_of, form_by, leads, entry_of, spellings_then, spelling_if}
 use Rattle.node_table.specs.declared.forms.Row.{Row}
 use Rattle.key_parts.proofs.NeverLaws.{before_one}
-use Rattle.key_parts.proofs.Steps.{bytes_cut, bytes_whole, if_spelled}
+use Rattle.key_parts.proofs.Steps.{bytes_cut, bytes_whole}
 use Rattle.differs.specs.Content.{Content, ends, chooses, spells, enters}
-use Rattle.key_parts.specs.Widths.{Sized}
-use Rattle.sound_keys.specs.Sound.{Scan, reads, fails, ◌⊕◌, after, then_read, read_allowed, read_whole, read_letters, read_length, read_choice, read_spelling, read_form, ComesTo, Onward, Spotted, no_form, check_at, SpellingsOn, AfterOn, ChoiceOn, PlainOn}
-use Rattle.sound_keys.specs.declared.sound.Check.{Check}
+use Rattle.sound_keys.specs.Sound.{Scan, reads, fails, ◌⊕◌, after, then_read, read_allowed, read_whole, read_letters, read_length, read_spelling, read_form, Stops, Goes, Passes, bad_at, SpellingsOn, AfterOn, Chosen, Unchosen, ChoiceOn, form_by_row, Stepped, PlainOn}
+use Rattle.key_parts.specs.declared.refusal.Stop.{Stop}
 use Rattle.sound_keys.specs.declared.sound.Spot.{Spot}
 
 -- ---- Contents and outcomes
@@ -51,92 +51,73 @@ then_after c (fails n b) k = refl
 -- ---- Going on
 
 module _ (bs : Bits) (X : ℕ → ℕ → Scan) where
-  pub on_none : (g : Form) (bit : ℕ) → bit ≤ length bs → Onward bs X g g bit 0 bit
-  on_none g bit h = record { in_key = h; stopped = λ z. absurd (z refl); passed = ends; went = λ _. sym (after_ends (read_form bs X g bit)) }
+  pub on_none : (g : Form) (bit : ℕ) → bit ≤ length bs → Passes bs X g g bit bit
+  on_none g bit h = record { in_key = h; passed = ends; is = sym (after_ends (read_form bs X g bit)) }
 
-  pub on_then : {f g h : Form} {a b c v w : ℕ} → Onward bs X f g a v b → v ≡ 0 → Onward bs X g h b w c → Onward bs X f h a w c
-  on_then {h = h} {c = c} d z e =
-      record {
-        in_key = e.in_key;
-        stopped = λ o. d.went z ∙ ap (after d.passed) (e.stopped o);
-        passed = d.passed ⊕ e.passed;
-        went = λ o. d.went z ∙ ap (after d.passed) (e.went o) ∙ after_after d.passed e.passed (read_form bs X h c);
-      }
+  pub on_then : {f g h : Form} {a b c : ℕ} → Passes bs X f g a b → Passes bs X g h b c → Passes bs X f h a c
+  on_then {h = h} {c = c} d e =
+      record { in_key = e.in_key; passed = d.passed ⊕ e.passed; is = d.is ∙ ap (after d.passed) e.is ∙ after_after d.passed e.passed (read_form bs X h c) }
 
-  -- A spelling, and then any form.
-  pub on_word : (w a : ℕ) (g : Form) {r : Check} → ComesTo (length bs) (read_spelling bs w a) r → Onward bs X (both (word w) g) g a r.why r.bit
-  on_word w a g d =
-      record {
-        in_key = d.in_key;
-        stopped = λ o. ap (λ (x : Scan). then_read x λ e. read_form bs X g e) (d.stopped o);
-        passed = d.content;
-        went = λ o. ap (λ (x : Scan). then_read x λ e. read_form bs X g e) (d.went o);
-      }
+  pub on_stop : {f g : Form} {a b : ℕ} {s : Stop} → Passes bs X f g a b → Stops (length bs) (read_form bs X g b) s → Stops (length bs) (read_form bs X f a) s
+  on_stop d e = record { in_key = e.in_key; is = d.is ∙ ap (after d.passed) e.is }
 
-  -- A node, and then any form.
-  pub on_child : (c a : ℕ) (g : Form) {r : Check} → ComesTo (length bs) (X c a) r → Onward bs X (both (child c) g) g a r.why r.bit
-  on_child c a g d =
-      record {
-        in_key = d.in_key;
-        stopped = λ o. ap (λ (x : Scan). then_read x λ e. read_form bs X g e) (d.stopped o);
-        passed = d.content;
-        went = λ o. ap (λ (x : Scan). then_read x λ e. read_form bs X g e) (d.went o);
-      }
+  -- A first form, and then any other.
+  pub on_first : (f : Form) (a : ℕ) (g : Form) {b : ℕ} → Goes (length bs) (read_form bs X f a) b → Passes bs X (both f g) g a b
+  on_first f a g d = record { in_key = d.in_key; passed = d.content; is = ap (λ (x : Scan). then_read x λ e. read_form bs X g e) d.is }
+
+  pub first_stop : (f : Form) (a : ℕ) (g : Form) {s : Stop} → Stops (length bs) (read_form bs X f a) s → Stops (length bs) (read_form bs X (both f g) a) s
+  first_stop f a g d = record { in_key = d.in_key; is = ap (λ (x : Scan). then_read x λ e. read_form bs X g e) d.is }
 
 -- ---- A spelling
 
-pub checks_bad : {all bit n : ℕ} {x : Scan} → bit ≤ all → (n ≡ 0 → ⊥) → x ≡ fails n bit → (r : Check) → r ≡ check_at n bit → ComesTo all x r
-checks_bad {all} {bit} {n} {x} h z e r i =
-    subst (ComesTo all x) (sym i) (record { in_key = h; stopped = λ _. e; content = ends; went = λ o. absurd (z o) })
-
-pub checks_good : {all bit : ℕ} {x : Scan} (c : Content) → bit ≤ all → x ≡ reads c bit → (r : Check) → r ≡ check_at 0 bit → ComesTo all x r
-checks_good {all} {bit} {x} c h e r i =
-    subst (ComesTo all x) (sym i) (record { in_key = h; stopped = λ o. absurd (o refl); content = c; went = λ _. e })
-
-ten : bad_key ≡ 0 → ⊥
-ten e = omega arith
+-- 10 at a bit.
+pub stops_bad : {all bit : ℕ} {x : Scan} {s : Stop} → bit ≤ all → x ≡ fails bad_key bit → s ≡ bad_at bit → Stops all x s
+stops_bad {all} {x = x} h e i = subst (Stops all x) (sym i) (record { in_key = h; is = e })
 
 module _ (key : List ℕ) (w bit : ℕ) (h : bit ≤ length key * 8) where
   inside : bit ≤ length (bits_of_bytes key)
   inside = omega (arith, length_bytes key)
 
-  pub spell_short : Short ≡ answered (take_field w (drop bit (bits_of_bytes key))) → (r : Check) → r ≡ check_at 10 bit → ComesTo (length (bits_of_bytes key)) (read_spelling (bits_of_bytes key) w bit) r
-  spell_short e r i = checks_bad inside ten (ap (read_length w bit) (field_short (take_field w (drop bit (bits_of_bytes key))) e)) r i
+  pub spell_short : None ≡ answered (take_field w (drop bit (bits_of_bytes key))) → {s : Stop} → s ≡ bad_at bit → Stops (length (bits_of_bytes key)) (read_spelling (bits_of_bytes key) w bit) s
+  spell_short e i = stops_bad inside (ap (read_length w bit) (field_short (take_field w (drop bit (bits_of_bytes key))) e)) i
 
-  module _ (n : ℕ) (e : Number n ≡ answered (take_field w (drop bit (bits_of_bytes key)))) where
+  module _ {n : ℕ} (e : Some n ≡ answered (take_field w (drop bit (bits_of_bytes key)))) where
     t : Told (bits_of_bytes key) bit w n
     t = number_told (bits_of_bytes key) bit w n e
 
     pub spell_within : bit + w ≤ length key * 8
     spell_within = omega (arith, t.within inside, length_bytes key)
 
-    pub spell_zero : n ≡ 0 → (r : Check) → r ≡ check_at 10 bit → ComesTo (length (bits_of_bytes key)) (read_spelling (bits_of_bytes key) w bit) r
-    spell_zero z r i = checks_bad inside ten (ap (read_length w bit) t.is ∙ ap (λ (x : ℕ). read_length w bit (field x (drop (bit + w) (bits_of_bytes key)))) z) r i
+    pub spell_zero : n ≡ 0 → {s : Stop} → s ≡ bad_at bit → Stops (length (bits_of_bytes key)) (read_spelling (bits_of_bytes key) w bit) s
+    spell_zero z i = stops_bad inside (ap (read_length w bit) t.is ∙ ap (λ (x : ℕ). read_length w bit (field x (drop (bit + w) (bits_of_bytes key)))) z) i
 
     module _ (some : n ≡ 0 → ⊥) where
       in_letters : read_spelling (bits_of_bytes key) w bit ≡ read_letters bit (bit + w + suc (n - 1) * 8) (take_bytes (suc (n - 1)) (drop (bit + w) (bits_of_bytes key)))
       in_letters = ap (read_length w bit) t.is ∙ ap (λ (x : ℕ). read_length w bit (field x (drop (bit + w) (bits_of_bytes key)))) (before_one n some)
 
-      pub spell_cut : (length key * 8 - (bit + w)) / 8 < n → (r : Check) → r ≡ check_at 10 bit → ComesTo (length (bits_of_bytes key)) (read_spelling (bits_of_bytes key) w bit) r
-      spell_cut l r i =
-          checks_bad inside ten
+      pub spell_cut : (length key * 8 - (bit + w)) / 8 < n → {s : Stop} → s ≡ bad_at bit → Stops (length (bits_of_bytes key)) (read_spelling (bits_of_bytes key) w bit) s
+      spell_cut l i =
+          stops_bad inside
           (in_letters
           ∙ ap (read_letters bit (bit + w + suc (n - 1) * 8))
-          (bytes_cut (suc (n - 1)) (drop (bit + w) (bits_of_bytes key)) (omega (arith, length-drop (bit + w) (bits_of_bytes key), length_bytes key, before_one n some)))) r i
+          (bytes_cut (suc (n - 1)) (drop (bit + w) (bits_of_bytes key)) (omega (arith, length-drop (bit + w) (bits_of_bytes key), length_bytes key, before_one n some)))) i
 
       pub spell_ends : n ≤ (length key * 8 - (bit + w)) / 8 → bit + w + n * 8 ≤ length key * 8
       spell_ends l = omega (arith, spell_within)
 
-      pub spell_done : n ≤ (length key * 8 - (bit + w)) / 8 → (r : Check) → r ≡ check_at 0 (bit + w + n * 8) → ComesTo (length (bits_of_bytes key)) (read_spelling (bits_of_bytes key) w bit) r
-      spell_done l r i =
+      pub spell_done : n ≤ (length key * 8 - (bit + w)) / 8 → Goes (length (bits_of_bytes key)) (read_spelling (bits_of_bytes key) w bit) (bit + w + n * 8)
+      spell_done l =
           let d = bytes_whole (suc (n - 1)) (drop (bit + w) (bits_of_bytes key)) (omega (arith, length-drop (bit + w) (bits_of_bytes key), length_bytes key, before_one n some, spell_within)) in
-          checks_good (spells bit d.bytes ends) (omega (arith, spell_ends l, length_bytes key))
-          (in_letters ∙ ap (read_letters bit (bit + w + suc (n - 1) * 8)) d.is ∙ ap (λ (x : ℕ). reads (spells bit d.bytes ends) (bit + w + x * 8)) (sym (before_one n some))) r i
+          record {
+            in_key = omega (arith, spell_ends l, length_bytes key);
+            content = spells bit d.bytes ends;
+            is = in_letters ∙ ap (read_letters bit (bit + w + suc (n - 1) * 8)) d.is ∙ ap (λ (x : ℕ). reads (spells bit d.bytes ends) (bit + w + x * 8)) (sym (before_one n some));
+          }
 
 -- i of n spellings are passed.
 pub record Spelling (bs : Bits) (w n bit i at : ℕ) : Type 0 where
   pub few : i ≤ n
-  pub on : (X : ℕ → ℕ → Scan) (g : Form) → Onward bs X (spellings_then n w g) (spellings_then (n - i) w g) bit 0 at
+  pub on : (X : ℕ → ℕ → Scan) (g : Form) → Passes bs X (spellings_then n w g) (spellings_then (n - i) w g) bit at
   pub in_key : at ≤ length bs
 
 pub spelling_none : (bs : Bits) (w n bit : ℕ) → bit ≤ length bs → Spelling bs w n bit 0 bit
@@ -144,146 +125,105 @@ spelling_none bs w n bit h =
     let e : n ≡ n - 0 = omega arith in
     record {
       few = omega arith;
-      on = λ X g. subst (λ (k : ℕ). Onward bs X (spellings_then n w g) (spellings_then k w g) bit 0 bit) e (on_none bs X (spellings_then n w g) bit h);
+      on = λ X g. subst (λ (k : ℕ). Passes bs X (spellings_then n w g) (spellings_then k w g) bit bit) e (on_none bs X (spellings_then n w g) bit h);
       in_key = h;
     }
 
-module _ {bs : Bits} {w n bit i at : ℕ} (d : Spelling bs w n bit i at) (h : i < n) {r : Check} (e : ComesTo (length bs) (read_spelling bs w at) r) where
-  next : (X : ℕ → ℕ → Scan) (g : Form) → Onward bs X (spellings_then n w g) (spellings_then (n - (i + 1)) w g) bit r.why r.bit
-  next X g =
+module _ {bs : Bits} {w n bit i at : ℕ} (d : Spelling bs w n bit i at) (h : i < n) where
+  here : (X : ℕ → ℕ → Scan) (g : Form) → Passes bs X (spellings_then n w g) (both (word w) (spellings_then (n - (i + 1)) w g)) bit at
+  here X g =
       let z : n - i ≡ suc (n - (i + 1)) = omega arith in
-      on_then bs X (subst (λ (k : ℕ). Onward bs X (spellings_then n w g) (spellings_then k w g) bit 0 at) z (d.on X g)) refl (on_word bs X w at (spellings_then (n - (i + 1)) w g) e)
+      subst (λ (k : ℕ). Passes bs X (spellings_then n w g) (spellings_then k w g) bit at) z (d.on X g)
 
-  pub spelling_more : r.why ≡ 0 → Spelling bs w n bit (i + 1) r.bit
-  spelling_more z =
+  pub spelling_more : {b : ℕ} → Goes (length bs) (read_spelling bs w at) b → Spelling bs w n bit (i + 1) b
+  spelling_more e =
       record {
         few = omega arith;
-        on = λ X g. subst (λ (k : ℕ). Onward bs X (spellings_then n w g) (spellings_then (n - (i + 1)) w g) bit k r.bit) z (next X g);
+        on = λ X g. on_then bs X (here X g) (on_first bs X (word w) at (spellings_then (n - (i + 1)) w g) e);
         in_key = e.in_key;
       }
 
-  pub spelling_stop : (r.why ≡ 0 → ⊥) → SpellingsOn bs w n bit r
-  spelling_stop z X g =
-      let o = next X g in
-      record { in_key = o.in_key; stopped = o.stopped; passed = ends; went = λ y. absurd (z y) }
+  pub spelling_stop : {s : Stop} → Stops (length bs) (read_spelling bs w at) s → SpellingsOn bs w n bit (Err s)
+  spelling_stop e X g = on_stop bs X (here X g) (first_stop bs X (word w) at (spellings_then (n - (i + 1)) w g) e)
 
-pub spelling_all : {bs : Bits} {w n bit i at : ℕ} → Spelling bs w n bit i at → n ≤ i → (r : Check) → r ≡ check_at 0 at → SpellingsOn bs w n bit r
-spelling_all {bs} {w} {n} {bit} {i} {at} d h r e X g =
+pub spelling_all : {bs : Bits} {w n bit i at : ℕ} → Spelling bs w n bit i at → n ≤ i → SpellingsOn bs w n bit (Ok at)
+spelling_all {bs} {w} {n} {bit} {i} {at} d h X g =
     let z : n - i ≡ 0 = omega arith in
-    subst (λ (q : Check). Onward bs X (spellings_then n w g) g bit q.why q.bit) (sym e)
-    (subst (λ (k : ℕ). Onward bs X (spellings_then n w g) (spellings_then k w g) bit 0 at) z (d.on X g))
+    subst (λ (k : ℕ). Passes bs X (spellings_then n w g) (spellings_then k w g) bit at) z (d.on X g)
 
 -- ---- The spelling after a child
 
-pub after_none : (bs : Bits) (w bit : ℕ) → bit ≤ length bs → w ≡ 0 → (r : Check) → r ≡ check_at 0 bit → AfterOn bs w bit r
-after_none bs w bit h z r e X g =
-    subst (λ (q : Check). Onward bs X (spelling_if w g) g bit q.why q.bit) (sym e)
-    (subst (λ (x : ℕ). Onward bs X (spelling_if x g) g bit 0 bit) (sym z) (on_none bs X g bit h))
-
-pub after_word : (bs : Bits) (w bit : ℕ) → (w ≡ 0 → ⊥) → (r : Check) → ComesTo (length bs) (read_spelling bs w bit) r → AfterOn bs w bit r
-after_word bs w bit z r d X g = subst (λ (f : Form). Onward bs X f g bit r.why r.bit) (if_spelled w g z) (on_word bs X w bit g d)
+pub after_none : (bs : Bits) (w bit : ℕ) → bit ≤ length bs → w ≡ 0 → AfterOn bs w bit (Ok bit)
+after_none bs w bit h z X g = subst (λ (x : ℕ). Passes bs X (spelling_if x g) g bit bit) (sym z) (on_none bs X g bit h)
 
 -- ---- A choice
 
 module _ (bs : Bits) (T : List ℕ) (steps w : ℕ) (fs : ℕ → Form) (bit : ℕ) (h : bit ≤ length bs) where
-  chosen_bad : ((K : ℕ → Scan) → read_choice bs w fs bit K ≡ fails bad_key bit) → (s : Spot) → s ≡ no_form bit → ChoiceOn bs T steps w fs bit s
-  chosen_bad e s i =
-      subst (ChoiceOn bs T steps w fs bit) (sym i)
-      (record {
-        stopped = λ _ K. e K;
-        number = 0;
-        went = λ z. absurd (ten z);
-        next = λ z. absurd (ten z);
-        place = λ _. (refl, refl);
-        in_key = h;
-        to = λ z. absurd (ten z);
-        in_table = omega arith;
-        few = omega arith;
-      })
+  pub chosen_short : None ≡ answered (take_field w (drop bit bs)) → {s : Stop} → s ≡ bad_at bit → Unchosen bs w fs bit s
+  chosen_short e i = record { in_key = h; is = λ K. ap (read_whole bit fs K) (field_short (take_field w (drop bit bs)) e); place = i }
 
-  pub chosen_short : (s : Spot) → s ≡ no_form bit → Short ≡ answered (take_field w (drop bit bs)) → ChoiceOn bs T steps w fs bit s
-  chosen_short s i e = chosen_bad (λ K. ap (read_whole bit fs K) (field_short (take_field w (drop bit bs)) e)) s i
+  module _ {t : ℕ} (e : Some t ≡ answered (take_field w (drop bit bs))) where
+    o : Told bs bit w t
+    o = number_told bs bit w t e
 
-  module _ (t : ℕ) (o : Told bs bit w t) where
-    pub chosen_never : (s : Spot) → s ≡ no_form bit → is_never (fs t) ≡ true → ChoiceOn bs T steps w fs bit s
-    chosen_never s i e = chosen_bad (λ K. ap (read_whole bit fs K) o.is ∙ ap (read_allowed bit K t) e) s i
+    pub chosen_never : is_never (fs t) ≡ true → {s : Stop} → s ≡ bad_at bit → Unchosen bs w fs bit s
+    chosen_never n i = record { in_key = h; is = λ K. ap (read_whole bit fs K) o.is ∙ ap (read_allowed bit K t) n; place = i }
 
-    pub chosen_to : (form n : ℕ) → is_never (fs t) ≡ false → fs t ≡ form_of T steps n form → form < 2 ^ 32 → n < 2 ^ 32
-        → ChoiceOn bs T steps w fs bit (record { why = 0; bit = bit + w; form = form; n = n })
-    chosen_to form n e q a b =
+    pub chosen_to : {form n : ℕ} → is_never (fs t) ≡ false → fs t ≡ form_of T steps n form → form < 2 ^ 32 → n < 2 ^ 32 → Chosen bs T steps w fs bit (record { bit = bit + w; form = form; n = n })
+    chosen_to v q a b =
         record {
-          stopped = λ z. absurd (z refl);
           number = t;
-          went = λ _ K. ap (read_whole bit fs K) o.is ∙ ap (read_allowed bit K t) e;
-          next = λ _. refl;
-          place = λ z. absurd (z refl);
+          is = λ K. ap (read_whole bit fs K) o.is ∙ ap (read_allowed bit K t) v;
+          next = refl;
           in_key = o.within h;
-          to = λ _. q;
+          to = q;
           in_table = a;
           few = b;
         }
 
 -- ---- Steps inside a node
 
-module _ (bs : Bits) (T : List ℕ) (steps : ℕ) (r : Row) (s : Spot) (z : Spotted (length bs) s) (y : Sized r) where
+module _ (bs : Bits) (T : List ℕ) (steps : ℕ) (r : Row) (s : Spot) where
   -- The form of an operation.
-  at_op : (k : ℕ) → r.op ≡ k → form_by T (form_of T steps) s.n (entry_of r) k ≡ form_by T (form_of T steps) s.n (entry_of r) r.op
+  at_op : (k : ℕ) → r.op ≡ k → form_by T (form_of T steps) s.n (entry_of r) k ≡ form_by_row T steps r s.n
   at_op k e = ap (form_by T (form_of T steps) s.n (entry_of r)) (sym e)
 
-  above : (x : ℕ) → 5 ≤ x → x ≡ suc (suc (suc (suc (suc (x - 5)))))
-  above x h = omega arith
-
-  pub plain_choice : 5 ≤ r.op → (q : Spot) → ChoiceOn bs T steps r.w (leads T (form_of T steps) (entry_of r) (r.op - 5)) s.bit q → PlainOn bs T steps r s q
-  plain_choice h q d =
-      record {
-        on =
-            λ X. subst (λ (f : Form). Onward bs X f (form_of T steps q.n q.form) s.bit q.why q.bit) (at_op (suc (suc (suc (suc (suc (r.op - 5)))))) (above r.op h))
-            (record {
-              in_key = d.in_key;
-              stopped = λ o. d.stopped o (λ k. after (chooses k ends) (read_form bs X (fs k) (s.bit + r.w))) ∙ (λ i. fails (sym (d.place o).0 i) (sym (d.place o).1 i));
-              passed = chooses d.number ends;
-              went =
-                  λ o. d.went o (λ k. after (chooses k ends) (read_form bs X (fs k) (s.bit + r.w)))
-                  ∙ ap₂ (λ (f : Form) (b : ℕ). after (chooses d.number ends) (read_form bs X f b)) (d.to o) (sym (d.next o));
-            });
-        in_table = d.in_table;
-        few = d.few;
-      }
+  pub plain_choice : 5 ≤ r.op → (q : Result Spot Stop) → ChoiceOn bs T steps r.w (leads T (form_of T steps) (entry_of r) (r.op - 5)) s.bit q → PlainOn bs T steps r s q
+  plain_choice h q d = by q d
     where
       fs : ℕ → Form
       fs = leads T (form_of T steps) (entry_of r) (r.op - 5)
 
-  pub plain_words : r.op ≡ 2 → (c : Check) → SpellingsOn bs r.w s.n s.bit c → PlainOn bs T steps r s (record { why = c.why; bit = c.bit; form = r.b; n = 1 })
-  plain_words e c d =
+      above : r.op ≡ suc (suc (suc (suc (suc (r.op - 5)))))
+      above = omega arith
+
+      by : (q : Result Spot Stop) → ChoiceOn bs T steps r.w (leads T (form_of T steps) (entry_of r) (r.op - 5)) s.bit q → PlainOn bs T steps r s q
+      by (Ok q) d =
+          record {
+            on =
+                λ X. subst (λ (f : Form). Passes bs X f (form_of T steps q.n q.form) s.bit q.bit) (at_op (suc (suc (suc (suc (suc (r.op - 5)))))) above)
+                (record {
+                  in_key = d.in_key;
+                  passed = chooses d.number ends;
+                  is = d.is (λ k. after (chooses k ends) (read_form bs X (fs k) (s.bit + r.w))) ∙ ap₂ (λ (f : Form) (b : ℕ). after (chooses d.number ends) (read_form bs X f b)) d.to (sym d.next);
+                });
+            in_table = d.in_table;
+            few = d.few;
+          }
+      by (Err t) d =
+          λ X. subst (λ (f : Form). Stops (length bs) (read_form bs X f s.bit) t) (at_op (suc (suc (suc (suc (suc (r.op - 5)))))) above)
+          (stops_bad d.in_key (d.is (λ k. after (chooses k ends) (read_form bs X (fs k) (s.bit + r.w)))) d.place)
+
+  pub plain_words : r.op ≡ 2 → r.b < 2 ^ 32 → {b : ℕ} → SpellingsOn bs r.w s.n s.bit (Ok b) → Stepped bs T steps r s (record { bit = b; form = r.b; n = 1 })
+  plain_words e y {b} d =
       record {
-        on = λ X. subst (λ (f : Form). Onward bs X f (form_of T steps 1 r.b) s.bit c.why c.bit) (at_op 2 e) (d X (form_of T steps 1 r.b));
-        in_table = y.b;
+        on = λ X. subst (λ (f : Form). Passes bs X f (form_of T steps 1 r.b) s.bit b) (at_op 2 e) (d X (form_of T steps 1 r.b));
+        in_table = y;
         few = omega arith;
       }
 
-  pub plain_word : r.op ≡ 4 → (c : Check) → ComesTo (length bs) (read_spelling bs r.w s.bit) c → PlainOn bs T steps r s (record { why = c.why; bit = c.bit; form = r.b; n = s.n })
-  plain_word e c d =
-      record {
-        on = λ X. subst (λ (f : Form). Onward bs X f (form_of T steps s.n r.b) s.bit c.why c.bit) (at_op 4 e) (on_word bs X r.w s.bit (form_of T steps s.n r.b) d);
-        in_table = y.b;
-        few = z.few;
-      }
+  pub words_stop : r.op ≡ 2 → {t : Stop} → SpellingsOn bs r.w s.n s.bit (Err t) → PlainOn bs T steps r s (Err t)
+  words_stop e {t} d X = subst (λ (f : Form). Stops (length bs) (read_form bs X f s.bit) t) (at_op 2 e) (d X (form_of T steps 1 r.b))
 
-  pub plain_never : (5 ≤ r.op → ⊥) → (r.op ≡ 1 → ⊥) → (r.op ≡ 2 → ⊥) → (r.op ≡ 3 → ⊥) → (r.op ≡ 4 → ⊥) → (q : Spot) → q ≡ no_form s.bit → PlainOn bs T steps r s q
-  plain_never a b c d e q i =
-      subst (PlainOn bs T steps r s) (sym i)
-      (record {
-        on =
-            λ X. subst (λ (f : Form). Onward bs X f (form_of T steps 0 0) s.bit bad_key s.bit) (at_op 0 (none r.op a b c d e))
-            (record { in_key = z.in_key; stopped = λ _. refl; passed = ends; went = λ o. absurd (ten o) });
-        in_table = omega arith;
-        few = omega arith;
-      })
-    where
-      none : (x : ℕ) → (5 ≤ x → ⊥) → (x ≡ 1 → ⊥) → (x ≡ 2 → ⊥) → (x ≡ 3 → ⊥) → (x ≡ 4 → ⊥) → x ≡ 0
-      none zero a b c d e = refl
-      none (suc zero) a b c d e = absurd (b refl)
-      none (suc (suc zero)) a b c d e = absurd (c refl)
-      none (suc (suc (suc zero))) a b c d e = absurd (d refl)
-      none (suc (suc (suc (suc zero)))) a b c d e = absurd (e refl)
-      none (suc (suc (suc (suc (suc x))))) a b c d e = absurd (a (omega arith))
+  pub plain_never : r.op ≡ 0 → s.bit ≤ length bs → {t : Stop} → t ≡ bad_at s.bit → PlainOn bs T steps r s (Err t)
+  plain_never e h {t} i X = subst (λ (f : Form). Stops (length bs) (read_form bs X f s.bit) t) (at_op 0 e) (stops_bad h refl i)

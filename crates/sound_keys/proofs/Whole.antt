@@ -1,29 +1,31 @@
 -- A whole key: its length, its edition, its tree and its last bits.
 use mathlib.Core.Path.{◌≡◌, refl, sym, ap, ap₂, ◌∙◌, subst}
-use mathlib.Core.Bool.{Bool}
+use mathlib.Core.Bool.{Bool, true, false}
 use mathlib.Core.List.{List}
-use Prim.Native.Nat.{ℕ, zero, suc, ◌+◌, ◌-◌, ◌*◌, ◌%◌, ◌≤◌, ◌<◌}
+use Rattle.std.proofs.Common.{Result as Outcome, Ok, Err, Option, Some, None, not, eqb, eqb-true}
+use Rattle.std.specs.Option.{option_eq}
+use Prim.Native.Nat.{ℕ, zero, suc, ◌-◌, ◌*◌, ◌%◌, ◌≤◌, ◌<◌}
 use native.Mathlib.Nat.{le_refl}
 use native.Mathlib.Omega.{arith}
-use borrow.Author.Tests.{le-leb, lt-leb}
+use borrow.Author.Tests.{le-leb}
 use lib.ListN.{length, drop, length-drop}
+use Rattle.words.specs.Refusal.{number_of}
 use Rattle.keys.specs.Bits.{Bits, take_field, bits_of_bytes}
 use Rattle.keys.proofs.BitsLaws.{clash, length_bytes}
-use Rattle.keys.specs.Form.{Value, nothing, choice, child, Grammar, is_never, State, state, Result, stop, into, allowed, if_whole, take_form, take_node}
+use Rattle.keys.specs.Form.{Value, choice, child, Grammar, State, state, Result, into, if_whole, take_form, take_node}
 use Rattle.keys.specs.Limits.{longest_key, tallest, newest, count_width, bad_key}
 use Rattle.keys.specs.Table.{type_under, whole_key}
-use Rattle.keys.specs.Key.{Taken, padding, closed, refused, refusal_place, outcome, node_table, take_within}
+use Rattle.keys.specs.Key.{padding, closed, refused, refusal_place, outcome, node_table, take_within}
 use Rattle.fields.specs.Take.{answered}
-use Rattle.fields.specs.declared.take.TakenField.TheVariants.{Number, Short}
-use Rattle.fields.proofs.Chunks.{Told, number_told, field_short}
+use Rattle.fields.proofs.Chunks.{Told, number_told}
 use Rattle.node_table.specs.Forms.{grammar_of, table_words}
 use Rattle.node_table.proofs.FormsLaws.{words_are}
 use Rattle.key_parts.specs.Padding.{Ends}
-use Rattle.key_parts.proofs.Rows.{table_fine, other_edition}
+use Rattle.key_parts.proofs.Rows.{table_fine}
 use Rattle.differs.specs.Content.{content_of}
 use Rattle.differs.specs.Differ.{checked}
-use Rattle.sound_keys.specs.Sound.{reads, fails, read_node, ComesTo, check_at, verdict, Judges, Wholly}
-use Rattle.sound_keys.specs.declared.sound.Check.{Check}
+use Rattle.sound_keys.specs.Sound.{reads, fails, read_node, Stops, Goes, bad_at, said, verdict, Wholly}
+use Rattle.key_parts.specs.declared.refusal.Stop.{Stop}
 use Rattle.sound_keys.proofs.Lined.{lined_read}
 use Rattle.sound_keys.proofs.Roomy.{Eager, eager_never, eager_word, eager_choose, eager_both, Same, same_got, same_stop, same_node}
 
@@ -40,6 +42,17 @@ eager_table (suc (suc (suc (suc (suc zero))))) (suc t) e = eager_never
 eager_table (suc (suc (suc (suc (suc (suc zero)))))) t e = absurd (omega arith)
 eager_table (suc (suc (suc (suc (suc (suc (suc c))))))) t e = eager_never
 
+-- An option that is known to be a number.
+is_some : (o : Option ℕ) (n : ℕ) → false ≡ not (option_eq eqb o (Some n)) → o ≡ Some n
+is_some None n e = clash (cc)
+is_some (Some m) n e = ap Some (by (eqb m n) refl)
+  where
+    by : (b : Bool) → eqb m n ≡ b → m ≡ n
+    by true i = eqb-true m n i
+    by false i =
+        let z = e ∙ ap not i in
+        clash (cc z)
+
 module _ (T key : List ℕ) where
   abbrev bs : Bits
   bs = bits_of_bytes key
@@ -47,52 +60,24 @@ module _ (T key : List ℕ) where
   abbrev S : State
   S = state (length key * 8) (length key * 8) (length key) (bits_of_bytes key)
 
-  bad : checked key ≡ refused bad_key 0 → (r : Check) → r ≡ check_at bad_key 0 → Wholly T key r
-  bad e r i =
-      subst (Wholly T key) (sym i)
-      (record {
-        judges = record { stopped = λ _. e; tree = nothing; good = λ z. absurd (omega arith) };
-        short = λ z. absurd (omega arith);
-        long = λ z. absurd (omega arith);
-        end = 0;
-        read = λ z. absurd (omega arith);
-      })
-
-  pub whole_long : longest_key < length key → (r : Check) → r ≡ check_at bad_key 0 → Wholly T key r
-  whole_long h r e = bad (ap (λ (b : Bool). take_within newest b (length key * 8) (length key * 8) (length key) key) (lt-leb (length key) longest_key h)) r e
-
   module _ (h : length key ≤ longest_key) where
     within : checked key ≡ outcome (length (bits_of_bytes key)) (closed (take_form (take_node node_table tallest) whole_key S))
     within = ap (λ (b : Bool). take_within newest b (length key * 8) (length key * 8) (length key) key) (le-leb (length key) longest_key h)
 
-    early : take_form (take_node node_table tallest) whole_key S ≡ stop bad_key (length (bits_of_bytes key)) → checked key ≡ refused bad_key 0
-    early e =
-        within ∙ ap (λ (y : Result). outcome (length (bits_of_bytes key)) (closed y)) e
-        ∙ ap (refused bad_key) (let z : length (bits_of_bytes key) - length (bits_of_bytes key) ≡ 0 = omega arith in z)
-
     abbrev K : ℕ → Bits → Result
     K t r = into (choice t) (take_form (take_node node_table tallest) (type_under newest t) (state (length key * 8) (length key * 8) (length key) r))
 
-    pub whole_short : Short ≡ answered (take_field 4 (drop 0 (bits_of_bytes key))) → (r : Check) → r ≡ check_at bad_key 0 → Wholly T key r
-    whole_short e r i = bad (early (ap (if_whole S (type_under newest) K) (field_short (take_field 4 bs) e))) r i
-
-    module _ (e : ℕ) (i : Number e ≡ answered (take_field 4 (drop 0 (bits_of_bytes key)))) where
-      t : Told (bits_of_bytes key) 0 4 e
-      t = number_told (bits_of_bytes key) 0 4 e i
+    module _ {o : Option ℕ} (a : o ≡ answered (take_field 4 (drop 0 (bits_of_bytes key)))) (e : false ≡ not (option_eq eqb o (Some 1))) where
+      t : Told (bits_of_bytes key) 0 4 1
+      t = number_told (bits_of_bytes key) 0 4 1 (sym (is_some o 1 e) ∙ a)
 
       pub whole_four : 4 ≤ length key * 8
       whole_four = omega (arith, t.within (omega arith), length_bytes key)
 
-      in_edition : take_form (take_node node_table tallest) whole_key S ≡ allowed S K e (drop (0 + 4) (bits_of_bytes key)) (is_never (type_under newest e))
-      in_edition = ap (if_whole S (type_under newest) K) t.is
-
-      pub whole_other : (e ≡ 1 → ⊥) → (r : Check) → r ≡ check_at bad_key 0 → Wholly T key r
-      whole_other z r j = bad (early (in_edition ∙ ap (allowed S K e (drop (0 + 4) bs)) (other_edition e z))) r j
-
-      module _ (z : e ≡ 1) (w : T ≡ table_words count_width) where
+      module _ (w : T ≡ table_words count_width) where
         in_tree : take_form (take_node node_table tallest) whole_key S
             ≡ into (choice 1) (take_node node_table tallest 0 (state (length key * 8) (length key * 8) (length key) (drop 4 (bits_of_bytes key))))
-        in_tree = in_edition ∙ ap (λ (x : ℕ). allowed S K x (drop (0 + 4) bs) (is_never (type_under newest x))) z
+        in_tree = ap (if_whole S (type_under newest) K) t.is
 
         -- Reading by the words and taking with room enough.
         agrees : Same (bits_of_bytes key) node_table (child 0) 4 (take_node node_table tallest 0 (state (length key * 8) (length key * 8) (length key) (drop 4 (bits_of_bytes key)))) (read_node (bits_of_bytes key) (grammar_of T) tallest 0 4)
@@ -106,92 +91,62 @@ module _ (T key : List ℕ) where
         back_to : (x : ℕ) → x ≤ length (bits_of_bytes key) → length (bits_of_bytes key) - (length (bits_of_bytes key) - x) ≡ x
         back_to x l = omega arith
 
-        module _ (c : Check) (d : ComesTo (length (bits_of_bytes key)) (read_node (bits_of_bytes key) (grammar_of T) tallest 0 4) c) where
-          pub whole_stop : (c.why ≡ 0 → ⊥) → Wholly T key c
-          whole_stop o = by agrees
+        -- The tree is refused.
+        pub whole_stop : {s : Stop} → Stops (length (bits_of_bytes key)) (read_node (bits_of_bytes key) (grammar_of T) tallest 0 4) s → Wholly T key (Err s)
+        whole_stop {s} d = by agrees
+          where
+            by : Same (bits_of_bytes key) node_table (child 0) 4 (take_node node_table tallest 0 (state (length key * 8) (length key * 8) (length key) (drop 4 (bits_of_bytes key)))) (read_node (bits_of_bytes key) (grammar_of T) tallest 0 4)
+                → Wholly T key (Err s)
+            by (same_got v s' f x y k p n) = clash (cc (sym d.is ∙ y))
+            by (same_stop n b x y l g) =
+                let q : fails (number_of s.why) s.bit ≡ fails n b = sym d.is ∙ y in
+                let q₁ : n ≡ number_of s.why = cc in
+                let q₂ : b ≡ s.bit = cc in
+                within ∙ ap (λ (u : Result). outcome (length bs) (closed u)) (in_tree ∙ ap (into (choice 1)) x)
+                ∙ ap₂ (λ (u : Bool) (m : ℕ). refused n (refusal_place u m)) g (back_to b l) ∙ ap₂ refused q₁ q₂
+
+        module _ {bit : ℕ} (d : Goes (length (bits_of_bytes key)) (read_node (bits_of_bytes key) (grammar_of T) tallest 0 4) bit) {f : ℕ} (u : Ends (bits_of_bytes key) bit f) where
+          -- The tree was taken, and the bits from the check's on are left.
+          record Tree : Type 0 where
+            tree : Value
+            read : read_node (bits_of_bytes key) (grammar_of T) tallest 0 4 ≡ reads (content_of node_table tree) bit
+            padded : checked key ≡ outcome (length (bits_of_bytes key)) (padding (choice 1 tree) (length (drop bit (bits_of_bytes key)) % 8) (drop bit (bits_of_bytes key)))
+
+          has_tree : Tree
+          has_tree = by agrees
             where
               by : Same (bits_of_bytes key) node_table (child 0) 4 (take_node node_table tallest 0 (state (length key * 8) (length key * 8) (length key) (drop 4 (bits_of_bytes key)))) (read_node (bits_of_bytes key) (grammar_of T) tallest 0 4)
-                  → Wholly T key c
-              by (same_got v s f x y k p n) = clash (cc (sym (d.stopped o) ∙ y))
-              by (same_stop n b x y l g) =
-                  let q : fails c.why c.bit ≡ fails n b = sym (d.stopped o) ∙ y in
-                  let q₁ : n ≡ c.why = cc in
-                  let q₂ : b ≡ c.bit = cc in
+                  → Tree
+              by (same_stop n b x y l g) = clash (cc (sym d.is ∙ y))
+              by (same_got v s g x y k p n) =
+                  let q : reads d.content bit ≡ reads (content_of node_table v) g = sym d.is ∙ y in
+                  let q₁ : g ≡ bit = cc in
                   record {
-                    judges =
-                        record {
-                          stopped =
-                              λ _. within ∙ ap (λ (u : Result). outcome (length bs) (closed u)) (in_tree ∙ ap (into (choice 1)) x)
-                              ∙ ap₂ (λ (u : Bool) (m : ℕ). refused n (refusal_place u m)) g (back_to b l) ∙ ap₂ refused q₁ q₂;
-                          tree = nothing;
-                          good = λ j. absurd (o j);
-                        };
-                    short = λ j. absurd (o j);
-                    long = λ j. absurd (o j);
-                    end = 0;
-                    read = λ j. absurd (o j);
+                    tree = v;
+                    read = y ∙ ap (reads (content_of node_table v)) q₁;
+                    padded =
+                        within ∙ ap (λ (m : Result). outcome (length bs) (closed m)) (in_tree ∙ ap (into (choice 1)) x)
+                        ∙ ap (λ (m : Bits). outcome (length bs) (padding (choice 1 v) (length m % 8) m)) (p.bits ∙ ap (λ (m : ℕ). drop m bs) q₁);
                   }
 
-          module _ (o : c.why ≡ 0) (f : ℕ) (u : Ends (bits_of_bytes key) c.bit f) where
-            -- The tree was taken, and the bits from the check's on are left.
-            record Tree : Type 0 where
-              tree : Value
-              read : read_node (bits_of_bytes key) (grammar_of T) tallest 0 4 ≡ reads (content_of node_table tree) c.bit
-              padded : checked key ≡ outcome (length (bits_of_bytes key)) (padding (choice 1 tree) (length (drop c.bit (bits_of_bytes key)) % 8) (drop c.bit (bits_of_bytes key)))
+          pub whole_left : f < length key * 8 → {s : Stop} → s ≡ bad_at f → Wholly T key (Err s)
+          whole_left l i =
+              subst (λ (s : Stop). Wholly T key (Err s)) (sym i)
+              (has_tree.padded ∙ ap (outcome (length bs)) (u.stopped (omega (arith, length_bytes key)) (choice 1 has_tree.tree))
+              ∙ ap (refused bad_key) (back_to f u.inside))
 
-            has_tree : Tree
-            has_tree = by agrees
-              where
-                by : Same (bits_of_bytes key) node_table (child 0) 4 (take_node node_table tallest 0 (state (length key * 8) (length key * 8) (length key) (drop 4 (bits_of_bytes key)))) (read_node (bits_of_bytes key) (grammar_of T) tallest 0 4)
-                    → Tree
-                by (same_stop n b x y l g) = clash (cc (sym (d.went o) ∙ y))
-                by (same_got v s g x y k p n) =
-                    let q : reads d.content c.bit ≡ reads (content_of node_table v) g = sym (d.went o) ∙ y in
-                    let q₁ : g ≡ c.bit = cc in
-                    record {
-                      tree = v;
-                      read = y ∙ ap (reads (content_of node_table v)) q₁;
-                      padded =
-                          within ∙ ap (λ (m : Result). outcome (length bs) (closed m)) (in_tree ∙ ap (into (choice 1)) x)
-                          ∙ ap (λ (m : Bits). outcome (length bs) (padding (choice 1 v) (length m % 8) m)) (p.bits ∙ ap (λ (m : ℕ). drop m bs) q₁);
-                    }
+          pub whole_done : length key * 8 ≤ f → Wholly T key (Ok tt)
+          whole_done l =
+              record {
+                tree = has_tree.tree;
+                is = has_tree.padded ∙ ap (outcome (length bs)) (u.went (omega (arith, u.inside, length_bytes key)) (choice 1 has_tree.tree));
+                short = h;
+                long = whole_four;
+                end = bit;
+                read = has_tree.read;
+              }
 
-            pub whole_left : f < length key * 8 → (r : Check) → r ≡ check_at bad_key f → Wholly T key r
-            whole_left l r j =
-                subst (Wholly T key) (sym j)
-                (record {
-                  judges =
-                      record {
-                        stopped =
-                            λ _. has_tree.padded ∙ ap (outcome (length bs)) (u.stopped (omega (arith, length_bytes key)) (choice 1 has_tree.tree))
-                            ∙ ap (refused bad_key) (back_to f u.inside);
-                        tree = nothing;
-                        good = λ x. absurd (omega arith);
-                      };
-                  short = λ x. absurd (omega arith);
-                  long = λ x. absurd (omega arith);
-                  end = 0;
-                  read = λ x. absurd (omega arith);
-                })
-
-            pub whole_done : length key * 8 ≤ f → Wholly T key c
-            whole_done l =
-                record {
-                  judges =
-                      record {
-                        stopped = λ x. absurd (x o);
-                        tree = has_tree.tree;
-                        good = λ _. has_tree.padded ∙ ap (outcome (length bs)) (u.went (omega (arith, u.inside, length_bytes key)) (choice 1 has_tree.tree));
-                      };
-                  short = λ _. h;
-                  long = λ _. whole_four;
-                  end = c.bit;
-                  read = λ _. has_tree.read;
-                }
-
--- What is answered of a key, where the check stopped and where it did not.
-pub judged_bad : {x : Taken} {c : Check} → Judges x c → (c.why ≡ 0 → ⊥) → c ≡ verdict x
-judged_bad j z = sym (ap verdict (j.stopped z))
-
-pub judged_good : {x : Taken} {c : Check} → Judges x c → c.why ≡ 0 → (r : Check) → r ≡ check_at 0 0 → r ≡ verdict x
-judged_good j z r e = e ∙ sym (ap verdict (j.good z))
+-- What is answered of a key.
+pub judged : (T key : List ℕ) (r : Outcome (Unit {0}) Stop) → Wholly T key r → said r ≡ verdict (checked key)
+judged T key (Ok u) w = sym (ap verdict w.is)
+judged T key (Err s) w = sym (ap verdict w)

@@ -2,3 +2,4 @@
 #![tactic(auto)]
 
 pub mod sound;
+pub mod source;

@@ -4,8 +4,7 @@ use mathlib.Core.List.{List, [], ◌∷◌, ◌++◌, append_assoc, append-nil}
 use mathlib.Core.Logic.{◌⊎◌, inl, inr}
 use Prim.Native.Nat.{ℕ, zero, suc, ◌+◌, ◌*◌, ◌≤◌, ◌<◌}
 use native.Mathlib.Omega.{arith}
-use lib.ListN.{length, take, set, length-set, length-append}
-use lib.Seq.{take-suc-set, take-set-le}
+use lib.ListN.{length, take, length-append}
 use Rattle.keys.proofs.BitsLaws.{le_or_lt}
 use Rattle.differs.specs.Content.{Pair}
 use Rattle.differs.specs.Differ.{words_of}
@@ -25,10 +24,6 @@ take_pairs (suc k) (x ∷ l) h = ap (λ (y : List Pair). x ∷ y) (take_pairs k 
 words_append : (l m : List Pair) → words_of (l ++ m) ≡ words_of l ++ words_of m
 words_append [] m = refl
 words_append (x ∷ l) m = ap (λ (y : List ℕ). x.0 ∷ x.1 ∷ y) (words_append l m)
-
-pub words_length : (l : List Pair) → length (words_of l) ≡ length l * 2
-words_length [] = refl
-words_length (x ∷ l) = let i = words_length l in omega arith
 
 kept_prefix : (m : List ℕ) (ps new : List Pair) → Begins m (ps ++ new) → Begins m ps
 kept_prefix m ps new K k h l = K k (omega (arith, length-append ps new)) l ∙ ap words_of (take_prefix k ps new h)
@@ -66,21 +61,3 @@ puts_grows d = record { long = d.long; kept = λ ps e K. put_kept d ps e K }
 -- What was found gives way to one pair.
 pub puts_over : {l : List ℕ} {n a b : ℕ} {m k : List ℕ} {new : List Pair} → Grows l n m new → Puts m n a b k → Grows l n k ((a, b) ∷ [])
 puts_over {m = m} {new = new} d p = record { long = p.long ∙ d.long; kept = λ ps e K. put_kept p ps e (kept_prefix m ps new (d.kept ps e K)) }
-
--- ---- The stores
-
-pub put_stored : (l : List ℕ) (n a b : ℕ) → n * 2 + 1 < length l → Puts l n a b (set (set l (n * 2) a) (n * 2 + 1) b)
-put_stored l n a b h =
-    record {
-      long = length-set (set l (n * 2) a) (n * 2 + 1) b ∙ length-set l (n * 2) a;
-      below = λ k o. take-set-le (k * 2) (set l (n * 2) a) (n * 2 + 1) b (omega arith) ∙ take-set-le (k * 2) l (n * 2) a (omega arith);
-      there =
-          λ o. let p : (n + 1) * 2 ≡ suc (n * 2 + 1) = omega arith in
-          let q : n * 2 + 1 ≡ suc (n * 2) = omega arith in
-          ap (λ (x : ℕ). take x (set (set l (n * 2) a) (n * 2 + 1) b)) p ∙ take-suc-set (set l (n * 2) a) (n * 2 + 1) b (omega (arith, length-set l (n * 2) a))
-          ∙ ap (λ (x : List ℕ). x ++ (b ∷ [])) (ap (λ (x : ℕ). take x (set l (n * 2) a)) q ∙ take-suc-set l (n * 2) a (omega arith))
-          ∙ append_assoc (take (n * 2) l) (a ∷ []) (b ∷ []);
-    }
-
-pub put_dropped : (l : List ℕ) (n a b : ℕ) → length l ≤ n * 2 + 1 → Puts l n a b l
-put_dropped l n a b h = record { long = refl; below = λ k o. refl; there = λ o. absurd (omega arith) }

@@ -14,13 +14,13 @@ use Rattle.keys.proofs.BitsLaws.{clash, length_bytes, bytes_back}
 use Rattle.keys.specs.Form.{Form, one, word, both, child, Grammar}
 use Rattle.keys.specs.Key.{bytes_in}
 use Rattle.fields.specs.Take.{answered}
-use Rattle.fields.specs.declared.take.TakenField.TheVariants.{Number}
+use Rattle.std.proofs.Common.{Some}
 use Rattle.fields.proofs.Chunks.{Told, number_told, take_rest}
 use Rattle.node_table.specs.Forms.{spellings_then, spelling_if, nodes_then}
-use Rattle.key_parts.proofs.Steps.{bytes_whole, if_spelled}
+use Rattle.key_parts.proofs.Steps.{bytes_whole}
 use Rattle.differs.specs.Content.{Content, ends, spells, enters, own, Pair, unless, inside, differences}
 use Rattle.sound_keys.specs.Sound.{Scan, reads, fails, ◌⊕◌, after, then_read, read_letters, read_length, read_spelling, read_form, read_node}
-use Rattle.walks.specs.Walk.{Grows, Puts, Beside, beside_ends, beside_chooses, beside_spells, beside_enters, IsRead, Inside, Abreast, no_node, SpelledOn, SpelledAll, SpelledAfter, Walked, WalkedAll}
+use Rattle.walks.specs.Walk.{Grows, Puts, Beside, beside_ends, beside_chooses, beside_spells, beside_enters, IsRead, Inside, Abreast, no_node, SpelledOn, SpelledAll, SpelledAfter, Walked}
 use Rattle.walks.specs.declared.walk.Both.{Both}
 use Rattle.sound_keys.proofs.Checking.{after_ends, after_after}
 use Rattle.walks.proofs.Listed.{grows_none, grows_as, grows_then, puts_grows}
@@ -150,7 +150,7 @@ word_good bs w a h r = long (take_field w (drop a bs)) refl
     long (field (suc m) q) i = letters m q i (take_bytes (suc m) q) refl
 
 -- The number that was taken is the one that is there.
-pub told_one : {bs : Bits} {a w n m : ℕ} → Told bs a w n → Number m ≡ answered (take_field w (drop a bs)) → m ≡ n
+pub told_one : {bs : Bits} {a w n m : ℕ} → Told bs a w n → Some m ≡ answered (take_field w (drop a bs)) → m ≡ n
 told_one t e =
     let i = e ∙ ap answered t.is in
     cc i
@@ -167,13 +167,6 @@ pub record Comparing (bs cs : Bits) (a b n i : ℕ) : Type 0 where
   pub few : i ≤ n
   pub is : same (bytes_in (take_bytes n (drop a bs))) (bytes_in (take_bytes n (drop b cs)))
       ≡ same (bytes_in (take_bytes (n - i) (drop (a + i * 8) bs))) (bytes_in (take_bytes (n - i) (drop (b + i * 8) cs)))
-
-pub comparing_none : (bs cs : Bits) (a b n : ℕ) → Comparing bs cs a b n 0
-comparing_none bs cs a b n =
-    let e : n ≡ n - 0 = omega arith in
-    let f : a ≡ a + 0 * 8 = omega arith in
-    let g : b ≡ b + 0 * 8 = omega arith in
-    record { few = omega arith; is = λ i. same (bytes_in (take_bytes (e i) (drop (f i) bs))) (bytes_in (take_bytes (e i) (drop (g i) cs))) }
 
 module _ {bs cs : Bits} {a b n i : ℕ} (d : Comparing bs cs a b n i) (h : i < n) (u : a + n * 8 ≤ length bs) (v : b + n * 8 ≤ length cs) {x y : ℕ} (s : Told bs (a + i * 8) 8 x) (t : Told cs (b + i * 8) 8 y) where
   stepped : same (bytes_in (take_bytes n (drop a bs))) (bytes_in (take_bytes n (drop b cs)))
@@ -196,11 +189,6 @@ module _ {bs cs : Bits} {a b n i : ℕ} (d : Comparing bs cs a b n i) (h : i < n
             stepped ∙ ap (λ (k : Bool). k and same (bytes_in (take_bytes (n - (i + 1)) (drop (a + i * 8 + 8) bs))) (bytes_in (take_bytes (n - (i + 1)) (drop (b + i * 8 + 8) cs)))) (eq-eqb x y z)
             ∙ (λ j. same (bytes_in (take_bytes (n - (i + 1)) (drop (e j) bs))) (bytes_in (take_bytes (n - (i + 1)) (drop (f j) cs))));
       }
-
-pub comparing_all : {bs cs : Bits} {a b n i : ℕ} → Comparing bs cs a b n i → n ≤ i → true ≡ same (bytes_in (take_bytes n (drop a bs))) (bytes_in (take_bytes n (drop b cs)))
-comparing_all {bs} {cs} {a} {b} {n} {i} d h =
-    let z : n - i ≡ 0 = omega arith in
-    sym (d.is ∙ ap (λ (k : ℕ). same (bytes_in (take_bytes k (drop (a + i * 8) bs))) (bytes_in (take_bytes k (drop (b + i * 8) cs)))) z)
 
 bytes_size : (bs : Bits) (a n : ℕ) → a + n * 8 ≤ length bs → length (bytes_in (take_bytes n (drop a bs))) ≡ n
 bytes_size bs a n h =
@@ -264,7 +252,7 @@ word_within key w a h r =
     omega (arith, x.fits, length_bytes key)
 
 -- Its bytes are, too.
-pub word_ends : (key : List ℕ) (w a : ℕ) → a ≤ length key * 8 → IsRead (read_spelling (bits_of_bytes key) w a) → (n : ℕ) → Number n ≡ answered (take_field w (drop a (bits_of_bytes key)))
+pub word_ends : (key : List ℕ) (w a : ℕ) → a ≤ length key * 8 → IsRead (read_spelling (bits_of_bytes key) w a) → (n : ℕ) → Some n ≡ answered (take_field w (drop a (bits_of_bytes key)))
     → a + w + n * 8 ≤ length key * 8
 word_ends key w a h r n e =
     let x = word_good (bits_of_bytes key) w a (omega (arith, length_bytes key)) r in
@@ -272,7 +260,7 @@ word_ends key w a h r n e =
 
 module _ (left right : List ℕ) (w v : ℕ) (p : Both) (h : Inside (length left * 8) (length right * 8) p)
     (r : IsRead (read_spelling (bits_of_bytes left) w p.left)) (s : IsRead (read_spelling (bits_of_bytes right) v p.right)) (l : List ℕ)
-    (n : ℕ) (i : Number n ≡ answered (take_field w (drop p.left (bits_of_bytes left)))) (m : ℕ) (j : Number m ≡ answered (take_field v (drop p.right (bits_of_bytes right)))) (b : Bool)
+    (n : ℕ) (i : Some n ≡ answered (take_field w (drop p.left (bits_of_bytes left)))) (m : ℕ) (j : Some m ≡ answered (take_field v (drop p.right (bits_of_bytes right)))) (b : Bool)
     (e : b ≡ same (bytes_in (take_bytes n (drop (p.left + w) (bits_of_bytes left)))) (bytes_in (take_bytes m (drop (p.right + v) (bits_of_bytes right))))) where
   x : Word (bits_of_bytes left) w p.left
   x = word_good (bits_of_bytes left) w p.left (inside_bits left right h).left r
@@ -351,25 +339,6 @@ after_none bs cs w v p l h z e X Y g g' =
     subst (λ (x : ℕ). Abreast bs cs X Y (spelling_if x g) (spelling_if v g') g g' p p l l) (sym z)
     (subst (λ (x : ℕ). Abreast bs cs X Y g (spelling_if x g') g g' p p l l) (sym y) (along_none bs cs X Y g g' p l h))
 
-module _ (bs cs : Bits) (w v : ℕ) (z : w ≡ 0 → ⊥) (e : v ≡ w) where
-  other : v ≡ 0 → ⊥
-  other i = z (sym e ∙ i)
-
-  pub if_left : (a : ℕ) → IsRead (read_form bs no_node (spelling_if w one) a) → IsRead (read_spelling bs w a)
-  if_left a r =
-      let f = then_back (read_spelling bs w a) (λ k. read_form bs no_node one k) (subst (λ (x : Form). IsRead (read_form bs no_node x a)) (sym (if_spelled w one z)) r) in
-      record { content = f.content; end = f.end; is = f.is }
-
-  pub if_right : (a : ℕ) → IsRead (read_form cs no_node (spelling_if v one) a) → IsRead (read_spelling cs v a)
-  if_right a r =
-      let f = then_back (read_spelling cs v a) (λ k. read_form cs no_node one k) (subst (λ (x : Form). IsRead (read_form cs no_node x a)) (sym (if_spelled v one other)) r) in
-      record { content = f.content; end = f.end; is = f.is }
-
-  pub after_word : {p q : Both} {l m : List ℕ} → SpelledOn bs cs w v p q l m → SpelledAfter bs cs w v p q l m
-  after_word {p} {q} {l} {m} d X Y g g' =
-      subst (λ (x : Form). Abreast bs cs X Y x (spelling_if v g') g g' p q l m) (if_spelled w g z)
-      (subst (λ (x : Form). Abreast bs cs X Y (both (word w) g) x g g' p q l m) (if_spelled v g' other) (d X Y g g'))
-
 -- ---- n nodes
 
 pub along_node : {bs cs : Bits} {G : Grammar} {high class : ℕ} {p q : Both} {l m : List ℕ} → Walked bs cs G high class p q l m → (g g' : Form)
@@ -441,9 +410,3 @@ module _ {bs cs : Bits} {G : Grammar} {high class w v n : ℕ} {p : Both} {l : L
           few = omega arith;
           on = λ g g'. along_then bs cs (read_node bs G high) (read_node cs G high) (past g g') (f (read_node bs G high) (read_node cs G high) (nodes_then (n - (i + 1)) class w g) (nodes_then (n - (i + 1)) class v g'));
         }
-
-pub turn_all : {bs cs : Bits} {G : Grammar} {high class w v n : ℕ} {p : Both} {l : List ℕ} {i : ℕ} {q : Both} {m : List ℕ}
-    → Turn bs cs G high class w v n p l i q m → n ≤ i → WalkedAll bs cs G high class w v n p q l m
-turn_all {bs} {cs} {G} {high} {class} {w} {v} {n} {p} {l} {i} {q} {m} d h g g' =
-    let z : n - i ≡ 0 = omega arith in
-    subst (λ (k : ℕ). Abreast bs cs (read_node bs G high) (read_node cs G high) (nodes_then n class w g) (nodes_then n class v g') (nodes_then k class w g) (nodes_then k class v g') p q l m) z (d.on g g')

@@ -1,17 +1,18 @@
 -- The walk of two keys together: what stands in the list, and what its functions answer (02, W9).
 use Rattle.std.specs.Prelude.{List, [], ◌∷◌, ◌++◌, ◌≡◌, ℕ, ◌+◌, ◌*◌, ◌^◌, ◌≤◌, ◌<◌, length, take}
-use Rattle.std.specs.Borrow.{Bor, MutBor}
-use denote.Triple.Both.{Both as Moments}
 use Rattle.words.specs.Test.{same}
-use Rattle.keys.specs.Bits.{Bits, bits_of_bytes}
-use Rattle.keys.specs.Limits.{longest_key, widest}
+use Rattle.keys.specs.Bits.{Bits}
+use Rattle.keys.specs.Limits.{widest}
 use Rattle.keys.specs.Form.{Form, one, word, both, Grammar}
-use Rattle.node_table.specs.Forms.{form_of, grammar_of, spellings_then, spelling_if, nodes_then, Narrow}
+use Rattle.node_table.specs.Forms.{form_of, grammar_of, spellings_then, spelling_if, nodes_then}
 use Rattle.node_table.specs.declared.forms.Jump.{Jump}
 use Rattle.differs.specs.Content.{Content, ends, chooses, spells, enters, own, Pair, inside, differences}
 use Rattle.differs.specs.Differ.{words_of}
-use Rattle.sound_keys.specs.Sound.{Scan, reads, fails, after, read_form, read_node, read_spelling}
+use Rattle.sound_keys.specs.Sound.{Scan, reads, fails, after, read_form, read_node, read_spelling, Goes, bits, rest_of}
+use Rattle.sound_keys.specs.declared.source.Source.{Source}
+use Rattle.walks.specs.declared.sides.Sides.{Sides}
 use Rattle.walks.specs.declared.walk.Both.{Both}
+use Rattle.walks.specs.declared.walk.Widths.{Widths}
 
 -- ---- The list
 
@@ -113,94 +114,113 @@ pub record Parted (bs cs : Bits) (X Y : ℕ → ℕ → Scan) (f f' : Form) (at 
   pub puts : Puts l first.found first.left first.right m
   pub inside : Inside (length bs) (length cs) q
 
--- ---- What the functions ask, of keys that are not too long and a place inside them
+-- ---- Both sides
 
--- Two spellings are asked to be there, with lengths of w and v bits.
-abbrev pub AsksSpelling : (left right : List ℕ) (w v : ℕ) (p : Both) → Type 0
-AsksSpelling left right w v p =
-    (length left ≤ longest_key) × (length right ≤ longest_key) × (w ≤ widest) × (v ≤ widest) × Inside (length left * 8) (length right * 8) p
-    × IsRead (read_spelling (bits_of_bytes left) w p.left)
-    × IsRead (read_spelling (bits_of_bytes right) v p.right)
+-- The bits of the left key.
+abbrev pub left_bits : Sides → Bits
+left_bits s = bits s.left
+
+-- The bits of the right key.
+abbrev pub right_bits : Sides → Bits
+right_bits s = bits s.right
+
+-- The forms of both keys.
+abbrev pub grammar : Sides → Grammar
+grammar s = grammar_of s.left.forms.now
+
+-- The nodes of the left key as they are read, with room for so many one above the other.
+abbrev pub left_nodes : Sides → (high : ℕ) → ℕ → ℕ → Scan
+left_nodes s high = read_node (left_bits s) (grammar s) high
+
+-- The nodes of the right key.
+abbrev pub right_nodes : Sides → (high : ℕ) → ℕ → ℕ → Scan
+right_nodes s high = read_node (right_bits s) (grammar s) high
+
+-- The form that a number leads to.
+abbrev pub form_at : Sides → (steps : ℕ) → Jump → Form
+form_at s steps j = form_of s.left.forms.now steps j.n j.form
+
+-- A form is there on the left, by a way to read nodes.
+abbrev pub LeftRead : Sides → (ℕ → ℕ → Scan) → Form → Both → Type 0
+LeftRead s X f p = IsRead (read_form (left_bits s) X f p.left)
+
+-- The same on the right.
+abbrev pub RightRead : Sides → (ℕ → ℕ → Scan) → Form → Both → Type 0
+RightRead s X f p = IsRead (read_form (right_bits s) X f p.right)
+
+-- A place in both keys.
+abbrev pub Within : Sides → Both → Type 0
+Within s p = Inside (length s.left.key.now * 8) (length s.right.key.now * 8) p
+
+-- ---- What the functions ask, of a place inside both keys
+
+-- Two spellings are asked to be there.
+abbrev pub AsksSpelling : Sides → Widths → (p : Both) → Type 0
+AsksSpelling s w p = (w.left ≤ widest) × (w.right ≤ widest) × Within s p × IsRead (read_spelling (left_bits s) w.left p.left) × IsRead (read_spelling (right_bits s) w.right p.right)
 
 -- The same of n spellings on each side.
-abbrev pub AsksSpellings : (left right : List ℕ) (w v n : ℕ) (p : Both) → Type 0
-AsksSpellings left right w v n p =
-    (length left ≤ longest_key) × (length right ≤ longest_key) × (w ≤ widest) × (v ≤ widest) × Inside (length left * 8) (length right * 8) p
-    × IsRead (read_form (bits_of_bytes left) no_node (spellings_then n w one) p.left)
-    × IsRead (read_form (bits_of_bytes right) no_node (spellings_then n v one) p.right)
+abbrev pub AsksSpellings : Sides → Widths → (n : ℕ) (p : Both) → Type 0
+AsksSpellings s w n p =
+    (w.left ≤ widest) × (w.right ≤ widest) × Within s p × LeftRead s no_node (spellings_then n w.left one) p × RightRead s no_node (spellings_then n w.right one) p
 
 -- The same of the spellings after two children.
-abbrev pub AsksAfter : (left right : List ℕ) (w v : ℕ) (p : Both) → Type 0
-AsksAfter left right w v p =
-    (length left ≤ longest_key) × (length right ≤ longest_key) × (w ≤ widest) × (v ≡ w) × Inside (length left * 8) (length right * 8) p
-    × IsRead (read_form (bits_of_bytes left) no_node (spelling_if w one) p.left)
-    × IsRead (read_form (bits_of_bytes right) no_node (spelling_if v one) p.right)
+abbrev pub AsksAfter : Sides → Widths → (p : Both) → Type 0
+AsksAfter s w p = (w.left ≤ widest) × (w.right ≡ w.left) × Within s p × LeftRead s no_node (spelling_if w.left one) p × RightRead s no_node (spelling_if w.right one) p
+
+-- What is left of a node is there on one side, from a form on.
+abbrev pub AsksEnd : Source → (high steps bit : ℕ) → Jump → Type 0
+AsksEnd s high steps bit j =
+    (bit ≤ length s.key.now * 8) × (j.form < 2 ^ 32) × (j.n < 2 ^ 32)
+    × IsRead (rest_of s high steps j.n j.form bit)
 
 -- What is left of two nodes is there on each side, and no more pairs were found before them than bits passed.
-abbrev pub AsksApart : (forms others left right : List ℕ) (high steps : ℕ) (at : Both) (j k : Jump) (first : Both) → Type 0
-AsksApart forms others left right high steps at j k first =
-    (length left ≤ longest_key) × (length right ≤ longest_key) × Narrow forms × (others ≡ forms)
-    × (at.left ≤ length left * 8) × (at.right ≤ length right * 8) × (j.form < 2 ^ 32) × (j.n < 2 ^ 32) × (k.form < 2 ^ 32) × (k.n < 2 ^ 32) × (first.found < at.left)
-    × IsRead (read_form (bits_of_bytes left) (read_node (bits_of_bytes left) (grammar_of forms) high) (form_of forms steps j.n j.form) at.left)
-    × IsRead (read_form (bits_of_bytes right) (read_node (bits_of_bytes right) (grammar_of forms) high) (form_of forms steps k.n k.form) at.right)
+abbrev pub AsksApart : Sides → (high steps : ℕ) (at : Both) (j k : Jump) (first : Both) → Type 0
+AsksApart s high steps at j k first =
+    (at.left ≤ length s.left.key.now * 8) × (at.right ≤ length s.right.key.now * 8) × (j.form < 2 ^ 32) × (j.n < 2 ^ 32) × (k.form < 2 ^ 32) × (k.n < 2 ^ 32) × (first.found < at.left)
+    × LeftRead s (left_nodes s high) (form_at s steps j) at
+    × RightRead s (right_nodes s high) (form_at s steps k) at
 
--- Two nodes are there, and both tables are the same.
-abbrev pub AsksNode : (forms others left right : List ℕ) (class high : ℕ) (p : Both) → Type 0
-AsksNode forms others left right class high p =
-    (length left ≤ longest_key) × (length right ≤ longest_key) × Narrow forms × (others ≡ forms)
-    × (class < 2 ^ 32) × Inside (length left * 8) (length right * 8) p
-    × IsRead (read_node (bits_of_bytes left) (grammar_of forms) high class p.left)
-    × IsRead (read_node (bits_of_bytes right) (grammar_of forms) high class p.right)
+-- Two nodes are there.
+abbrev pub AsksNode : Sides → (class high : ℕ) (p : Both) → Type 0
+AsksNode s class high p = (class < 2 ^ 32) × Within s p × IsRead (left_nodes s high class p.left) × IsRead (right_nodes s high class p.right)
 
 -- What is left of two nodes is there from the same form on.
-abbrev pub AsksRest : (forms others left right : List ℕ) (high steps : ℕ) (from : Jump) (at first : Both) → Type 0
-AsksRest forms others left right high steps from at first =
-    (length left ≤ longest_key) × (length right ≤ longest_key) × Narrow forms × (others ≡ forms)
-    × (from.form < 2 ^ 32) × (from.n < 2 ^ 32) × Inside (length left * 8) (length right * 8) at × (at.found ≡ first.found)
-    × IsRead (read_form (bits_of_bytes left) (read_node (bits_of_bytes left) (grammar_of forms) high) (form_of forms steps from.n from.form) at.left)
-    × IsRead (read_form (bits_of_bytes right) (read_node (bits_of_bytes right) (grammar_of forms) high) (form_of forms steps from.n from.form) at.right)
+abbrev pub AsksRest : Sides → (high steps : ℕ) (from : Jump) (at first : Both) → Type 0
+AsksRest s high steps from at first =
+    (from.form < 2 ^ 32) × (from.n < 2 ^ 32) × Within s at × (at.found ≡ first.found)
+    × LeftRead s (left_nodes s high) (form_at s steps from) at
+    × RightRead s (right_nodes s high) (form_at s steps from) at
 
 -- n nodes are there on each side, of a class, with a spelling after each if its length has any bits.
-abbrev pub AsksNodes : (forms others left right : List ℕ) (high class w v n : ℕ) (p : Both) → Type 0
-AsksNodes forms others left right high class w v n p =
-    (length left ≤ longest_key) × (length right ≤ longest_key) × Narrow forms × (others ≡ forms)
-    × (class < 2 ^ 32) × (w ≤ widest) × (v ≡ w) × Inside (length left * 8) (length right * 8) p
-    × IsRead (read_form (bits_of_bytes left) (read_node (bits_of_bytes left) (grammar_of forms) high) (nodes_then n class w one) p.left)
-    × IsRead (read_form (bits_of_bytes right) (read_node (bits_of_bytes right) (grammar_of forms) high) (nodes_then n class v one) p.right)
+abbrev pub AsksNodes : Sides → (high class : ℕ) → Widths → (n : ℕ) (p : Both) → Type 0
+AsksNodes s high class w n p =
+    (class < 2 ^ 32) × (w.left ≤ widest) × (w.right ≡ w.left) × Within s p
+    × LeftRead s (left_nodes s high) (nodes_then n class w.left one) p
+    × RightRead s (right_nodes s high) (nodes_then n class w.right one) p
 
--- ---- What the functions answer over what is lent
+-- ---- What the functions answer, over the list before and after
 
--- A slice at a function's two moments, lent to be read.
-abbrev pub Lent : Type 0
-Lent = Moments (Bor (List ℕ)) (Bor (List ℕ))
+abbrev pub Spells : Sides → Widths → (p q : Both) (l m : List ℕ) → Type 0
+Spells s w p q l m = SpelledOn (left_bits s) (right_bits s) w.left w.right p q l m
 
--- The same, lent to be written.
-abbrev pub Filled : Type 0
-Filled = Moments (MutBor (List ℕ)) (MutBor (List ℕ))
+abbrev pub SpellsAll : Sides → Widths → (n : ℕ) (p q : Both) (l m : List ℕ) → Type 0
+SpellsAll s w n p q l m = SpelledAll (left_bits s) (right_bits s) w.left w.right n p q l m
 
--- The bits of a key that is lent.
-abbrev pub bits_in : Lent → Bits
-bits_in key = bits_of_bytes key.entry.now
+abbrev pub SpellsAfter : Sides → Widths → (p q : Both) (l m : List ℕ) → Type 0
+SpellsAfter s w p q l m = SpelledAfter (left_bits s) (right_bits s) w.left w.right p q l m
 
--- Nodes as they are read from a key by a table, with room for so many one above the other.
-abbrev pub nodes_by : (forms key : Lent) (high : ℕ) → ℕ → ℕ → Scan
-nodes_by forms key high = read_node (bits_in key) (grammar_of forms.entry.now) high
+abbrev pub Ends : Source → (high steps bit : ℕ) → Jump → (end : ℕ) → Type 0
+Ends s high steps bit j end =
+    Goes (length (bits s)) (rest_of s high steps j.n j.form bit) end
 
--- The form of a table that a number leads to.
-abbrev pub form_at : Lent → ℕ → Jump → Form
-form_at forms steps j = form_of forms.entry.now steps j.n j.form
+abbrev pub Parts : Sides → (high steps : ℕ) (at : Both) (j k : Jump) (first q : Both) (l m : List ℕ) → Type 0
+Parts s high steps at j k first q l m = Parted (left_bits s) (right_bits s) (left_nodes s high) (right_nodes s high) (form_at s steps j) (form_at s steps k) at first q l m
 
-abbrev pub Parts : (forms left right : Lent) (list : Filled) (high steps : ℕ) (at : Both) (j k : Jump) (first q : Both) → Type 0
-Parts forms left right list high steps at j k first q =
-    Parted (bits_in left) (bits_in right) (nodes_by forms left high) (nodes_by forms right high) (form_at forms steps j) (form_at forms steps k) at first q list.entry.now list.exit.now
+abbrev pub Rests : Sides → (high steps : ℕ) (from : Jump) (at first q : Both) (l m : List ℕ) → Type 0
+Rests s high steps from at first q l m = Rested (left_bits s) (right_bits s) (left_nodes s high) (right_nodes s high) (form_at s steps from) (form_at s steps from) at first q l m
 
-abbrev pub Rests : (forms left right : Lent) (list : Filled) (high steps : ℕ) (from : Jump) (at first q : Both) → Type 0
-Rests forms left right list high steps from at first q =
-    Rested (bits_in left) (bits_in right) (nodes_by forms left high) (nodes_by forms right high) (form_at forms steps from) (form_at forms steps from) at first q list.entry.now list.exit.now
+abbrev pub Walks : Sides → (high class : ℕ) (p q : Both) (l m : List ℕ) → Type 0
+Walks s high class p q l m = Walked (left_bits s) (right_bits s) (grammar s) high class p q l m
 
-abbrev pub Walks : (forms left right : Lent) (list : Filled) (high class : ℕ) (p q : Both) → Type 0
-Walks forms left right list high class p q = Walked (bits_in left) (bits_in right) (grammar_of forms.entry.now) high class p q list.entry.now list.exit.now
-
-abbrev pub WalksAll : (forms left right : Lent) (list : Filled) (high class w v n : ℕ) (p q : Both) → Type 0
-WalksAll forms left right list high class w v n p q =
-    WalkedAll (bits_in left) (bits_in right) (grammar_of forms.entry.now) high class w v n p q list.entry.now list.exit.now
+abbrev pub WalksAll : Sides → (high class : ℕ) → Widths → (n : ℕ) (p q : Both) (l m : List ℕ) → Type 0
+WalksAll s high class w n p q l m = WalkedAll (left_bits s) (right_bits s) (grammar s) high class w.left w.right n p q l m

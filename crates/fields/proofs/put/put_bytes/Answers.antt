@@ -1,16 +1,11 @@
-use borrow.Author.Rules.{rules}
 use native.Mathlib.Omega.{arith}
-use Rattle.fields.proofs.PutLaws.{put_none, text_more, text_all}
+use mathlib.Core.Path.{subst}
+use Rattle.keys.specs.Bits.{bits_of}
+use Rattle.fields.specs.Put.{Put}
+use Rattle.fields.proofs.PutLaws.{text_more}
 use Rattle.fields.proofs.put.put_bytes.Goals as goal
 
-pub loop-i-init : goal.loop-i-init
-loop-i-init c =
-    (search rules, put_none c.args.bit c.args.key.now (search rules) (search rules))
-
-pub loop-i-preserved : goal.loop-i-preserved
-loop-i-preserved c =
-    (search rules, text_more c.args.text.now c.args.from c.loop-i.i c.loop-i.invariant.1 c.wide.result (search rules) c.wide.ensures.0 c.put_number-at.ensures)
-
-pub returns : goal.returns
-returns c =
-    text_all c.args.text.now c.args.from c.loop-i.i c.loop-i.invariant.1 c.args.count (omega arith)
+pub loop-byte-preserved : goal.loop-byte-preserved
+loop-byte-preserved c =
+    text_more c.args.bytes.now c.loop-byte.byte-index c.loop-byte.invariant (omega arith)
+    (subst (λ x. Put c.loop-byte.at (bits_of 8 x) c.put_number-at.result c.loop-byte.key c.put_number-at.new.key) c.from.ensures c.put_number-at.ensures)

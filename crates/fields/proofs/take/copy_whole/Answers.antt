@@ -1,46 +1,21 @@
 use native.Mathlib.Omega.{arith}
-use Prim.Native.Nat.{◌+◌, ◌*◌}
-use Rattle.fields.proofs.Chunks.{copying_none, copying_more, copying_all}
-use mathlib.Core.Path.{refl}
-use Rattle.fields.proofs.Windows.{byte_whole}
+use mathlib.Core.Path.{◌≡◌, ap, sym, ◌∙◌}
+use Prim.Native.Nat.{ℕ, ◌+◌, ◌-◌, ◌*◌}
+use lib.ListN.{length, take, drop}
+use lib.Seq.{take_all}
+use Rattle.keys.specs.Bits.{bits_of_bytes, row}
+use Rattle.fields.proofs.Windows.{bytes_whole}
 use Rattle.fields.proofs.take.copy_whole.Goals as goal
-
-pub loop-i-init : goal.loop-i-init
-loop-i-init c =
-    copying_none _ _ _ _ _
-
-pub overflow_add-text : goal.overflow_add-text
-overflow_add-text c =
-    omega arith
-
-pub bounds-key-from : goal.bounds-key-from
-bounds-key-from c =
-    omega arith
-
-pub overflow_add-text-in-loop-i : goal.overflow_add-text-in-loop-i
-overflow_add-text-in-loop-i c =
-    omega (arith, c.loop-i.invariant.same)
-
-pub bounds-text-to : goal.bounds-text-to
-bounds-text-to c =
-    omega (arith, c.loop-i.invariant.same)
-
-pub overflow_add-i : goal.overflow_add-i
-overflow_add-i c =
-    omega arith
-
-pub loop-i-smaller : goal.loop-i-smaller
-loop-i-smaller c =
-    omega arith
-
-pub loop-i-preserved : goal.loop-i-preserved
-loop-i-preserved c =
-    copying_more _ c.loop-i.invariant c.loop-i-test.true (omega (arith, c.loop-i.invariant.same)) (byte_whole c.args.key.now (c.args.from + c.loop-i.i) (c.args.from * 8 + c.loop-i.i * 8) _ (omega arith) (omega arith) (omega (arith, c.shared_slice_known-1.given (c.args.from + c.loop-i.i))) refl)
-
-pub shape_of-text : goal.shape_of-text
-shape_of-text c =
-    c.loop-i.invariant.same
 
 pub returns : goal.returns
 returns c =
-    copying_all c.loop-i.invariant (omega arith)
+    let n : ℕ = length c.args.to.now in
+    let few : c.args.from + n - c.args.from ≡ n = omega arith in
+    let bytes : c.copy_from_slice.new.self ≡ take n (drop c.args.from c.args.key.now) = c.copy_from_slice.ensures.after ∙ ap (λ (k : ℕ). take k (drop c.args.from c.args.key.now)) few in
+    let none : 0 + n ≡ n = omega arith in
+    record {
+      bytes = c.copy_from_slice.new.self;
+      are = bytes_whole c.args.key.now c.args.from n (omega arith) (λ i. omega (arith, c.type_inv.key i)) ∙ ap (λ x. row x (drop (c.args.from * 8 + n * 8) (bits_of_bytes c.args.key.now))) (sym bytes);
+      text = ap (λ (k : ℕ). take k c.copy_from_slice.new.self) none ∙ take_all n c.copy_from_slice.new.self (omega (arith, c.copy_from_slice.ensures.len));
+      many = c.copy_from_slice.ensures.len;
+    }

@@ -1,6 +1,6 @@
 use native.Mathlib.Omega.{arith}
 use mathlib.Core.Path.{ap, ◌∙◌}
-use Rattle.fields.specs.declared.take.TakenField.TheVariants.{Number}
+use Rattle.std.specs.Prelude.{Some}
 use Rattle.fields.proofs.Chunks.{taking_short}
 use Rattle.fields.proofs.Windows.{field_of}
 use Rattle.fields.proofs.take.take_field.Goals as goal
@@ -11,4 +11,4 @@ returns-then-key-bit c =
 
 pub returns : goal.returns
 returns c =
-    ap Number c.lowest.ensures ∙ field_of c.args.key.now c.args.bit c.args.width c.window_at-window.result (omega arith) (omega arith) c.window_at-window.ensures
+    ap Some c.lowest.ensures ∙ field_of c.args.key.now c.args.bit c.args.width c.window_at-window.result (omega arith) (omega arith) c.window_at-window.ensures

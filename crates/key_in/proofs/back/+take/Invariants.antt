@@ -13,16 +13,10 @@ decreases-take_node l = l.left * 2
 abbrev pub decreases-take_nodes : goal.decreases-take_nodes
 decreases-take_nodes l = l.left * 2 + 1
 
-abbrev pub invariant-take_node-loop-depth : goal.invariant-take_node-loop-depth
-invariant-take_node-loop-depth l =
-    Went (bits_of_bytes l.key) (length l.initial.names) (length l.initial.text) (node_run (length l.initial.text) (grammar_of l.forms) (l.left - 1)) (form_of l.forms l.steps l.initial.s.n l.initial.s.form) (form_of l.forms l.depth l.s.n l.s.form) l.initial.s l.initial.nodes l.initial.names l.initial.text l.s l.nodes l.names l.text
+abbrev pub invariant-take_node-loop-done : goal.invariant-take_node-loop-done
+invariant-take_node-loop-done l =
+    Went (bits_of_bytes l.key) (length l.initial.names) (length l.initial.text) (node_run (length l.initial.text) (grammar_of l.forms) (l.left - 1)) (form_of l.forms l.steps l.initial.s.n l.initial.s.form) (form_of l.forms (l.steps - l.done) l.s.n l.s.form) l.initial.s l.initial.nodes l.initial.names l.initial.text l.s l.nodes l.names l.text
 
-abbrev pub decreases-take_node-loop-depth : goal.decreases-take_node-loop-depth
-decreases-take_node-loop-depth l = l.depth
-
-abbrev pub invariant-take_nodes-loop-i : goal.invariant-take_nodes-loop-i
-invariant-take_nodes-loop-i l =
-    Kids (bits_of_bytes l.key) (length l.initial.names) (length l.initial.text) (grammar_of l.forms) l.left l.r l.initial.q l.initial.nodes l.initial.names l.initial.text l.i l.q l.nodes l.names l.text
-
-abbrev pub decreases-take_nodes-loop-i : goal.decreases-take_nodes-loop-i
-decreases-take_nodes-loop-i l = l.n - l.i
+abbrev pub invariant-take_nodes-loop : goal.invariant-take_nodes-loop
+invariant-take_nodes-loop l =
+    Kids (bits_of_bytes l.key) (length l.initial.names) (length l.initial.text) (grammar_of l.forms) l.left l.r l.initial.q l.initial.nodes l.initial.names l.initial.text l.counter l.q l.nodes l.names l.text

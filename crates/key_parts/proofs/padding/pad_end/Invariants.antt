@@ -1,12 +1,7 @@
 -- The bits after a tree, to the byte.
-use Prim.Native.Nat.{◌-◌}
-use lib.ListN.{length}
 use Rattle.keys.specs.Bits.{bits_of_bytes}
 use Rattle.key_parts.proofs.PaddingLaws.{Pads}
 use Rattle.key_parts.proofs.padding.pad_end.Given as goal
 
 abbrev pub invariant-loop-at : goal.invariant-loop-at
 invariant-loop-at l = Pads (bits_of_bytes l.key) l.bit l.at
-
-abbrev pub decreases-loop-at : goal.decreases-loop-at
-decreases-loop-at l = length (bits_of_bytes l.key) - l.at

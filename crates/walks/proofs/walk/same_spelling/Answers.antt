@@ -1,24 +1,13 @@
--- Spellings of different lengths differ; else their bytes are compared.
+-- Spellings of different lengths differ.
 use native.Mathlib.Omega.{arith}
-use mathlib.Core.Path.{ap, ◌∙◌}
-use Rattle.keys.specs.Bits.{bits_of_bytes}
+use mathlib.Core.Path.{◌∙◌}
+use borrow.Author.Tests.{ne_eqb}
 use Rattle.keys.proofs.BitsLaws.{length_bytes}
-use Prim.Native.Nat.{ℕ}
-use Rattle.words.specs.Test.{same}
-use Rattle.keys.specs.Bits.{take_bytes}
-use Rattle.keys.specs.Key.{bytes_in}
-use lib.ListN.{drop}
+use Rattle.walks.specs.Walk.{left_bits, right_bits}
 use Rattle.walks.proofs.Walking.{sizes_differ}
 use Rattle.walks.proofs.walk.same_spelling.Goals as goal
 
-pub returns-then-n-m : goal.returns-then-n-m
-returns-then-n-m c =
-    sizes_differ (bits_of_bytes c.args.left.now) (bits_of_bytes c.args.right.now) c.args.a c.args.b c.args.n c.args.m (omega (arith, c.requires.2, length_bytes c.args.left.now)) (omega (arith, c.requires.3, length_bytes c.args.right.now)) c.if-n-m.true
-
-pub same_bytes-requires : goal.same_bytes-requires
-same_bytes-requires c =
-    (c.requires.0, c.requires.1, c.requires.2, omega (arith, c.requires.3, c.if-n-m.false))
-
-pub returns : goal.returns
-returns c =
-    c.same_bytes.ensures ∙ ap (λ (x : ℕ). same (bytes_in (take_bytes c.args.n (drop c.args.a (bits_of_bytes c.args.left.now)))) (bytes_in (take_bytes x (drop c.args.b (bits_of_bytes c.args.right.now))))) c.if-n-m.false
+pub returns-else-n-m : goal.returns-else-n-m
+returns-else-n-m c =
+    ne_eqb _ _ c.if-n-m.false
+    ∙ sizes_differ (left_bits c.args.sides.now) (right_bits c.args.sides.now) c.args.a c.args.b c.args.n c.args.m (omega (arith, c.requires.0, length_bytes c.args.sides.now.left.key.now)) (omega (arith, c.requires.1, length_bytes c.args.sides.now.right.key.now)) c.if-n-m.false

@@ -1,11 +1,7 @@
 -- n spellings on each side, one after the other.
-use Rattle.keys.specs.Bits.{bits_of_bytes}
-use Prim.Native.Nat.{◌-◌}
+use Rattle.walks.specs.Walk.{left_bits, right_bits}
 use Rattle.walks.proofs.Walking.{Spelling}
 use Rattle.walks.proofs.walk.walk_spellings.Given as goal
 
-abbrev pub invariant-loop-i : goal.invariant-loop-i
-invariant-loop-i l = Spelling (bits_of_bytes l.left) (bits_of_bytes l.right) l.w l.v l.n l.initial.q l.initial.list l.i l.q l.list
-
-abbrev pub decreases-loop-i : goal.decreases-loop-i
-decreases-loop-i l = l.n - l.i
+abbrev pub invariant-loop : goal.invariant-loop
+invariant-loop l = Spelling (left_bits l.sides) (right_bits l.sides) l.w.left l.w.right l.n l.initial.q l.initial.list l.counter l.q l.list
