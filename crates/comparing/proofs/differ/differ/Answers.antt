@@ -20,4 +20,4 @@ returns-then-list-p c =
 
 pub returns : goal.returns
 returns c =
-    all_listed c.args.left.now c.args.right.now c.args.list.now c.in_default.ensures (c.words-others.ensures ∙ sym c.words-forms.ensures) c.in_default-check_whole.ensures c.walk_node-p.ensures c.if-list-p.false c.clear_words.ensures
+    all_listed c.args.left.now c.args.right.now c.args.list.now c.in_default.ensures (c.words-others.ensures ∙ sym c.words-forms.ensures) c.in_default-check_whole.ensures c.walk_node-p.ensures c.if-list-p.false c.clear.ensures
