@@ -13,7 +13,7 @@ use Rattle.keys.specs.Lines.{tagged, Of, of_one, of_word, of_choose, of_child, l
 use Rattle.fields.specs.Put.{far}
 use Rattle.node_table.specs.Forms.{spellings_then, spelling_if, nodes_then, Entry, entry_at, class_at, steps_of, listed, leads, form_by, form_of, grammar_of, entry_of, IsRow, Lists, Jumps, table_most}
 use Rattle.node_table.proofs.FormsLaws.{form_at_lem}
-use Rattle.node_table.specs.Moves.{Output, Sound, items, Moved, Moves, Noded, Spelled, form_at, cursor_of, mark, moved_to, beside_to, Ready, to_do, OwnStep, After, Begun}
+use Rattle.node_table.specs.Moves.{Output, Sound, items, Moved, Moves, Noded, Spelled, form_at, cursor_of, mark, moved_to, Ready, to_do, OwnStep, After, Begun}
 use Rattle.node_table.specs.declared.forms.Row.{Row}
 use Rattle.node_table.specs.declared.forms.Jump.{Jump}
 use Rattle.node_table.specs.declared.moves.Mark.{Mark}
@@ -149,11 +149,6 @@ noded O L G N P left high d most c i m to k to₀ k₀ s' to' k' q h f p =
         → O.Puts to (O.node i d ++ items O G N (tagged G c) a (cursor (word_at N i) (child_at N i) m) (O.under d)) to' k k' × (s'.name ≡ m + called a)
     fin a x = by a x.passed x.of x.put x.whole x.count
 
--- Nothing stands so high.
-pub noded_none : (O : Output) (G : Grammar) (N : List ℕ) (P : ℕ → List ℕ → Type 0) (left d most c i m to : ℕ) (k : List ℕ) → left ≡ 0 → length k * 8 ≤ far → to ≤ far → m ≤ most
-    → Noded O G N P left d most c i m to k m to k
-noded_none O G N P left d most c i m to k z l h q = record { short = l; stays = h; same = refl; in_names = q; on = λ a o b e. absurd (omega arith) }
-
 -- The same, where the words, the items and the end are those.
 pub noded_as : {O : Output} {T T' N : List ℕ} {P : ℕ → List ℕ → Type 0} {left d most c i m to : ℕ} {k k' k1 k1' : List ℕ} {q q' : Mark} → T' ≡ T → k' ≡ k → q' ≡ q → k1' ≡ k1
     → Noded O (grammar_of T) N P left d most c i m to k q.name q.to k1 → Noded O (grammar_of T') N P left d most c i m to k' q'.name q'.to k1'
@@ -285,43 +280,6 @@ no_other (suc (suc (suc zero))) n l a b c d e = absurd (d (c refl))
 no_other (suc (suc (suc (suc zero)))) n l a b c d e = absurd (b refl)
 no_other (suc (suc (suc (suc (suc op))))) n l a b c d e = absurd (omega arith)
 
--- ---- What follows a child
-
-module _ (O : Output) (L : Sound O) (N : List ℕ) (P : ℕ → List ℕ → Type 0) (most w d : ℕ) (s : Walk) (o : Mark) (k : List ℕ) (a : s.form < table_most) (b : s.n < table_most) (z : s.steps < table_most) (next : ℕ) (e : next ≡ next_at N s.child) (f : next < table_most) where
-  after_by : (m' to' : ℕ) (k' : List ℕ) → length k * 8 ≤ far → to' ≤ far → m' ≤ most → length k' ≡ length k
-      → ((G : Grammar) (high : ℕ) (g : Form) → Moves O G N P high d (spelling_if w g) (cursor s.word next o.name) o.to k g (cursor s.word next m') to' k')
-      → After O N P most w d s o k (beside_to s (mark to' m') next) k'
-  after_by m' to' k' l h n q x =
-      record {
-        ready = record { short = omega arith; near = h; in_names = n; in_nodes = f; in_table = a; few = omega arith; steps = z };
-        same = q;
-        form = refl;
-        few = refl;
-        steps = refl;
-        on = λ G high g.
-            subst (λ (v : ℕ). Moves O G N P high d (spelling_if w g) (cursor s.word v o.name) o.to k g (cursor s.word next m') to' k') e (x G high g);
-      }
-
-  pub after_plain : w ≡ 0 → length k * 8 ≤ far → o.to ≤ far → o.name ≤ most
-      → After O N P most w d s o k (beside_to s o next) k
-  after_plain q l h n =
-      after_by o.name o.to k l h n refl
-      (λ G high g. moves_as O L G N P high d (ap (λ (x : ℕ). spelling_if x g) q) refl (moves_none O L G N P high d g (cursor s.word next o.name) o.to k l h))
-
-  pub after_spelling : (w ≡ 0 → ⊥) → (m' to' : ℕ) (k' : List ℕ) → Spelled O P most w d o.name o.to k m' to' k'
-      → After O N P most w d s o k (beside_to s (mark to' m') next) k'
-  after_spelling q m' to' k' x =
-      after_by m' to' k' x.short x.stays x.in_names x.same
-      (λ G high g. moves_as O L G N P high d (there w q g) refl (moves_word O L G N P high d g w most (cursor s.word next o.name) o.to k m' to' k' x))
-    where
-      there : (x : ℕ) → (x ≡ 0 → ⊥) → (g : Form) → spelling_if x g ≡ both (word x) g
-      there zero q g = absurd (q refl)
-      there (suc x) q g = refl
-
--- The same, where the walk that is answered is that one.
-pub after_as : {O : Output} {N : List ℕ} {P : ℕ → List ℕ → Type 0} {most w d : ℕ} {s : Walk} {o : Mark} {k : List ℕ} {q q' : Walk} {k' : List ℕ} → q ≡ q' → After O N P most w d s o k q' k' → After O N P most w d s o k q k'
-after_as {O} {N} {P} {most} {w} {d} {s} {o} {k} {q} {q'} {k'} e x = subst (λ (z : Walk). After O N P most w d s o k z k') (sym e) x
-
 -- ---- A node's tag
 
 pub begun : (O : Output) (L : Sound O) (T N : List ℕ) (P : ℕ → List ℕ → Type 0) (d c i : ℕ) (o : Mark) (k : List ℕ) (own kid : ℕ) (r : Row) (t x to₀ : ℕ) (k₀ : List ℕ) (to' : ℕ) (k' : List ℕ) (j : Jump) (steps : ℕ)
@@ -387,14 +345,6 @@ module _ (O : Output) (L : Sound O) (T N : List ℕ) (P : ℕ → List ℕ → T
         by zero z =
             along_own p (own_as (f z) (own_next O L T P most d s k p.ready r i h z (omega (arith, e)) (λ x. absurd (omega (arith, x, e))) (λ x. absurd (omega (arith, x, e)))))
         by (suc n) z = subst (λ (x : Walk). Along x k) (sym (g (λ x. absurd (omega (arith, x, z))))) p
-
-    -- Nothing is added to what is left to do.
-    pub past_less : to_do q ≤ to_do s
-    past_less = by s.n refl
-      where
-        by : (n : ℕ) → s.n ≡ n → to_do q ≤ to_do s
-        by zero z = subst (λ (x : Walk). to_do x ≤ to_do s) (sym (f z)) (omega (arith, h))
-        by (suc n) z = subst (λ (x : Walk). to_do x ≤ to_do s) (sym (g (λ x. absurd (omega (arith, x, z))))) (omega arith)
 
   module _ {s : Walk} {k : List ℕ} (p : Along s k) (r : Row) (z : IsRow (entry_at T s.form) r) (h : 0 < s.steps) where
     now_at : (n f : ℕ) → r.op ≡ f → form_of T s.steps n s.form ≡ form_by T (λ m g. form_of T (s.steps - 1) m g) n (entry_of r) f

@@ -72,6 +72,8 @@ pub trait Sink: Copy {
     ghost sound: { Sound out };
 }
 
+// What the functions of a walk share stays in their parameters: behind a reference to a struct of it key out takes an eighth longer.
+
 // A step that is a choice.
 fn chosen<S: Sink>(
     sink: S,
