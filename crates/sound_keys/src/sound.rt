@@ -63,6 +63,7 @@ impl Source<'_> {
     }
 
     // A field that chooses: 10 where it is cut short or leads to no form.
+    #[inline(always)]
     fn check_choice(&self, steps: usize, r: Row, bit: usize) -> Result<Spot, Stop>
         requires { (bit ≤ length self.now.key.now * 8) × Sized r × (5 ≤ r.op) }
         ensures { check.Chooses self.now steps r bit result }
@@ -109,6 +110,7 @@ impl Source<'_> {
 
     // A node of a class, with room for `left` nodes one above the other: it meets 10 at its tag, 6, then its fields in order.
     #[cycle(check)]
+    #[inline(always)]
     fn check_node(&self, class: usize, left: usize, bit: usize) -> Result<usize, Stop>
         requires { (bit ≤ length self.now.key.now * 8) × (class < 2 ^ 32) }
         ensures { check.NodeOn self.now left class bit result }
@@ -154,6 +156,7 @@ impl Source<'_> {
 
     // Nodes one after the other, a spelling after each if its length has any bits.
     #[cycle(check)]
+    #[inline(always)]
     fn check_nodes(&self, left: usize, r: Row, s: Spot) -> Result<usize, Stop>
         requires { check.Spotted self.now s × Sized r }
         ensures { check.NodesOn self.now left r s result }

@@ -1,7 +1,8 @@
 -- The walk of two keys together: what stands in the list, and what its functions answer (02, W9).
-use Rattle.std.specs.Prelude.{List, [], ◌∷◌, ◌++◌, ◌≡◌, ℕ, ◌+◌, ◌*◌, ◌^◌, ◌≤◌, ◌<◌, length, take}
+use Rattle.std.specs.Prelude.{Bool, drop, List, [], ◌∷◌, ◌++◌, ◌≡◌, ℕ, ◌+◌, ◌*◌, ◌^◌, ◌≤◌, ◌<◌, length, take}
 use Rattle.words.specs.Test.{same}
-use Rattle.keys.specs.Bits.{Bits}
+use Rattle.keys.specs.Bits.{Bits, take_bytes}
+use Rattle.keys.specs.Key.{bytes_in}
 use Rattle.keys.specs.Limits.{widest}
 use Rattle.keys.specs.Form.{Form, one, word, both, Grammar}
 use Rattle.node_table.specs.Forms.{form_of, grammar_of, spellings_then, spelling_if, nodes_then}
@@ -147,6 +148,14 @@ LeftRead s X f p = IsRead (read_form (left_bits s) X f p.left)
 -- The same on the right.
 abbrev pub RightRead : Sides → (ℕ → ℕ → Scan) → Form → Both → Type 0
 RightRead s X f p = IsRead (read_form (right_bits s) X f p.right)
+
+-- The place behind so many bits.
+abbrev pub past : Both → Widths → Both
+past p w = record { left = p.left + w.left; right = p.right + w.right; found = p.found }
+
+-- Whether n bytes on the left of a place are the same as m on the right.
+abbrev pub same_at : Sides → (at : Both) (n m : ℕ) → Bool
+same_at s at n m = same (bytes_in (take_bytes n (drop at.left (left_bits s)))) (bytes_in (take_bytes m (drop at.right (right_bits s))))
 
 -- A place in both keys.
 abbrev pub Within : Sides → Both → Type 0

@@ -1,8 +1,5 @@
 // The walk of two sound keys together.
-ghost use Rattle.std.specs.Prelude.{◌≡◌, ◌+◌, ◌*◌, ◌^◌, ◌<◌, ◌≤◌, length, drop};
-ghost use Rattle.words.specs.Test.{same};
-ghost use Rattle.keys.specs.Bits.{take_bytes};
-ghost use Rattle.keys.specs.Key.{bytes_in};
+ghost use Rattle.std.specs.Prelude.{◌≡◌, ◌+◌, ◌*◌, ◌^◌, ◌<◌, ◌≤◌, length};
 ghost use Rattle.walks.specs.Walk as walk;
 
 use crate::sides::Sides;
@@ -19,11 +16,25 @@ pub struct Both {
     pub found: usize,
 }
 
-// How many bits a field has on each side.
+// How many bits there are on each side.
 #[derive(Clone, Copy)]
 pub struct Widths {
     pub left: usize,
     pub right: usize,
+}
+
+impl Both {
+    // The place behind so many bits.
+    fn past(self, w: Widths) -> Both
+        requires { (self.left + w.left < 2 ^ 64) × (self.right + w.right < 2 ^ 64) }
+        ensures { result ≡ walk.past self w }
+    {
+        Both {
+            left: self.left + w.left,
+            right: self.right + w.right,
+            ..self
+        }
+    }
 }
 
 // A pair of first bits at the next place of the list; nothing is stored where there is no room for it.
@@ -53,13 +64,13 @@ fn end_of(side: &Source, high: usize, steps: usize, bit: usize, j: Jump) -> usiz
 
 // Each walks what stands at a place on both sides, to the place behind it.
 impl Sides<'_, '_> {
-    // Whether two spellings of so many bytes, at two bits, are the same.
-    fn same_bytes(&self, a: usize, b: usize, count: usize) -> bool
-        requires { (a + count * 8 ≤ length self.now.left.key.now * 8) × (b + count * 8 ≤ length self.now.right.key.now * 8) }
-        ensures { result ≡ same (bytes_in (take_bytes count (drop a (walk.left_bits self.now)))) (bytes_in (take_bytes count (drop b (walk.right_bits self.now)))) }
+    // Whether two spellings of so many bytes are the same.
+    fn same_bytes(&self, at: Both, count: usize) -> bool
+        requires { (at.left + count * 8 ≤ length self.now.left.key.now * 8) × (at.right + count * 8 ≤ length self.now.right.key.now * 8) }
+        ensures { result ≡ walk.same_at self.now at count count }
     {
         for i in 0..count {
-            if self.left.number(a + i * 8, 8) != self.right.number(b + i * 8, 8) {
+            if self.left.number(at.left + i * 8, 8) != self.right.number(at.right + i * 8, 8) {
                 return false;
             }
         }
@@ -67,11 +78,11 @@ impl Sides<'_, '_> {
     }
 
     // Whether two spellings, of n and m bytes, are the same.
-    fn same_spelling(&self, a: usize, b: usize, n: usize, m: usize) -> bool
-        requires { (a + n * 8 ≤ length self.now.left.key.now * 8) × (b + m * 8 ≤ length self.now.right.key.now * 8) }
-        ensures { result ≡ same (bytes_in (take_bytes n (drop a (walk.left_bits self.now)))) (bytes_in (take_bytes m (drop b (walk.right_bits self.now)))) }
+    fn same_spelling(&self, at: Both, n: usize, m: usize) -> bool
+        requires { (at.left + n * 8 ≤ length self.now.left.key.now * 8) × (at.right + m * 8 ≤ length self.now.right.key.now * 8) }
+        ensures { result ≡ walk.same_at self.now at n m }
     {
-        n == m && self.same_bytes(a, b, n)
+        n == m && self.same_bytes(at, n)
     }
 
     // Two spellings, with lengths of so many bits: a pair where they differ.
@@ -81,14 +92,12 @@ impl Sides<'_, '_> {
     {
         let n = self.left.number(p.left, w.left);
         let m = self.right.number(p.right, w.right);
-        let a = p.left + w.left;
-        let b = p.right + w.right;
-        let end = Both {
-            left: a + n * 8,
-            right: b + m * 8,
-            ..p
-        };
-        if self.same_spelling(a, b, n, m) {
+        let from = p.past(w);
+        let end = from.past(Widths {
+            left: n * 8,
+            right: m * 8,
+        });
+        if self.same_spelling(from, n, m) {
             return end;
         }
         put_pair(list, p);
@@ -154,11 +163,10 @@ impl Sides<'_, '_> {
         let t = self.left.number(p.left, tags.w);
         let u = self.right.number(p.right, marks.w);
         let j = forms::listed_at(self.left.forms, tags, t);
-        let at = Both {
-            left: p.left + tags.w,
-            right: p.right + marks.w,
-            ..p
-        };
+        let at = p.past(Widths {
+            left: tags.w,
+            right: marks.w,
+        });
         if t != u {
             let k = forms::listed_at(self.right.forms, marks, u);
             return self.apart(list, high - 1, steps, at, j, k, p);
@@ -202,11 +210,7 @@ impl Sides<'_, '_> {
                     let t = self.left.number(p.left, r.w);
                     let u = self.right.number(p.right, q.w);
                     let j = forms::jump_at(self.left.forms, r, t);
-                    let next = Both {
-                        left: p.left + r.w,
-                        right: p.right + q.w,
-                        ..p
-                    };
+                    let next = p.past(w);
                     if t != u {
                         let k = forms::jump_at(self.right.forms, q, u);
                         return self.apart(list, high, depth, next, j, k, first);

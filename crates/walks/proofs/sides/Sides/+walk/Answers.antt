@@ -17,19 +17,19 @@ walk_node-number-u-requires t c =
 
 pub walk_node-apart-requires : goal.walk_node-apart-requires
 walk_node-apart-requires t c =
-    apart_asks c.args.self.now c.args.high c.args.class c.args.p c.requires c.tags.ensures.0 c.tags.ensures.1 c.word_at-steps.ensures.0 c.number-t.ensures.0 c.number-u.ensures.0 c.listed_at-j.ensures c.if-t-u.true c.listed_at-k.ensures
+    rw c.past-at.ensures (apart_asks c.args.self.now c.args.high c.args.class c.args.p c.requires c.tags.ensures.0 c.tags.ensures.1 c.word_at-steps.ensures.0 c.number-t.ensures.0 c.number-u.ensures.0 c.listed_at-j.ensures c.if-t-u.true c.listed_at-k.ensures)
 
 pub walk_node-returns-then-t-u : goal.walk_node-returns-then-t-u
 walk_node-returns-then-t-u t c =
-    apart_walks c.args.self.now c.args.high c.args.class c.args.p c.requires c.tags.ensures.0 c.tags.ensures.1 c.word_at-steps.ensures.0 c.number-t.ensures.0 c.number-u.ensures.0 c.listed_at-j.ensures c.if-t-u.true c.listed_at-k.ensures c.apart.ensures
+    apart_walks c.args.self.now c.args.high c.args.class c.args.p c.requires c.tags.ensures.0 c.tags.ensures.1 c.word_at-steps.ensures.0 c.number-t.ensures.0 c.number-u.ensures.0 c.listed_at-j.ensures c.if-t-u.true c.listed_at-k.ensures (rw c.past-at.ensures at c.apart.ensures)
 
 pub walk_node-walk_rest-requires : goal.walk_node-walk_rest-requires
 walk_node-walk_rest-requires t c =
-    (omega (arith, some_height (left_bits c.args.self.now) c.args.self.now.left.forms.now c.args.high c.args.class c.args.p.left c.requires.2), rest_asks c.args.self.now c.args.high c.args.class c.args.p c.requires c.tags.ensures.0 c.tags.ensures.1 c.word_at-steps.ensures.0 c.number-t.ensures.0 c.number-u.ensures.0 c.listed_at-j.ensures c.if-t-u.false)
+    (omega (arith, some_height (left_bits c.args.self.now) c.args.self.now.left.forms.now c.args.high c.args.class c.args.p.left c.requires.2), rw c.past-at.ensures (rest_asks c.args.self.now c.args.high c.args.class c.args.p c.requires c.tags.ensures.0 c.tags.ensures.1 c.word_at-steps.ensures.0 c.number-t.ensures.0 c.number-u.ensures.0 c.listed_at-j.ensures c.if-t-u.false))
 
 pub walk_node-returns : goal.walk_node-returns
 walk_node-returns t c =
-    rest_walks c.args.self.now c.args.high c.args.class c.args.p c.requires c.tags.ensures.0 c.tags.ensures.1 c.word_at-steps.ensures.0 c.number-t.ensures.0 c.number-u.ensures.0 c.listed_at-j.ensures c.if-t-u.false c.walk_rest.ensures
+    rest_walks c.args.self.now c.args.high c.args.class c.args.p c.requires c.tags.ensures.0 c.tags.ensures.1 c.word_at-steps.ensures.0 c.number-t.ensures.0 c.number-u.ensures.0 c.listed_at-j.ensures c.if-t-u.false (rw c.past-at.ensures at c.walk_rest.ensures)
 
 pub walk_nodes-loop-init : goal.walk_nodes-loop-init
 walk_nodes-loop-init t c =
@@ -87,22 +87,18 @@ pub walk_rest-number-u-requires : goal.walk_rest-number-u-requires
 walk_rest-number-u-requires t c =
     choice_right c.loop-depth.invariant c.loop-depth-test.true c.rows.ensures.0 c.rows.ensures.1 (omega arith)
 
-pub walk_rest-overflow_add-next : goal.walk_rest-overflow_add-next
-walk_rest-overflow_add-next t c =
-    omega (arith, choice_left c.loop-depth.invariant c.loop-depth-test.true c.rows.ensures.0 c.rows.ensures.1 (omega arith), c.args.self.now.left.short)
-
-pub walk_rest-overflow_add-next-in-5-to-max : goal.walk_rest-overflow_add-next-in-5-to-max
-walk_rest-overflow_add-next-in-5-to-max t c =
-    omega (arith, choice_right c.loop-depth.invariant c.loop-depth-test.true c.rows.ensures.0 c.rows.ensures.1 (omega arith), c.args.self.now.right.short)
+pub walk_rest-past-next-requires : goal.walk_rest-past-next-requires
+walk_rest-past-next-requires t c =
+    (omega (arith, choice_left c.loop-depth.invariant c.loop-depth-test.true c.rows.ensures.0 c.rows.ensures.1 (omega arith), c.args.self.now.left.short), omega (arith, choice_right c.loop-depth.invariant c.loop-depth-test.true c.rows.ensures.0 c.rows.ensures.1 (omega arith), c.args.self.now.right.short))
 
 pub walk_rest-apart-requires : goal.walk_rest-apart-requires
 walk_rest-apart-requires t c =
-    choice_asks c.loop-depth.invariant c.loop-depth-test.true c.rows.ensures.0 c.rows.ensures.1 (omega arith) c.number-t.ensures.0 c.number-u.ensures.0 c.if-t-u.true c.jump_at-j.ensures c.jump_at-k.ensures
+    rw c.past-next.ensures (choice_asks c.loop-depth.invariant c.loop-depth-test.true c.rows.ensures.0 c.rows.ensures.1 (omega arith) c.number-t.ensures.0 c.number-u.ensures.0 c.if-t-u.true c.jump_at-j.ensures c.jump_at-k.ensures)
 
 pub walk_rest-returns-then-t-u : goal.walk_rest-returns-then-t-u
 walk_rest-returns-then-t-u t c =
-    choice_apart c.loop-depth.invariant c.loop-depth-test.true c.rows.ensures.0 c.rows.ensures.1 (omega arith) c.number-t.ensures.0 c.number-u.ensures.0 c.if-t-u.true c.jump_at-j.ensures c.jump_at-k.ensures c.apart.ensures
+    choice_apart c.loop-depth.invariant c.loop-depth-test.true c.rows.ensures.0 c.rows.ensures.1 (omega arith) c.number-t.ensures.0 c.number-u.ensures.0 c.if-t-u.true c.jump_at-j.ensures c.jump_at-k.ensures (rw c.past-next.ensures at c.apart.ensures)
 
 pub walk_rest-loop-depth-preserved : goal.walk_rest-loop-depth-preserved
 walk_rest-loop-depth-preserved t c =
-    choice_on c.loop-depth.invariant c.loop-depth-test.true c.rows.ensures.0 c.rows.ensures.1 (omega arith) c.number-t.ensures.0 c.number-u.ensures.0 c.if-t-u.false c.jump_at-j.ensures
+    rw c.past-next.ensures (choice_on c.loop-depth.invariant c.loop-depth-test.true c.rows.ensures.0 c.rows.ensures.1 (omega arith) c.number-t.ensures.0 c.number-u.ensures.0 c.if-t-u.false c.jump_at-j.ensures)
