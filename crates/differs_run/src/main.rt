@@ -12,7 +12,7 @@ use lines::line::Out;
 use lines::record::{self, Cut};
 use lines::room::{self, lent};
 use std::alloc::{AllocError, Global};
-use std::io::{self, BufReader, Read};
+use std::io::{self, Read};
 
 // Room for the largest record: two keys, and the words of a list that is not large.
 #[derive(Drop)]
@@ -30,30 +30,21 @@ impl Rooms {
             list: vec![in alloc; 0; 65536]?,
         })
     }
-}
 
-// A record after its head: its keys are read, and its line is gathered.
-fn shown<R: Read>(file: &mut R, head: Head, rooms: &mut Rooms, out: &mut Out) -> Result<(), Cut> {
-    let list = lent(&mut rooms.list, head.list)?;
-    let left = lent(&mut rooms.left, head.left)?;
-    let right = lent(&mut rooms.right, head.right)?;
-    record::load(file, left)?;
-    record::load(file, right)?;
-    answer(out, head.op, left, right, list);
-    out.byte(b'\n');
-    Ok(())
+    // A record after its head: its keys are read, and its line is gathered.
+    fn show<R: Read>(&mut self, file: &mut R, head: Head, out: &mut Out) -> Result<(), Cut> {
+        let list = lent(&mut self.list, head.list)?;
+        let left = lent(&mut self.left, head.left)?;
+        let right = lent(&mut self.right, head.right)?;
+        record::load(file, left)?;
+        record::load(file, right)?;
+        answer(out, head.op, left, right, list);
+        out.byte(b'\n');
+        Ok(())
+    }
 }
 
 fn main(rt: HostRuntime) -> io::Result<()> {
-    let Some(file) = record::opened(&rt) else {
-        return Ok(());
-    };
-    let mut file = BufReader::new(rt.alloc(), file)?;
     let mut rooms = Rooms::new(rt.alloc())?;
-    let mut out = Out::new();
-    let run = record::each(&mut file, |file, head| {
-        shown(file, head, &mut rooms, &mut out)
-    });
-    record::ended(&mut out, run);
-    Ok(())
+    record::run(&rt, |file, head, out| rooms.show(file, head, out))
 }

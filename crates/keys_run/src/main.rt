@@ -13,7 +13,7 @@ use lines::line::Out;
 use lines::record::{self, Cut};
 use lines::room::{self, lent};
 use std::alloc::{AllocError, Global};
-use std::io::{self, BufReader, Read};
+use std::io::{self, Read};
 
 // Room for the largest record.
 #[derive(Drop)]
@@ -35,33 +35,24 @@ impl Rooms {
             again: vec![in alloc; 0; room::KEY]?,
         })
     }
-}
 
-// A record after its head: its key is read, and its line is gathered.
-fn shown<R: Read>(file: &mut R, head: Head, rooms: &mut Rooms, out: &mut Out) -> Result<(), Cut> {
-    let key = lent(&mut rooms.key, head.key)?;
-    let mut given = Lent {
-        nodes: lent(&mut rooms.nodes, head.nodes)?,
-        names: lent(&mut rooms.names, head.names)?,
-        text: lent(&mut rooms.text, head.text)?,
-        again: lent(&mut rooms.again, head.again)?,
-    };
-    record::load(file, key)?;
-    given.answer(out, head.op, key);
-    out.byte(b'\n');
-    Ok(())
+    // A record after its head: its key is read, and its line is gathered.
+    fn show<R: Read>(&mut self, file: &mut R, head: Head, out: &mut Out) -> Result<(), Cut> {
+        let key = lent(&mut self.key, head.key)?;
+        let mut given = Lent {
+            nodes: lent(&mut self.nodes, head.nodes)?,
+            names: lent(&mut self.names, head.names)?,
+            text: lent(&mut self.text, head.text)?,
+            again: lent(&mut self.again, head.again)?,
+        };
+        record::load(file, key)?;
+        given.answer(out, head.op, key);
+        out.byte(b'\n');
+        Ok(())
+    }
 }
 
 fn main(rt: HostRuntime) -> io::Result<()> {
-    let Some(file) = record::opened(&rt) else {
-        return Ok(());
-    };
-    let mut file = BufReader::new(rt.alloc(), file)?;
     let mut rooms = Rooms::new(rt.alloc())?;
-    let mut out = Out::new();
-    let run = record::each(&mut file, |file, head| {
-        shown(file, head, &mut rooms, &mut out)
-    });
-    record::ended(&mut out, run);
-    Ok(())
+    record::run(&rt, |file, head, out| rooms.show(file, head, out))
 }

@@ -1,12 +1,13 @@
 // The records of a file: their bytes, numbers of four and eight bytes, lowest first, and how a run ends.
-ghost use Rattle.std.specs.Prelude.{◌≡◌, ◌+◌, ◌*◌, ◌^◌, ◌<◌, ◌≤◌, length, take, [], OnOk, IfOk, MatchOption};
+ghost use Rattle.std.specs.Prelude.{◌≡◌, ◌+◌, ◌*◌, ◌^◌, ◌<◌, ◌≤◌, length, take, [], OnOk, IfOk, MatchOption, flat_map};
+ghost use Rattle.std.specs.Int.{to_le_bytes, w64};
 ghost use Rattle.io.specs.Counts.{IsPrefixLen};
 ghost use Rattle.std.specs.Io.KnownBytes.{Consumes};
 
 use crate::given::{complain, file};
 use crate::line::Out;
 use std::env::FillError;
-use std::io::Read;
+use std::io::{BufReader, Read};
 use std::rt::{Env, Files};
 
 // A record that the file cuts short, or that is too large.
@@ -21,6 +22,7 @@ pub fn four(bytes: &[u8], i: usize) -> u32
 }
 
 // Fills a buffer from a reader, and gives back how many bytes it put there: fewer where the reader ends or fails.
+// It counts them itself: after an error the library's own reading does not say how many there were.
 pub fn filled<R: Read>(from: &mut R, bytes: &mut [u8]) -> usize
     ensures in_bounds { IsPrefixLen result bytes.new }
     ensures read { Consumes (R.remaining from.old) (R.remaining from.new) (take result bytes.new) }
@@ -58,23 +60,40 @@ pub fn load<R: Read>(from: &mut R, bytes: &mut [u8]) -> Result<(), Cut>
     Ok(())
 }
 
-// The next words of a reader, each of eight bytes.
-pub fn load_words<R: Read>(from: &mut R, words: &mut [u64]) -> Result<(), Cut>
-    ensures { length words.new ≡ length words.old }
+// The word of eight bytes.
+fn word_of(eight: [u8; 8]) -> u64
+    ensures { to_le_bytes w64 result ≡ eight }
+{
+    u64::from_le_bytes(eight)
+}
+
+// The next word of a reader.
+fn load_word<R: Read>(from: &mut R) -> Result<u64, Cut>
+    ensures { IfOk result (λ word. Consumes (R.remaining from.old) (R.remaining from.new) (to_le_bytes w64 word)) }
 {
     let mut eight = [0u8; 8];
+    load(from, &mut eight)?;
+    Ok(word_of(eight))
+}
+
+// The next words of a reader.
+pub fn load_words<R: Read>(from: &mut R, words: &mut [u64]) -> Result<(), Cut>
+    ensures len { length words.new ≡ length words.old }
+    ensures read { OnOk result (Consumes (R.remaining from.old) (R.remaining from.new) (flat_map (to_le_bytes w64) words.new)) }
+{
     for word in words {
-        load(from, &mut eight)?;
-        *word = u64::from_le_bytes(eight);
+        *word = load_word(from)?;
     }
     Ok(())
 }
 
 // Shows each record of a reader by its head, at most a thousand million.
-pub fn each<R: Read, H: From<[u8; N]>, F: FnMut(&mut R, H) -> Result<(), Cut>, const N: usize>(
-    from: &mut R,
-    mut show: F,
-) -> Result<(), Cut>
+pub fn each<
+    R: Read,
+    H: From<[u8; N]>,
+    F: FnMut(&mut R, H, &mut Out) -> Result<(), Cut>,
+    const N: usize,
+>(from: &mut R, out: &mut Out, mut show: F) -> Result<(), Cut>
 where
     F: Drop,
     requires size { N < 2 ^ 63 }
@@ -84,7 +103,7 @@ where
         let Some(head) = head(from)? else {
             break;
         };
-        show(from, H::from(head))?;
+        show(from, H::from(head), out)?;
     }
     Ok(())
 }
@@ -111,4 +130,26 @@ pub fn ended(out: &mut Out, run: Result<(), Cut>) {
         Ok(()) => out.flush(),
         Err(Cut) => out.cut(),
     }
+}
+
+// Runs a program over the records of the file that the first argument names.
+pub fn run<
+    R: Env + Files + AllocGlobal,
+    H: From<[u8; N]>,
+    F: FnMut(&mut BufReader<R::File>, H, &mut Out) -> Result<(), Cut>,
+    const N: usize,
+>(rt: &R, show: F) -> std::io::Result<()>
+where
+    F: Drop,
+    requires size { N < 2 ^ 63 }
+    requires callable { F.IsAlwaysCallable show }
+{
+    let Some(file) = opened(rt) else {
+        return Ok(());
+    };
+    let mut file = BufReader::new(rt.alloc(), file)?;
+    let mut out = Out::new();
+    let run = each(&mut file, &mut out, show);
+    ended(&mut out, run);
+    Ok(())
 }

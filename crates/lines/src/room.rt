@@ -1,5 +1,5 @@
 // Room for the largest record.
-ghost use Rattle.std.specs.Prelude.{◌≡◌, length, IfOk};
+ghost use Rattle.std.specs.Prelude.{◌≡◌, ◌<◌, length, take, MatchResult};
 
 use crate::record::Cut;
 
@@ -31,7 +31,7 @@ pub fn letter_room() -> [u8; LETTERS]
 
 // The first part of a room, as long as a record asks for, unless that is too large.
 pub fn lent<T>(room: &mut [T], asked: u32) -> Result<&mut [T], Cut>
-    ensures { IfOk result (λ part. length part.now ≡ asked) }
+    ensures { MatchResult result (λ part. (length part.now ≡ asked) × (part.now ≡ take asked room.old)) (λ _. length room.old < asked) }
 {
     room.get_mut(..asked as usize).ok_or(Cut)
 }

@@ -1,47 +1,13 @@
 // What each op prints.
 ghost use Rattle.std.specs.Prelude.{◌≡◌, ◌<◌, ◌≤◌, ◌^◌};
 
+use crate::head::Head;
 use checks::check::{Checked, check};
 use lines::line::Out;
-use lines::record::four;
 use words::ahead::{FunctionStart, function_start, mapped_start, starter};
 use words::cursor::Cursor;
 use words::kind::{class_words, in_class};
 use words::token;
-
-// What a record's head says: op, two numbers, the text's length and the number of words.
-#[derive(Clone, Copy)]
-pub struct Head {
-    pub op: u8,
-    pub a: u32,
-    pub b: u32,
-    pub text: u32,
-    pub words: u32,
-}
-
-impl From<[u8; 17]> for Head {
-    fn from(bytes: [u8; 17]) -> Head {
-        Head {
-            op: bytes[0],
-            a: four(&bytes, 1),
-            b: four(&bytes, 5),
-            text: four(&bytes, 9),
-            words: four(&bytes, 13),
-        }
-    }
-}
-
-impl Head {
-    // A cursor at a token, or at its second half.
-    fn cursor(&self) -> Cursor
-        ensures { (result.at < 2 ^ 32) × (result.half ≤ 1) }
-    {
-        Cursor {
-            at: self.a as usize,
-            half: usize::from(self.b != 0),
-        }
-    }
-}
 
 // 1 for yes, and 0 for no.
 fn bit(out: &mut Out, b: bool) {

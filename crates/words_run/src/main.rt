@@ -4,13 +4,15 @@
 #![tactic(auto)]
 
 mod answer;
+mod head;
 
-use answer::{Head, answer};
+use crate::answer::answer;
+use crate::head::Head;
 use lines::line::Out;
 use lines::record::{self, Cut};
 use lines::room::{self, lent};
 use std::alloc::{AllocError, Global};
-use std::io::{self, BufReader, Read};
+use std::io::{self, Read};
 
 // Room for the largest record.
 #[derive(Drop)]
@@ -26,29 +28,20 @@ impl Rooms {
             words: vec![in alloc; 0; room::WORDS]?,
         })
     }
-}
 
-// A record after its head: text and words are read, and its line is gathered.
-fn shown<R: Read>(file: &mut R, head: Head, rooms: &mut Rooms, out: &mut Out) -> Result<(), Cut> {
-    let text = lent(&mut rooms.text, head.text)?;
-    let words = lent(&mut rooms.words, head.words)?;
-    record::load(file, text)?;
-    record::load_words(file, words)?;
-    answer(out, &head, text, words);
-    out.byte(b'\n');
-    Ok(())
+    // A record after its head: text and words are read, and its line is gathered.
+    fn show<R: Read>(&mut self, file: &mut R, head: Head, out: &mut Out) -> Result<(), Cut> {
+        let text = lent(&mut self.text, head.text)?;
+        let words = lent(&mut self.words, head.words)?;
+        record::load(file, text)?;
+        record::load_words(file, words)?;
+        answer(out, &head, text, words);
+        out.byte(b'\n');
+        Ok(())
+    }
 }
 
 fn main(rt: HostRuntime) -> io::Result<()> {
-    let Some(file) = record::opened(&rt) else {
-        return Ok(());
-    };
-    let mut file = BufReader::new(rt.alloc(), file)?;
     let mut rooms = Rooms::new(rt.alloc())?;
-    let mut out = Out::new();
-    let run = record::each(&mut file, |file, head| {
-        shown(file, head, &mut rooms, &mut out)
-    });
-    record::ended(&mut out, run);
-    Ok(())
+    record::run(&rt, |file, head, out| rooms.show(file, head, out))
 }
