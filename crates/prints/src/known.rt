@@ -195,16 +195,13 @@ impl Open {
 
     // The node of a depth.
     pub fn at(&self, depth: usize) -> Known {
-        if depth < DEEPEST {
-            self.nodes[depth]
-        } else {
-            Known::fresh(Tag::Nothing)
-        }
+        let nothing = Known::fresh(Tag::Nothing);
+        self.nodes.get(depth).copied().unwrap_or(nothing)
     }
 
     fn keep(&mut self, depth: usize, k: Known) {
-        if depth < DEEPEST {
-            self.nodes[depth] = k;
+        if let Some(place) = self.nodes.get_mut(depth) {
+            *place = k;
         }
     }
 

@@ -164,32 +164,22 @@ impl Trail {
     }
 
     fn set_step(&mut self, depth: usize, s: Step) {
-        if depth < DEEPEST {
-            self.steps[depth] = s;
+        if let Some(place) = self.steps.get_mut(depth) {
+            *place = s;
         }
     }
 
     // The step to a depth.
     fn step(&self, depth: usize) -> Step {
-        if depth < DEEPEST {
-            self.steps[depth]
-        } else {
-            Step::one("type")
-        }
+        self.steps.get(depth).copied().unwrap_or(Step::one("type"))
     }
 
     // A visit that no pair speaks of: the step to a member gets the member's name, which both trees have then.
     pub fn keep_name(&mut self, v: Visit) {
         if v.kind == NAME && self.open.owner(v).tag.is_keyed() {
-            let d = v.depth.saturating_sub(1);
-            let name = Some(v.number);
-            self.set_step(
-                d,
-                Step {
-                    name,
-                    ..self.step(d)
-                },
-            );
+            if let Some(step) = self.steps.get_mut(v.depth.saturating_sub(1)) {
+                step.name = Some(v.number);
+            }
         }
     }
 
@@ -276,7 +266,7 @@ impl<'a> Pairs<'a> {
 
     // The visit of the right tree.
     pub fn spot(&self, number: usize) -> usize {
-        if number < MOST { self.spots[number] } else { 0 }
+        self.spots.get(number).copied().unwrap_or(0)
     }
 }
 
