@@ -19,7 +19,7 @@ pub fn side(out: &mut Out, side: Option<Side>) {
     }
 }
 
-// What a number refuses, in a reading or in a key.
+// What a number refuses, in a reading or in a key; the library's answers, which C has too, hold numbers.
 pub fn refusal_of(number: usize) -> Option<Refusal> {
     Some(match number {
         1 => Refusal::BadList,
@@ -131,7 +131,7 @@ pub fn why(out: &mut Out, number: usize, ends: bool) {
 // The number of the diagnostic of a reserved name.
 const RESERVED: usize = 13;
 
-// A diagnostic in words.
+// A diagnostic in words, by its number, which is what the words of a reading hold (`noted::Note` promises just that).
 pub fn diagnostic(number: usize) -> &'static str {
     match number {
         1 => "empty type parameters",

@@ -23,7 +23,7 @@ impl<'a> Seen<'a> {
         }
     }
 
-    // The visit of an index.
+    // The visit of an index; its kind is a number, since visits stand in words that are lent.
     pub fn visit(self, i: usize) -> Visit {
         visit_at(self.visits, i)
     }
