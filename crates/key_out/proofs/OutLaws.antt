@@ -13,7 +13,6 @@ use Rattle.keys.specs.Lines.{tagged, written}
 use Rattle.fields.specs.Put.{far, Put}
 use Rattle.fields.proofs.PutLaws.{put_append}
 use Rattle.node_table.specs.Moves.{items, Spelled}
-use Rattle.node_table.proofs.MovesLaws.{spelled_none}
 use Rattle.key_out.specs.Out.{key_bits}
 
 -- The items of a run are its bits.
@@ -31,12 +30,6 @@ items_written G N f (kid first end a r) s d =
 -- ---- A spelling
 
 module _ (M X : List ℕ) (w d m to : ℕ) (k : List ℕ) (l : length k * 8 ≤ far) (h : to ≤ far) (n : m ≤ length M) where
-  pub spelled_past : length M ≤ m → Spelled key_bits (Spells M X) (length M) w d m to k m to k
-  spelled_past a = spelled_none key_bits (Spells M X) (length M) w d m to k l h n (λ s e. omega (arith, e.there))
-
-  pub spelled_out : (start size : ℕ) → start ≡ start_at M m → size ≡ size_at M m → length X < start + size → Spelled key_bits (Spells M X) (length M) w d m to k m to k
-  spelled_out start size a b c = spelled_none key_bits (Spells M X) (length M) w d m to k l h n (λ s e. omega (arith, e.inside))
-
   pub spelled_put : (start size to1 to2 : ℕ) (k1 k2 : List ℕ) → start ≡ start_at M m → size ≡ size_at M m → start + size ≤ length X → m < length M
       → Put to (bits_of w size) to1 k k1 → Put to1 (bits_of_bytes (part X start size)) to2 k1 k2 → Spelled key_bits (Spells M X) (length M) w d m to k (m + 1) to2 k2
   spelled_put start size to1 to2 k1 k2 a b c d p q =

@@ -67,7 +67,7 @@ pub fn append_name(names: &mut [u64], at: usize, start: usize, count: usize)
     }
 }
 
-// From a word on, all of them are `zero`.
+// From a word on, all of them are `zero` now.
 pub fn clear<T: Copy>(words: &mut [T], from: usize, zero: T)
     ensures { words.new ≡ filled_with zero (length words.old) (take from words.old) }
 {

@@ -1,9 +1,9 @@
 -- The laws of visits: words are an output, and a walk of a tree that stands in a store puts out the tree's visits.
 use mathlib.Core.Path.{◌≡◌, refl, ap, ap₂, ◌∙◌, subst}
 use mathlib.Core.List.{List, ◌++◌}
-use Prim.Native.Nat.{ℕ, suc, ◌+◌, ◌*◌, ◌/◌, ◌^◌, ◌≤◌, ◌<◌, min}
+use Prim.Native.Nat.{ℕ, ◌+◌, ◌*◌, ◌/◌, ◌^◌, ◌≤◌, ◌<◌}
 use native.Mathlib.Omega.{arith}
-use lib.ListN.{length, set, replicate, length-set}
+use lib.ListN.{length, replicate}
 use lib.Seq.{sets}
 use Rattle.keys.specs.Form.{Form, one, child, both, Grammar, branch, left, right, class, height, nodes}
 use Rattle.keys.specs.Limits.{newest, count_width, half_word}
@@ -15,37 +15,13 @@ use Rattle.keys.specs.Table.{type}
 use Rattle.keys.specs.Lines.{lined, tagged}
 use Rattle.keys.specs.Holds.{word_at, child_at, next_at, Cursor, cursor, HoldsBy, Stands}
 use Rattle.keys.proofs.HoldsLaws.{In, in_front, kid_in, of_type, root_is, stands_holds, stands_low}
-use Rattle.fields.specs.Put.{far}
 use Rattle.fields.proofs.PutLaws.{sets_copies}
 use Rattle.node_table.specs.Forms.{grammar_of, table_words}
 use Rattle.node_table.proofs.FormsLaws.{words_are}
-use Rattle.node_table.specs.Moves.{items, Spelled, Noded}
-use Rattle.node_table.proofs.MovesLaws.{spelled_none, all_put}
+use Rattle.node_table.specs.Moves.{items, Noded}
+use Rattle.node_table.proofs.MovesLaws.{all_put}
 use Rattle.visits.specs.Sound.{visits_sound}
 use Rattle.visits.specs.Visits.{Visited, Listed, visit_words, Named}
-
--- Three words, one after the other.
-pub listed_visit : (to kind number depth r : ℕ) (k k1 k2 k3 : List ℕ) → length k * 8 ≤ far → k1 ≡ set k to kind → k2 ≡ set k1 (to + 1) number → k3 ≡ set k2 (to + 2) depth → (r ≡ min far (to + 3))
-    → Listed to (visit kind number depth) r k k3
-listed_visit to kind number depth r k k1 k2 k3 l a b c e =
-    let q : to + 1 ≡ suc to = omega arith in
-    let z : to + 2 ≡ suc (suc to) = omega arith in
-    record {
-      short = l;
-      next = e;
-      same = ap length c ∙ length-set k2 (to + 2) depth ∙ ap length b ∙ length-set k1 (to + 1) number ∙ ap length a ∙ length-set k to kind;
-      is = c ∙ ap (λ (x : List ℕ). set x (to + 2) depth) (b ∙ ap (λ (x : List ℕ). set x (to + 1) number) a)
-          ∙ ap₂ (λ (i j : ℕ). set (set (set k to kind) i number) j depth) q z;
-    }
-
--- ---- A name
-
-module _ (M : List ℕ) (w d m to : ℕ) (k : List ℕ) (l : length k * 8 ≤ far) (h : to ≤ far) (n : m ≤ length M) where
-  pub named_past : length M ≤ m → Spelled visit_words (Named M) (length M) w d m to k m to k
-  named_past a = spelled_none visit_words (Named M) (length M) w d m to k l h n (λ s e. omega arith)
-
-  pub named_put : (to' : ℕ) (k' : List ℕ) → m < length M → Listed to (visit name_visit m d) to' k k' → Spelled visit_words (Named M) (length M) w d m to k (m + 1) to' k'
-  named_put to' k' a p = record { short = l; stays = omega (arith, p.next); same = p.same; in_names = omega arith; on = λ s e. (p, refl) }
 
 -- ---- The visits of a tree that stands in a store
 

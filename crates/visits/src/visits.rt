@@ -10,7 +10,7 @@ use node_table::moves::Mark;
 use node_table::walk;
 use node_table::walk::Sink;
 
-// The kind of a visit to a node.
+// The kind of a visit to a node. Kinds are numbers and no enum: lent words may hold any, and VisitAt gives them as they are.
 pub const NODE: u64 = 1;
 
 // The kind of a visit to a choice; a node's first is its tag, which is 0 in a parameter and in a type parameter.
@@ -42,7 +42,7 @@ fn put_visit(visits: &mut [u64], to: usize, kind: u64, number: u64, depth: usize
     put::on_by(to, WORDS)
 }
 
-// A tree's names, as a walk lists its visits: a node's, its choices' and its names', each under one more node than the node.
+// A tree's names, as a walk lists them among its visits, with its nodes and their choices.
 #[derive(Clone, Copy)]
 struct Names<'a> {
     names: &'a [u64],
