@@ -15,7 +15,6 @@ mkdir -p "$work/crates/parts_try/src"
 for d in "$root"/crates/*; do ln -s "$d" "$work/crates/"; done
 { cat "$root/crates.txt"; sed -n 's/^calls:/parts_try:/p' "$root/crates.txt"; } >"$work/crates.txt"
 cat >"$work/crates/parts_try/src/main.rt" <<'END'
-use checks::check::Checked;
 use checks::check::check;
 use key_out::out::put_key;
 use keys::store;
@@ -30,11 +29,7 @@ use words::limits::OpenRules;
 use words::limits::Tree;
 
 fn sound(text: &[u8], tokens: &[u64]) -> bool {
-    let found = check(text, tokens, 0);
-    match found {
-        Checked::Sound => true,
-        _ => false,
-    }
+    check(text, tokens, 0).is_ok()
 }
 
 fn part_check(text: &[u8], tokens: &[u64], answer: &mut [u64; 8]) {
@@ -56,7 +51,7 @@ fn part_read(text: &[u8], tokens: &[u64], nodes: &mut [u64], names: &mut [u64], 
         left: OpenRules::MOST,
     };
     let m = Mark { at: 0, half: 0, used: 0, named: 0, noted: 0 };
-    let a = ty(text, tokens, &classes, nodes, names, &mut noting, given, true, m);
+    let a = ty(text, tokens, classes, nodes, names, &mut noting, given, true, m);
     let q = a.m;
     if a.why != 0 {
         *answer = [a.why as u64, 0, 0, 0, 0, 0, 0, 0];

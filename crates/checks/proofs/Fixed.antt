@@ -2,21 +2,17 @@
 use mathlib.Core.Path.{◌≡◌, refl, sym, ap, ◌∙◌}
 use mathlib.Core.Bool.{Bool, true, false, not}
 use mathlib.Core.List.{List, [], ◌∷◌}
-use Prim.Native.Nat.{ℕ, zero, suc, ◌+◌, ◌-◌, ◌/◌, ◌%◌, ◌≤◌, ◌<◌}
+use Prim.Native.Nat.{ℕ, zero, suc, ◌+◌, ◌/◌, ◌%◌, ◌≤◌, ◌<◌}
 use native.Mathlib.Omega.{arith}
-use borrow.Author.Tests.{eqb-true, leb-true, ltb-true, lt-leb}
-use native.Mathlib.Nat.{add-zero}
-use lib.Seq.{get_or-take, get_or-drop}
+use borrow.Author.Tests.{eqb-true, leb-true, ltb-true}
 use lib.Dec.{eqb, leb, ltb}
-use lib.ListN.{length, get_or, drop}
-use mathlib.Core.Logic.{⊎_elim}
-use Rattle.words.specs.Test.{◌and◌, ◌or◌, same, between}
-use Rattle.words.specs.Kind.{LCurly, Star, Any, Unique, Extends, Const}
+use lib.ListN.{length, get_or}
+use Rattle.words.specs.Test.{◌and◌, ◌or◌, same}
 use Rattle.words.specs.Class.{fixed}
-use Rattle.words.specs.Spelling.{spelling, spelled_as, spelled_as_any, fixed_letters, fixed_places, guess_place, guess_place_of, fixed_guesses}
+use Rattle.words.specs.Spelling.{spelling, spelled_as, spelled_as_any, fixed_letters, fixed_places, guess_place_of, fixed_guesses}
 use Rattle.words.specs.Check.{part}
-use Rattle.words.proofs.Tests.{every_below, below_each, some_of, some_gives, both_true, both_ways, not_or, lt_or_le}
-use Rattle.words.proofs.Bytes.{same_eq, part_length, part_some}
+use Rattle.words.proofs.Tests.{every_below, below_each, some_of, some_gives, both_true, both_ways, not_or}
+use Rattle.words.proofs.Bytes.{same_eq}
 
 abbrev empty : List ℕ → Bool
 empty [] = true
@@ -102,49 +98,13 @@ module _ (places letters : List ℕ) (k : ℕ) (p : places ≡ fixed_places) (q 
   abbrev here : Stands letters k entry
   here = stand letters k entry there
 
-  pub entry_small : entry < 65536
-  entry_small = here.small
-
-  pub entry_size : entry % 16 ≡ length (spelling k)
-  entry_size = here.size
-
   pub entry_inside : entry / 16 + entry % 16 ≤ 189
   entry_inside = here.inside
 
   pub entry_spells : (n : ℕ) → entry % 16 ≡ n → part letters (entry / 16) n ≡ spelling k
   entry_spells n e = ap (part letters (entry / 16)) (sym e) ∙ here.is
 
--- only kinds below 107 are fixed
-pub fixed_low : (k : ℕ) → fixed k ≡ true → k < 107
-fixed_low k e = ⊎_elim (λ l. l) (λ g. absurd (never g)) (lt_or_le k 107)
-  where
-    high : (a b : ℕ) → b < k → between a b k ≡ false
-    high a b h = ap (λ (x : Bool). leb a k and x) (lt-leb k b h) ∙ and_false (leb a k)
-      where
-        and_false : (x : Bool) → (x and false) ≡ false
-        and_false true = refl
-        and_false false = refl
-
-    never : 107 ≤ k → ⊥
-    never g =
-        let q : fixed k ≡ false = λ i. high LCurly Star (omega arith) i or high Any Unique (omega arith) i or high Extends Const (omega arith) i in
-        let z : ◌≡◌ {A = ℕ} 0 1 = cc in
-        omega arith
-
 -- ---- the guess
--- its place, of a part of a text
-pub guess_part : (text : List ℕ) (at n : ℕ) → at + n ≤ length text → 1 ≤ n → guess_place_of (part text at n) ≡ guess_place n (get_or text at 0) (get_or text (at + (n - 1)) 0)
-guess_part text at n h m = λ i. guess_place (part_length text at n h i) (first i) (last i)
-  where
-    byte : (j : ℕ) → j < n → get_or (part text at n) j 0 ≡ get_or text (at + j) 0
-    byte j l = get_or-take n (drop at text) j 0 l ∙ get_or-drop at text j 0
-
-    first : get_or (part text at n) 0 0 ≡ get_or text at 0
-    first = byte 0 (omega arith) ∙ ap (λ (j : ℕ). get_or text j 0) (add-zero at)
-
-    last : get_or (part text at n) (length (part text at n) - 1) 0 ≡ get_or text (at + (n - 1)) 0
-    last = ap (λ (j : ℕ). get_or (part text at n) (j - 1) 0) (part_length text at n h) ∙ byte (n - 1) (omega arith)
-
 -- the guess of kind k's spelling, if it is fixed, is k
 abbrev own_guess : List ℕ → ℕ → Bool
 own_guess guesses k = not (fixed k) or eqb (get_or guesses (guess_place_of (spelling k)) 0) k
@@ -191,10 +151,3 @@ module _ (guesses : List ℕ) (p : guesses ≡ fixed_guesses) where
       back e =
           let low : guessed s < 107 = guess_low (guess_place_of s) (omega arith) in
           some_of 107 (spelled_as s) (guessed s) low (spelled_is s (guessed s) h low ∙ e)
-
-  -- the same of a part of a text whose guess is k
-  pub guess_decides : (text : List ℕ) (at n k : ℕ) → at + n ≤ length text → 1 ≤ n → k ≡ get_or guesses (guess_place n (get_or text at 0) (get_or text (at + (n - 1)) 0)) 0
-      → same (spelling k) (part text at n) ≡ spelled_as_any (part text at n)
-  guess_decides text at n k h m e =
-      ap (λ (j : ℕ). same (spelling j) (part text at n)) (e ∙ ap (λ (i : ℕ). get_or guesses i 0) (sym (guess_part text at n h m)))
-      ∙ sym (guess_tells (part text at n) (part_some text at n h m))

@@ -2,22 +2,19 @@
 ghost use Rattle.std.specs.Prelude.{◌≡◌, Bool, ◌^◌, ◌<◌, length};
 ghost use Rattle.words.specs.Check as check;
 ghost use Rattle.checks.specs.Verdict.{verdict};
-ghost use Rattle.words.specs.Spelling.{fixed_guesses, fixed_letters, fixed_places};
-ghost use Rattle.words.specs.Class.{class_words};
 
-use crate::spelling::{spelled_right, spelling_guesses, spelling_letters, spelling_places};
+use crate::spelling::spelled_right;
 use words::kind::{Class, Kind, class_words, in_class};
 use words::limits::{Text, Tokens};
 use words::token;
 
-// What a check finds: nothing wrong, or a refusal.
-#[derive(Clone, Copy)]
-pub enum Checked {
-    Sound,
+// What is wrong with a list.
+#[derive(Clone, Copy, Debug, PartialEq, Eq)]
+pub enum Fault {
     // refusal 1, at 0
-    BadList,
+    List,
     // refusal 2, at the lowest bad word
-    BadToken(usize),
+    Token(usize),
 }
 
 // Whether the Eof stands last and nowhere else, and alone has no bytes.
@@ -25,9 +22,9 @@ fn ends_well(kind: usize, length: usize, last: bool) -> bool
     ensures { result ≡ check.ends_well kind length last }
 {
     if kind == Kind::EOF {
-        if length == 0 { last } else { false }
+        length == 0 && last
     } else {
-        if length == 0 { false } else { !last }
+        length != 0 && !last
     }
 }
 
@@ -36,102 +33,47 @@ fn placed(long: usize, before: usize, from: usize, n: usize) -> bool
     requires { (from < 2 ^ 32) × (n < 2 ^ 32) }
     ensures { result ≡ check.placed long before from n }
 {
-    if Text::MOST < n {
-        return false;
-    }
-    if from < before {
-        return false;
-    }
-    from + n <= long
+    n <= Text::MOST && before <= from && from + n <= long
 }
 
 // A word of the list: `before` is where the one before ends, `last` says that none follows.
-fn good_word(
-    text: &[u8],
-    word: u64,
-    before: usize,
-    last: bool,
-    classes: &[u16; 256],
-    places: &[u16; 128],
-    letters: &[u8; 189],
-    guesses: &[u8; 128],
-) -> bool
-    requires { (classes.now ≡ class_words) × (places.now ≡ fixed_places) × (letters.now ≡ fixed_letters) × (guesses.now ≡ fixed_guesses) }
+fn good_word(text: &[u8], word: u64, before: usize, last: bool) -> bool
     ensures { result ≡ check.good_word text.now before last word }
 {
     let kind = token::kind(word);
-    let zeros = token::zeros(word);
     let n = token::length(word);
     let from = token::start(word);
-    if !in_class(classes, kind, Class::GOOD) {
-        return false;
+    if in_class(class_words(), kind, Class::Good)
+        && token::zeros(word) == 0
+        && placed(text.len(), before, from, n)
+        && ends_well(kind, n, last)
+    {
+        kind == Kind::EOF || spelled_right(&text[from..from + n], kind)
+    } else {
+        false
     }
-    if zeros != 0 {
-        return false;
-    }
-    if !placed(text.len(), before, from, n) {
-        return false;
-    }
-    if !ends_well(kind, n, last) {
-        return false;
-    }
-    if kind == Kind::EOF {
-        return true;
-    }
-    spelled_right(text, from, n, classes, places, letters, guesses, kind)
 }
 
 // The lowest bad word.
-fn words_from(
-    text: &[u8],
-    words: &[u64],
-    classes: &[u16; 256],
-    places: &[u16; 128],
-    letters: &[u8; 189],
-    guesses: &[u8; 128],
-) -> Checked
-    requires { (classes.now ≡ class_words) × (places.now ≡ fixed_places) × (letters.now ≡ fixed_letters) × (guesses.now ≡ fixed_guesses) }
+fn words_from(text: &[u8], words: &[u64]) -> Result<(), Fault>
     ensures { verdict result ≡ check.words_from text.now 0 0 words.now }
 {
-    let mut before: usize = 0;
-    let mut i: usize = 0;
-    while i < words.len() {
-        let word = words[i];
-        let next = i + 1;
-        if !good_word(
-            text,
-            word,
-            before,
-            next == words.len(),
-            classes,
-            places,
-            letters,
-            guesses,
-        ) {
-            return Checked::BadToken(i);
+    let mut before = 0;
+    for (i, &word) in words.iter().enumerate() {
+        if !good_word(text, word, before, i + 1 == words.len()) {
+            return Err(Fault::Token(i));
         }
         before = token::end(word);
-        i = next;
     }
-    Checked::Sound
+    Ok(())
 }
 
 // Any text, any list, any start.
-pub fn check(text: &[u8], words: &[u64], start: usize) -> Checked
+pub fn check(text: &[u8], words: &[u64], start: usize) -> Result<(), Fault>
     ensures { verdict result ≡ check.check text.now words.now start }
 {
-    if Text::MOST < text.len() {
-        return Checked::BadList;
+    if text.len() > Text::MOST || words.len() > Tokens::MOST || start >= words.len() {
+        return Err(Fault::List);
     }
-    if Tokens::MOST < words.len() {
-        return Checked::BadList;
-    }
-    if words.len() <= start {
-        return Checked::BadList;
-    }
-    let classes = class_words();
-    let places = spelling_places();
-    let letters = spelling_letters();
-    let guesses = spelling_guesses();
-    words_from(text, words, &classes, &places, &letters, &guesses)
+    words_from(text, words)
 }

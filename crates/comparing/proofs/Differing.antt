@@ -17,22 +17,40 @@ use Rattle.differs.specs.Content.{Content, ends, enters, content_of, Pair, diffe
 use Rattle.differs.specs.Differ.{words_of, found, Differed, declined, reported, besides, begins, differ, many_differences, no_side}
 use Rattle.sound_keys.specs.Sound.{reads, read_node, Good}
 use Rattle.walks.specs.Walk.{Begins, IsRead, Walked}
-use Rattle.comparing.specs.Call.{answer_of, seen, Differs}
-use Rattle.comparing.specs.declared.differ.Differing.{Differing}
-use Rattle.comparing.specs.declared.differ.Differing.TheVariants.{Found, Refused}
+use Rattle.std.specs.Prelude.{Ok, Err}
+use Rattle.words.specs.Refusal.{number_of}
+use Rattle.words.specs.declared.refusal.Refusal.{Refusal}
+use Rattle.words.specs.declared.refusal.Refusal.TheVariants.{ManyDifferences}
+use Rattle.words.proofs.Refusals.{one_refusal}
+use Rattle.comparing.specs.Call.{side_of, Differing, answer_of, seen, Differs}
+use Rattle.comparing.specs.declared.differ.Whose.{Whose}
+use Rattle.comparing.specs.declared.differ.Whose.TheVariants.{Neither, Left, Right}
 use Rattle.walks.specs.declared.walk.Both.{Both}
 
 -- ---- One answer only
 
-one_answer : (r q : Differing) → answer_of r ≡ answer_of q → r ≡ q
-one_answer (Found n) (Found m) e = let i : n ≡ m = cc in ap Found i
-one_answer (Found n) (Refused a b c) e = clash (cc)
-one_answer (Refused a b c) (Found n) e = clash (cc)
-one_answer (Refused a b c) (Refused a' b' c') e =
-    let i : a ≡ a' = cc in
-    let j : b ≡ b' = cc in
-    let k : c ≡ c' = cc in
-    λ o. Refused (i o) (j o) (k o)
+one_side : (a b : Whose) → side_of a ≡ side_of b → a ≡ b
+one_side Neither Neither e = refl
+one_side Neither Left e = clash (omega arith)
+one_side Neither Right e = clash (omega arith)
+one_side Left Neither e = clash (omega arith)
+one_side Left Left e = refl
+one_side Left Right e = clash (omega arith)
+one_side Right Neither e = clash (omega arith)
+one_side Right Left e = clash (omega arith)
+one_side Right Right e = refl
+
+pub one_answer : (r q : Differing) → answer_of r ≡ answer_of q → r ≡ q
+one_answer (Ok n) (Ok m) e = let i : n ≡ m = cc in ap Ok i
+one_answer (Ok n) (Err b) e = clash (cc)
+one_answer (Err a) (Ok n) e = clash (cc)
+one_answer (Err a) (Err b) e =
+    let i : number_of a.why ≡ number_of b.why = cc in
+    let w : a.why ≡ b.why = one_refusal a.why b.why i in
+    let j : side_of a.side ≡ side_of b.side = cc in
+    let s : a.side ≡ b.side = one_side a.side b.side j in
+    let k : a.bit ≡ b.bit = cc in
+    λ o. Err (record { why = w o; side = s o; bit = k o })
 
 -- Two results of the same keys and list that keep the promise are the same.
 pub one_result : (left right list : List ℕ) (r q : Differing) (l m : List ℕ) → Differs left right list r l → Differs left right list q m → (r ≡ q) × (l ≡ m)
@@ -43,10 +61,10 @@ one_result left right list r q l m a b =
 -- ---- Refusals
 
 module _ (left right list : List ℕ) where
-  seen_declined : (number side bit : ℕ) (now after : List ℕ) → length now ≡ length list → after ≡ filled (length now) [] → differ (length list) left right ≡ declined (length list) number side bit
-      → (r : Differing) → r ≡ Refused number side bit → Differs left right list r after
-  seen_declined number side bit now after l e d r i =
-      ap (λ (x : Differing). seen x after) i ∙ ap (seen (Refused number side bit)) (e ∙ ap (λ (n : ℕ). filled n []) l) ∙ sym d
+  seen_declined : (why : Refusal) (side : Whose) (bit : ℕ) (now after : List ℕ) → length now ≡ length list → after ≡ filled (length now) [] → differ (length list) left right ≡ declined (length list) (number_of why) (side_of side) bit
+      → (r : Differing) → r ≡ Err (record { why = why; side = side; bit = bit }) → Differs left right list r after
+  seen_declined why side bit now after l e d r i =
+      ap (λ (x : Differing). seen x after) i ∙ ap (seen (Err (record { why = why; side = side; bit = bit }))) (e ∙ ap (λ (n : ℕ). filled n []) l) ∙ sym d
 
   module _ {T : List ℕ} (w : Good T left) where
     pub read_left : IsRead (read_node (bits_of_bytes left) (grammar_of T) tallest 0 4)
@@ -82,9 +100,9 @@ module _ (left right list : List ℕ) where
         by_both : differ (length list) left right ≡ reported (length list) (leb (length (differences (content_of node_table w.tree) (content_of node_table v.tree))) (length list / 2)) (differences (content_of node_table w.tree) (content_of node_table v.tree))
         by_both = ap (λ (x : Taken). begins (length list) x right) w.is ∙ ap (besides (length list) w.tree) v.is
 
-        pub too_many : length now / 2 < q.found → {after : List ℕ} → after ≡ filled (length now) [] → {r : Differing} → r ≡ Refused many_differences no_side 0 → Differs left right list r after
+        pub too_many : length now / 2 < q.found → {after : List ℕ} → after ≡ filled (length now) [] → {r : Differing} → r ≡ Err (record { why = ManyDifferences; side = Neither; bit = 0 }) → Differs left right list r after
         too_many h {after} e {r} =
-            seen_declined many_differences no_side 0 now after a.grows.long e
+            seen_declined ManyDifferences Neither 0 now after a.grows.long e
             (by_both ∙ ap (λ (b : Bool). reported (length list) b pairs) (lt-leb (length pairs) (length list / 2) (omega (arith, found_is, a.grows.long)))) r
 
         none_kept : Begins list []
@@ -104,7 +122,7 @@ module _ (left right list : List ℕ) where
             take_all [] = refl
             take_all (x ∷ l) = ap (λ (y₁ : List Pair). x ∷ y₁) (take_all l)
 
-        pub all_listed : q.found ≤ length now / 2 → {after : List ℕ} → after ≡ filled (length now) (take (q.found * 2) now) → Differs left right list (Found q.found) after
+        pub all_listed : q.found ≤ length now / 2 → {after : List ℕ} → after ≡ filled (length now) (take (q.found * 2) now) → Differs left right list (Ok q.found) after
         all_listed h {after} e =
             let i : after ≡ filled (length list) (words_of pairs) = e ∙ ap₂ filled a.grows.long (listed h) in
             (λ o. record { answer = found (found_is o); list = i o })

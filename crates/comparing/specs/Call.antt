@@ -1,13 +1,25 @@
 -- What the call that says what differs promises, over the list that it is lent (02, W9).
-use Rattle.std.specs.Prelude.{List, ◌≡◌, ℕ, length}
-use Rattle.differs.specs.Differ.{Answer, found, no, Differed, differ}
-use Rattle.comparing.specs.declared.differ.Differing.{Differing}
-use Rattle.comparing.specs.declared.differ.Differing.TheVariants.{Found, Refused}
+use Rattle.std.specs.Prelude.{List, ◌≡◌, ℕ, length, Result, Ok, Err}
+use Rattle.words.specs.Refusal.{number_of}
+use Rattle.differs.specs.Differ.{no_side, left_side, right_side, Answer, found, no, Differed, differ}
+use Rattle.comparing.specs.declared.differ.Undiffered.{Undiffered}
+use Rattle.comparing.specs.declared.differ.Whose.{Whose}
+use Rattle.comparing.specs.declared.differ.Whose.TheVariants.{Neither, Left, Right}
+
+-- The number of a side.
+abbrev pub side_of : Whose → ℕ
+side_of Neither = no_side
+side_of Left = left_side
+side_of Right = right_side
+
+-- What the code answers.
+abbrev pub Differing : Type 0
+Differing = Result ℕ Undiffered
 
 -- The code's answer in the words of the definitions.
 abbrev pub answer_of : Differing → Answer
-answer_of (Found n) = found n
-answer_of (Refused number side bit) = no number side bit
+answer_of (Ok n) = found n
+answer_of (Err r) = no (number_of r.why) (side_of r.side) r.bit
 
 -- What the caller sees: the answer, and the final content of the list.
 abbrev pub seen : Differing → List ℕ → Differed

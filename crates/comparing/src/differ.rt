@@ -1,8 +1,7 @@
 // The open call: what differs between two keys.
-ghost use Rattle.std.specs.Prelude.{◌≡◌, [], length};
-ghost use Rattle.words.specs.Refusal.{number_of};
+ghost use Rattle.std.specs.Prelude.{◌≡◌, Err, [], length};
 ghost use Rattle.keys.specs.Store.{filled};
-ghost use Rattle.comparing.specs.Call.{Differs};
+ghost use Rattle.comparing.specs.Call.{side_of, Differs};
 
 use keys::store;
 use node_table::forms;
@@ -13,42 +12,53 @@ use walks::walk::Both;
 use words::limits::Tree;
 use words::refusal::Refusal;
 
-// The side of a refusal: neither key's, the left key's, the right key's.
-pub const NO_SIDE: u32 = 0;
-
-pub const LEFT: u32 = 1;
-
-pub const RIGHT: u32 = 2;
-
 // The words of a pair.
 pub const PAIR: usize = 2;
 
-// What the call answers: how many pairs there are; or a refusal's number, side and bit.
-#[derive(Clone, Copy)]
-pub enum Differing {
-    Found(usize),
-    Refused(u32, u32, usize),
+// Whose key is refused.
+#[derive(Clone, Copy, Debug, PartialEq, Eq)]
+pub enum Whose {
+    Neither = 0,
+    Left = 1,
+    Right = 2,
+}
+
+impl Whose {
+    // The number of its side.
+    pub fn number(self) -> usize
+        ensures { result ≡ side_of self }
+    {
+        self as usize
+    }
+}
+
+// A refusal, whose key's it is, and its bit there.
+#[derive(Clone, Copy, Debug, PartialEq, Eq)]
+pub struct Undiffered {
+    pub why: Refusal,
+    pub side: Whose,
+    pub bit: usize,
 }
 
 // A refusal, and zeros in the whole list.
-fn declined(list: &mut [u64], why: Refusal, side: u32, bit: usize) -> Differing
-    ensures { (result ≡ Differing.Refused (number_of why) side bit) × (list.new ≡ filled (length list.old) []) }
+fn declined(list: &mut [u64], why: Refusal, side: Whose, bit: usize) -> Result<usize, Undiffered>
+    ensures { (result ≡ Err (record { why = why; side = side; bit = bit })) × (list.new ≡ filled (length list.old) []) }
 {
     store::clear_words(list, 0);
-    Differing::Refused(why as u32, side, bit)
+    Err(Undiffered { why, side, bit })
 }
 
-// Says what differs between two keys: the pairs of first bits, then zeros; all zeros on a refusal.
-pub fn differ(left: &[u8], right: &[u8], list: &mut [u64]) -> Differing
+// How many pairs differ between two keys: in the list their first bits, then zeros; all zeros on a refusal.
+pub fn differ(left: &[u8], right: &[u8], list: &mut [u64]) -> Result<usize, Undiffered>
     ensures { Differs left.now right.now list.old result list.new }
 {
     let forms = forms::words();
     let others = forms::words();
     if let Err(stop) = sound::check_whole(&forms, left) {
-        return declined(list, stop.why, LEFT, stop.bit);
+        return declined(list, stop.why, Whose::Left, stop.bit);
     }
     if let Err(stop) = sound::check_whole(&others, right) {
-        return declined(list, stop.why, RIGHT, stop.bit);
+        return declined(list, stop.why, Whose::Right, stop.bit);
     }
     let sides = Sides {
         left: Source {
@@ -67,8 +77,8 @@ pub fn differ(left: &[u8], right: &[u8], list: &mut [u64]) -> Differing
     };
     let p = sides.walk_node(list, forms::TYPE, Tree::TALLEST, start);
     if list.len() / PAIR < p.found {
-        return declined(list, Refusal::ManyDifferences, NO_SIDE, 0);
+        return declined(list, Refusal::ManyDifferences, Whose::Neither, 0);
     }
     store::clear_words(list, p.found * PAIR);
-    Differing::Found(p.found)
+    Ok(p.found)
 }

@@ -1,9 +1,9 @@
 -- Laws of the tests that the definitions are made of, and of class words.
-use mathlib.Core.Path.{◌≡◌, refl, sym, ap, ap₂, ◌∙◌}
+use mathlib.Core.Path.{◌≡◌, refl, sym, ap, ◌∙◌}
 use mathlib.Core.Bool.{Bool, true, false, not}
 use mathlib.Core.List.{List, [], ◌∷◌, ◌++◌}
 use mathlib.Core.Logic.{◌⊎◌, inl, inr, ⊎_elim}
-use Prim.Native.Nat.{ℕ, zero, suc, ◌+◌, ◌-◌, ◌*◌, ◌/◌, ◌%◌, ◌^◌, ◌≤◌, ◌<◌}
+use Prim.Native.Nat.{ℕ, zero, suc, ◌+◌, ◌*◌, ◌/◌, ◌%◌, ◌^◌, ◌≤◌, ◌<◌}
 use native.Mathlib.Nat.{zero-div, eq-or-lt_of_le}
 use native.Mathlib.Numerals.{one-add}
 use native.Mathlib.Omega.{arith}
@@ -11,34 +11,18 @@ use lib.Dec.{eqb}
 use lib.ListN.{length, get_or, length-append, get_or-append}
 use lib.Seq.{get_or_at}
 use lib.Pow.{shr-shr}
-use borrow.Author.Tests.{eq-eqb, ne_eqb}
+use borrow.Author.Tests.{ne_eqb}
 use Rattle.words.specs.Test.{◌and◌, ◌or◌, among, some_below}
 use Rattle.words.specs.Class.{bit, packed, table, classes_of, class_word, class_words, in_class}
-use Rattle.words.specs.Word.{end}
-use Rattle.words.specs.Cursor.{word_at, second_half, left, on_line, first_byte, end_byte}
 
 pub lt_or_le : (a b : ℕ) → (a < b) ⊎ (b ≤ a)
 lt_or_le a zero = inr (omega arith)
 lt_or_le zero (suc b) = inl (omega arith)
 lt_or_le (suc a) (suc b) = ⊎_elim (λ p. inl (omega arith)) (λ q. inr (omega arith)) (lt_or_le a b)
 
-pub and_true : (b : Bool) → b and true ≡ b
-and_true true = refl
-and_true false = refl
-
 -- a number among those of a list
-pub among_first : (x : ℕ) (l : List ℕ) (k : ℕ) → k ≡ x → among (x ∷ l) k ≡ true
-among_first x l k e = ap (λ (b : Bool). b or among l k) (eq-eqb k x e)
-
 pub among_next : (x : ℕ) (l : List ℕ) (k : ℕ) → (k ≡ x → ⊥) → among (x ∷ l) k ≡ among l k
 among_next x l k e = ap (λ (b : Bool). b or among l k) (ne_eqb k x e)
-
-pub among_last : (x k : ℕ) → among (x ∷ []) k ≡ eqb k x
-among_last x k = by (eqb k x)
-  where
-    by : (b : Bool) → (b or false) ≡ b
-    by true = refl
-    by false = refl
 
 -- a test passes at every number below n
 abbrev pub every_below : ℕ → (ℕ → Bool) → Bool
@@ -140,26 +124,3 @@ pub class_read : (classes : List ℕ) (k j : ℕ) → classes ≡ class_words �
 class_read classes k j e h =
     ap (λ (x : ℕ). eqb (x / 2 ^ j % 2) 1) (ap (λ (l : List ℕ). get_or l k 0) e ∙ table_at 256 class_word k h)
     ∙ ap (λ (x : ℕ). eqb x 1) (packed_bit (classes_of k) j) ∙ bit_test (in_class j k)
-
--- ---- a half that is used up
-pub left_some : (h k : ℕ) → (h ≡ 0 → ⊥) → second_half k ≡ left h k
-left_some zero k e = absurd (e refl)
-left_some (suc h) k e = refl
-
-pub line_some : (h w : ℕ) → (h ≡ 0 → ⊥) → true ≡ on_line h w
-line_some zero w e = absurd (e refl)
-line_some (suc h) w e = refl
-
-pub end_some : (words : List ℕ) (at h : ℕ) → (h ≡ 0 → ⊥) → first_byte words at h ≡ end_byte words at h
-end_some words at zero e = absurd (e refl)
-end_some words at (suc h) e = refl
-
-pub end_start : (words : List ℕ) (at h : ℕ) → h ≡ 0 → at ≡ 0 → 0 ≡ end_byte words at h
-end_start words at h e f = sym (ap₂ (end_byte words) f e)
-
-pub end_after : (words : List ℕ) (at h : ℕ) → h ≡ 0 → (at ≡ 0 → ⊥) → end (word_at words (at - 1)) ≡ end_byte words at h
-end_after words zero h e f = absurd (f refl)
-end_after words (suc i) h e f = ap (λ (x : ℕ). end (word_at words x)) less ∙ sym (ap (end_byte words (suc i)) e)
-  where
-    less : suc i - 1 ≡ i
-    less = omega arith

@@ -2,6 +2,8 @@
 use Rattle.std.specs.Prelude.{ℕ, zero, suc, ◌+◌, ◌*◌, Bool, true, false, List, [], ◌∷◌, ◌++◌, eqb, leb, get_or}
 use Rattle.words.specs.Test.{◌or◌, between, among}
 use Rattle.words.specs.Kind.{Word, NumberLiteral, TemplateHead, TemplateTail, LCurly, LBrack, LAngle, Pipe, Amp, Question, Bang, Star, Dot3, OtherMark, Any, Abstract, Out, Readonly, Unique, OtherModifier, Extends, New, Import, This, Typeof, Void, Null, True, False, Const, OtherReserved}
+use Rattle.words.specs.declared.kind.Class.{Class}
+use Rattle.words.specs.declared.kind.Class.TheVariants as classes
 
 -- the kinds that there are
 abbrev pub good_kind : ℕ → Bool
@@ -38,6 +40,16 @@ other k = among (Word ∷ OtherMark ∷ OtherModifier ∷ OtherReserved ∷ []) 
 -- the classes of a kind, in the order of their bits
 abbrev pub classes_of : ℕ → List Bool
 classes_of k = binding_word k ∷ name k ∷ starter k ∷ modifier k ∷ good_kind k ∷ fixed k ∷ other k ∷ []
+
+-- the bit of a class
+abbrev pub bit_of : Class → ℕ
+bit_of classes.BindingWord = 0
+bit_of classes.Name = 1
+bit_of classes.Starter = 2
+bit_of classes.Modifier = 3
+bit_of classes.Good = 4
+bit_of classes.Fixed = 5
+bit_of classes.Other = 6
 
 -- whether a kind has the class of bit j
 abbrev pub in_class : ℕ → ℕ → Bool

@@ -15,14 +15,17 @@ pub fn starter(words: &[u64], classes: &[u16; 256], i: usize) -> bool
     requires { (classes.now ≡ class_words) × (i < 2 ^ 63) }
     ensures { result ≡ ahead.starter words.now i }
 {
-    let mut j = i;
-    while whole_kind(words, j) == Kind::L_PAREN {
-        j += 1;
-        if whole_kind(words, j) == Kind::R_PAREN {
+    for j in i..words.len() {
+        let kind = whole_kind(words, j);
+        let next = whole_kind(words, j + 1);
+        if kind != Kind::L_PAREN {
+            return lone_starter(classes, kind, next);
+        }
+        if next == Kind::R_PAREN {
             return true;
         }
     }
-    lone_starter(classes, whole_kind(words, j), whole_kind(words, j + 1))
+    false
 }
 
 // A starter that is no `(`, by its kind and the next one's.
@@ -30,13 +33,11 @@ fn lone_starter(classes: &[u16; 256], kind: usize, next: usize) -> bool
     requires { (classes.now ≡ class_words) × (kind < 256) }
     ensures { result ≡ ahead.lone_starter kind next }
 {
-    if kind != Kind::MINUS {
-        return in_class(classes, kind, Class::STARTER);
+    if kind == Kind::MINUS {
+        matches!(next, Kind::NUMBER_LITERAL | Kind::BIG_INT_LITERAL)
+    } else {
+        in_class(classes, kind, Class::Starter)
     }
-    if next == Kind::NUMBER_LITERAL {
-        return true;
-    }
-    next == Kind::BIG_INT_LITERAL
 }
 
 // How a function type can begin, and that none does. The last two name the token that the parameter start ends with.
@@ -62,10 +63,7 @@ pub fn parameter_name(classes: &[u16; 256], kind: usize) -> bool
     requires { (classes.now ≡ class_words) × (kind < 256) }
     ensures { result ≡ ahead.parameter_name kind }
 {
-    if in_class(classes, kind, Class::BINDING_WORD) {
-        return true;
-    }
-    kind == Kind::THIS
+    in_class(classes, kind, Class::BindingWord) || kind == Kind::THIS
 }
 
 // Whether the token at j is a modifier word before a parameter's name on its line.
@@ -73,14 +71,10 @@ pub fn modifies(words: &[u64], classes: &[u16; 256], j: usize) -> bool
     requires { (classes.now ≡ class_words) × (j < 2 ^ 63) }
     ensures { result ≡ ahead.modifies (word_at words.now j) (word_at words.now (j + 1)) }
 {
-    if !in_class(classes, whole_kind(words, j), Class::MODIFIER) {
-        return false;
-    }
     let next = word_at(words, j + 1);
-    if !parameter_name(classes, token::kind(next)) {
-        return false;
-    }
-    token::newline(next) == 0
+    in_class(classes, whole_kind(words, j), Class::Modifier)
+        && parameter_name(classes, token::kind(next))
+        && token::newline(next) == 0
 }
 
 // Past any modifier words.
@@ -88,27 +82,19 @@ fn past_modifiers(words: &[u64], classes: &[u16; 256], at: usize) -> usize
     requires { (classes.now ≡ class_words) × (at < 2 ^ 62) }
     ensures { (result ≡ ahead.past_modifiers at (drop at words.now)) × (result < 2 ^ 63) }
 {
-    let mut j = at;
-    while modifies(words, classes, j) {
-        j += 1;
+    for j in at..words.len() {
+        if !modifies(words, classes, j) {
+            return j;
+        }
     }
-    j
+    at.max(words.len())
 }
 
 // Whether a kind may follow a parameter's name.
 fn after_parameter(kind: usize) -> bool
     ensures { result ≡ ahead.after_parameter kind }
 {
-    if kind == Kind::COLON {
-        return true;
-    }
-    if kind == Kind::COMMA {
-        return true;
-    }
-    if kind == Kind::QUESTION {
-        return true;
-    }
-    kind == Kind::EQ
+    matches!(kind, Kind::COLON | Kind::COMMA | Kind::QUESTION | Kind::EQ)
 }
 
 // A parameter start that ends at j, and what follows it.
@@ -116,10 +102,11 @@ fn parameter_start(words: &[u64], classes: &[u16; 256], j: usize) -> FunctionSta
     requires { (classes.now ≡ class_words) × (j < 2 ^ 63) }
     ensures { result ≡ ahead.parameter_start words.now j }
 {
-    if !parameter_name(classes, whole_kind(words, j)) {
-        return FunctionStart::Nothing;
+    if parameter_name(classes, whole_kind(words, j)) {
+        followed(words, j, whole_kind(words, j + 1))
+    } else {
+        FunctionStart::Nothing
     }
-    followed(words, j, whole_kind(words, j + 1))
 }
 
 // A parameter's name at j, by the kind that follows it.
@@ -128,12 +115,12 @@ fn followed(words: &[u64], j: usize, next: usize) -> FunctionStart
     ensures { result ≡ ahead.followed words.now j next }
 {
     if after_parameter(next) {
-        return FunctionStart::Parameter(j);
+        FunctionStart::Parameter(j)
+    } else if next == Kind::R_PAREN {
+        lone_parameter(words, j)
+    } else {
+        FunctionStart::Nothing
     }
-    if next == Kind::R_PAREN {
-        return lone_parameter(words, j);
-    }
-    FunctionStart::Nothing
 }
 
 // The same where a `)` follows.
@@ -142,9 +129,10 @@ fn lone_parameter(words: &[u64], j: usize) -> FunctionStart
     ensures { result ≡ ahead.before_arrow words.now j }
 {
     if whole_kind(words, j + 2) == Kind::ARROW {
-        return FunctionStart::LoneParameter(j);
+        FunctionStart::LoneParameter(j)
+    } else {
+        FunctionStart::Nothing
     }
-    FunctionStart::Nothing
 }
 
 // After a `(`, at j.
@@ -152,14 +140,11 @@ fn in_brackets(words: &[u64], classes: &[u16; 256], j: usize) -> FunctionStart
     requires { (classes.now ≡ class_words) × (j < 2 ^ 62) }
     ensures { result ≡ ahead.in_brackets words.now j }
 {
-    let kind = whole_kind(words, j);
-    if kind == Kind::R_PAREN {
-        return FunctionStart::Empty;
+    match whole_kind(words, j) {
+        Kind::R_PAREN => FunctionStart::Empty,
+        Kind::DOT3 => FunctionStart::Rest,
+        _ => parameter_start(words, classes, past_modifiers(words, classes, j)),
     }
-    if kind == Kind::DOT3 {
-        return FunctionStart::Rest;
-    }
-    parameter_start(words, classes, past_modifiers(words, classes, j))
 }
 
 // Whether a function type begins at a cursor, and by which case.
@@ -183,9 +168,10 @@ fn abstract_start(words: &[u64], at: usize) -> FunctionStart
     ensures { result ≡ ahead.abstract_start words.now at }
 {
     if whole_kind(words, at + 1) == Kind::NEW {
-        return FunctionStart::AbstractNew;
+        FunctionStart::AbstractNew
+    } else {
+        FunctionStart::Nothing
     }
-    FunctionStart::Nothing
 }
 
 // One token further, but not past the end.
@@ -193,9 +179,10 @@ fn skip(words: &[u64], j: usize) -> usize
     ensures { result ≡ ahead.skip words.now j }
 {
     if whole_kind(words, j) == Kind::EOF {
-        return j;
+        j
+    } else {
+        j + 1
     }
-    j + 1
 }
 
 // Whether a token of a kind stands after the one at j.
@@ -212,12 +199,10 @@ fn key_in(words: &[u64], classes: &[u16; 256], j: usize) -> bool
 {
     let kind = whole_kind(words, j);
     if kind == Kind::L_BRACK {
-        return then_is(words, skip(words, j), Kind::IN);
+        then_is(words, skip(words, j), Kind::IN)
+    } else {
+        !in_class(classes, kind, Class::Name) && then_is(words, j, Kind::IN)
     }
-    if in_class(classes, kind, Class::NAME) {
-        return false;
-    }
-    then_is(words, j, Kind::IN)
 }
 
 // Whether the `{` at i opens a mapped type, by the look-ahead of types.rs.
@@ -226,17 +211,11 @@ pub fn mapped_start(words: &[u64], classes: &[u16; 256], i: usize) -> bool
     ensures { result ≡ ahead.mapped_start words.now i }
 {
     let j = skip(words, i);
-    let kind = whole_kind(words, j);
-    if kind == Kind::PLUS {
-        return then_is(words, j, Kind::READONLY);
+    match whole_kind(words, j) {
+        Kind::PLUS | Kind::MINUS => then_is(words, j, Kind::READONLY),
+        Kind::READONLY => key_in(words, classes, skip(words, j)),
+        _ => key_in(words, classes, j),
     }
-    if kind == Kind::MINUS {
-        return then_is(words, j, Kind::READONLY);
-    }
-    if kind == Kind::READONLY {
-        return key_in(words, classes, skip(words, j));
-    }
-    key_in(words, classes, j)
 }
 
 // ---- Members of an object type
@@ -246,13 +225,7 @@ pub fn property_key(classes: &[u16; 256], kind: usize) -> bool
     requires { (classes.now ≡ class_words) × (kind < 256) }
     ensures { result ≡ ahead.property_key kind }
 {
-    if in_class(classes, kind, Class::NAME) {
-        return true;
-    }
-    if kind == Kind::STR {
-        return true;
-    }
-    kind == Kind::NUMBER_LITERAL
+    in_class(classes, kind, Class::Name) || matches!(kind, Kind::STR | Kind::NUMBER_LITERAL)
 }
 
 // Whether a key or a `[` stands behind the token at an index.
@@ -261,10 +234,7 @@ pub fn key_follows(words: &[u64], classes: &[u16; 256], at: usize) -> bool
     ensures { result ≡ ahead.key_follows words.now at }
 {
     let kind = whole_kind(words, at + 1);
-    if property_key(classes, kind) {
-        return true;
-    }
-    kind == Kind::L_BRACK
+    property_key(classes, kind) || kind == Kind::L_BRACK
 }
 
 // Whether readonly stands at a cursor, with a key or a `[` behind it on its line.
@@ -272,13 +242,9 @@ pub fn readonly_start(words: &[u64], classes: &[u16; 256], c: Cursor) -> bool
     requires { (classes.now ≡ class_words) × (c.at < 2 ^ 63) }
     ensures { result ≡ ahead.readonly_start words.now c.at c.half }
 {
-    if c.kind(words) != Kind::READONLY {
-        return false;
-    }
-    if !key_follows(words, classes, c.at) {
-        return false;
-    }
-    token::newline(word_at(words, c.at + 1)) == 0
+    c.kind(words) == Kind::READONLY
+        && key_follows(words, classes, c.at)
+        && token::newline(word_at(words, c.at + 1)) == 0
 }
 
 // Whether another modifier word stands at a cursor, with a key or a `[` behind it.
@@ -287,13 +253,9 @@ pub fn modifier_start(words: &[u64], classes: &[u16; 256], c: Cursor) -> bool
     ensures { result ≡ ahead.modifier_start words.now c.at c.half }
 {
     let kind = c.kind(words);
-    if !in_class(classes, kind, Class::MODIFIER) {
-        return false;
-    }
-    if kind == Kind::READONLY {
-        return false;
-    }
-    key_follows(words, classes, c.at)
+    in_class(classes, kind, Class::Modifier)
+        && kind != Kind::READONLY
+        && key_follows(words, classes, c.at)
 }
 
 // Whether get or set stands at a cursor, a word by its kind, with a key or a `[` behind it.
@@ -301,34 +263,21 @@ pub fn accessor_start(text: &[u8], words: &[u64], classes: &[u16; 256], c: Curso
     requires { (classes.now ≡ class_words) × (c.at < 2 ^ 63) × (length (spelled text.now (word_at words.now c.at)) ≡ size (word_at words.now c.at)) }
     ensures { result ≡ ahead.accessor_start text.now words.now c.at c.half }
 {
-    if c.kind(words) != Kind::WORD {
-        return false;
-    }
-    if !key_follows(words, classes, c.at) {
-        return false;
-    }
-    accessor_word(text, word_at(words, c.at))
+    c.kind(words) == Kind::WORD
+        && key_follows(words, classes, c.at)
+        && accessor_word(text, word_at(words, c.at))
 }
 
 // Whether the bytes of a token are those of get or set.
+#[tactic(auto, using(crate::proofs::Bytes::same_long))]
 fn accessor_word(text: &[u8], word: u64) -> bool
     requires { length (spelled text.now word) ≡ size word }
     ensures { result ≡ ahead.accessor_word (spelled text.now word) }
 {
-    if token::length(word) != 3 {
+    let Some(bytes) = text.get(token::start(word)..token::end(word)) else {
         return false;
-    }
-    let at = token::start(word);
-    if text[at + 1] != b'e' {
-        return false;
-    }
-    if text[at + 2] != b't' {
-        return false;
-    }
-    if text[at] == b'g' {
-        return true;
-    }
-    text[at] == b's'
+    };
+    matches!(bytes, b"get" | b"set")
 }
 
 // Whether what stands from j on may follow the name of an index parameter: `:` or `,`, or a `?` before `:`, `,` or `]`.
@@ -336,24 +285,14 @@ fn after_index_name(words: &[u64], j: usize) -> bool
     requires { j < 2 ^ 63 }
     ensures { result ≡ ahead.after_index_name words.now j }
 {
-    let kind = whole_kind(words, j);
-    if kind == Kind::COLON {
-        return true;
+    match whole_kind(words, j) {
+        Kind::COLON | Kind::COMMA => true,
+        Kind::QUESTION => matches!(
+            whole_kind(words, j + 1),
+            Kind::COLON | Kind::COMMA | Kind::R_BRACK
+        ),
+        _ => false,
     }
-    if kind == Kind::COMMA {
-        return true;
-    }
-    if kind != Kind::QUESTION {
-        return false;
-    }
-    let next = whole_kind(words, j + 1);
-    if next == Kind::COLON {
-        return true;
-    }
-    if next == Kind::COMMA {
-        return true;
-    }
-    next == Kind::R_BRACK
 }
 
 // Whether a kind is a modifier word's for an index parameter: in and const are among them.
@@ -361,13 +300,7 @@ fn index_modifier(classes: &[u16; 256], kind: usize) -> bool
     requires { (classes.now ≡ class_words) × (kind < 256) }
     ensures { result ≡ ahead.index_modifier kind }
 {
-    if in_class(classes, kind, Class::MODIFIER) {
-        return true;
-    }
-    if kind == Kind::IN {
-        return true;
-    }
-    kind == Kind::CONST
+    in_class(classes, kind, Class::Modifier) || matches!(kind, Kind::IN | Kind::CONST)
 }
 
 // Whether the `[` at i opens an index signature.
@@ -377,20 +310,12 @@ pub fn index_start(words: &[u64], classes: &[u16; 256], i: usize) -> bool
 {
     let j = i + 1;
     let kind = whole_kind(words, j);
-    if kind == Kind::DOT3 {
-        return true;
+    if matches!(kind, Kind::DOT3 | Kind::R_BRACK) {
+        true
+    } else if index_modifier(classes, kind) {
+        in_class(classes, whole_kind(words, j + 1), Class::BindingWord)
+            || after_index_name(words, j + 1)
+    } else {
+        in_class(classes, kind, Class::BindingWord) && after_index_name(words, j + 1)
     }
-    if kind == Kind::R_BRACK {
-        return true;
-    }
-    if index_modifier(classes, kind) {
-        if in_class(classes, whole_kind(words, j + 1), Class::BINDING_WORD) {
-            return true;
-        }
-        return after_index_name(words, j + 1);
-    }
-    if !in_class(classes, kind, Class::BINDING_WORD) {
-        return false;
-    }
-    after_index_name(words, j + 1)
 }

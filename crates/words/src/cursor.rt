@@ -24,10 +24,7 @@ impl Cursor {
         requires { self.at < 2 ^ 63 }
         ensures { (result.at ≡ self.at + 1) × (result.half ≡ 0) }
     {
-        Cursor {
-            at: self.at + 1,
-            half: 0,
-        }
+        Cursor::start(self.at + 1)
     }
 
     // The kind at the cursor; past the list nothing stands but an end.
@@ -37,20 +34,17 @@ impl Cursor {
     {
         let whole = whole_kind(words, self.at);
         if self.half == 0 {
-            return whole;
+            whole
+        } else {
+            second_half(whole)
         }
-        second_half(whole)
     }
 
     // Whether no line break stands before what is left here.
     pub fn same_line(self, words: &[u64]) -> bool
         ensures { result ≡ cursor.same_line words.now self.at self.half }
     {
-        if self.half == 0 {
-            token::newline(word_at(words, self.at)) == 0
-        } else {
-            true
-        }
+        self.half != 0 || token::newline(word_at(words, self.at)) == 0
     }
 
     // The first byte of what is left here.
@@ -67,12 +61,12 @@ impl Cursor {
         ensures { result ≡ cursor.end_byte words.now self.at self.half }
     {
         if self.half != 0 {
-            return self.first_byte(words);
+            self.first_byte(words)
+        } else if self.at == 0 {
+            0
+        } else {
+            token::end(word_at(words, self.at - 1))
         }
-        if self.at == 0 {
-            return 0;
-        }
-        token::end(word_at(words, self.at - 1))
     }
 }
 
@@ -80,7 +74,7 @@ impl Cursor {
 pub fn word_at(words: &[u64], i: usize) -> u64
     ensures { result ≡ cursor.word_at words.now i }
 {
-    if i < words.len() { words[i] } else { 0 }
+    words.get(i).copied().unwrap_or(0)
 }
 
 // The kind of the whole token at an index.
@@ -88,11 +82,7 @@ pub fn whole_kind(words: &[u64], i: usize) -> usize
     ensures value { result ≡ cursor.whole_kind words.now i }
     ensures upper_bound { result ≤ 255 * (length words.now - i) }
 {
-    if i < words.len() {
-        token::kind(words[i])
-    } else {
-        0
-    }
+    words.get(i).map_or(Kind::EOF, |&word| token::kind(word))
 }
 
 // What is left of a token whose first half is used up.

@@ -1,10 +1,10 @@
 // The kinds of tokens, under the names that types.rs gives them, and the table of their classes.
 ghost use Rattle.std.specs.Prelude.{◌≡◌, ◌<◌};
-ghost use Rattle.words.specs.Class.{class_words, in_class};
+ghost use Rattle.words.specs.Class.{bit_of, class_words, in_class};
 
 use crate::tables::CLASSES;
 
-// Holds nothing: the kinds are its constants.
+// Holds nothing: the kinds are its constants. They stay numbers, since a token word's kind is any byte that C hands in, and the clause `value` of `Cursor::kind` speaks of each.
 #[derive(Clone, Copy)]
 pub struct Kind {}
 
@@ -145,37 +145,33 @@ impl Kind {
     pub const OTHER_RESERVED: usize = 107;
 }
 
-// The classes of kinds: a class is a bit of a class word.
-#[derive(Clone, Copy)]
-pub struct Class {}
-
-impl Class {
-    pub const BINDING_WORD: usize = 0;
-
-    pub const NAME: usize = 1;
+// The classes of kinds, under the bits of a class word.
+#[derive(Clone, Copy, Debug, PartialEq, Eq)]
+pub enum Class {
+    BindingWord = 0,
+    Name = 1,
     // what can begin a type whatever follows it
-    pub const STARTER: usize = 2;
-
-    pub const MODIFIER: usize = 3;
+    Starter = 2,
+    Modifier = 3,
     // the kinds that there are
-    pub const GOOD: usize = 4;
+    Good = 4,
     // spelled in one way
-    pub const FIXED: usize = 5;
+    Fixed = 5,
     // spelled in any way but the fixed ones
-    pub const OTHER: usize = 6;
+    Other = 6,
 }
 
-// The table over the 256 kind numbers. A call that asks often takes it once and lends it.
-pub fn class_words() -> [u16; 256]
-    ensures { result ≡ class_words }
+// The table over the 256 kind numbers.
+pub fn class_words() -> &'static [u16; 256]
+    ensures { result.now ≡ class_words }
 {
-    CLASSES
+    &CLASSES
 }
 
 // Whether a kind has the class of a bit.
-pub fn in_class(classes: &[u16; 256], kind: usize, class: usize) -> bool
-    requires { (classes.now ≡ class_words) × (kind < 256) × (class < 7) }
-    ensures { result ≡ in_class class kind }
+pub fn in_class(classes: &[u16; 256], kind: usize, class: Class) -> bool
+    requires { (classes.now ≡ class_words) × (kind < 256) }
+    ensures { result ≡ in_class (bit_of class) kind }
 {
-    (classes[kind] >> class) % 2 == 1
+    (classes[kind] >> class as usize) % 2 == 1
 }

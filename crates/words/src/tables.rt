@@ -1,7 +1,7 @@
 // The constant table of the kinds. It is proved, where it is handed out, to be what the definitions say.
 
 // The classes of each kind, the first class in the lowest bit.
-pub const CLASSES: [u16; 256] = [
+pub static CLASSES: [u16; 256] = [
     16, 87, 20, 20, 20, 20, 20, 16, 16, 0, 0, 0, 0, 0, 0, 0, 52, 48, 52, 48, 48, 48, 52, 48, 48,
     48, 48, 52, 52, 52, 48, 48, 48, 48, 52, 48, 48, 52, 48, 48, 52, 80, 0, 0, 0, 0, 0, 0, 0, 0, 0,
     0, 0, 0, 0, 0, 0, 0, 0, 0, 0, 0, 0, 0, 55, 55, 55, 55, 55, 55, 55, 55, 55, 55, 63, 55, 55, 55,

@@ -1,28 +1,13 @@
-use mathlib.Core.Path.{refl, sym, ◌∙◌}
-use Rattle.words.proofs.Looks.{past_more, past_end, modifies_inside}
-use borrow.Author.Rules.{rules}
+-- A word that modifies leads one further; the first that doesn't is where they end.
+use mathlib.Core.Path.{sym, ◌∙◌}
 use native.Mathlib.Omega.{arith}
+use Rattle.words.proofs.Looks.{past_more, past_end}
 use Rattle.words.proofs.ahead.past_modifiers.Goals as goal
 
-pub loop-j-init : goal.loop-j-init
-loop-j-init c = (search rules, refl)
-
-pub modifies-requires : goal.modifies-requires
-modifies-requires c =
-    (c.requires.0, omega (arith, c.loop-j.invariant.0, c.requires, c.well_formed))
-
-pub overflow_add-j : goal.overflow_add-j
-overflow_add-j c =
-    omega (arith, c.loop-j.invariant.0, c.requires, c.well_formed)
-
-pub loop-j-smaller : goal.loop-j-smaller
-loop-j-smaller c =
-    omega (arith, modifies_inside c.args.words.now c.loop-j.j (sym c.modifies.ensures ∙ c.loop-j-test.true))
+pub returns-then-not-modifies : goal.returns-then-not-modifies
+returns-then-not-modifies c =
+    (sym (c.loop-j.invariant ∙ past_end c.args.words.now c.loop-j.j (sym c.modifies.ensures ∙ c.if-not-modifies.true)), omega arith)
 
 pub loop-j-preserved : goal.loop-j-preserved
 loop-j-preserved c =
-    (omega (arith, modifies_inside c.args.words.now c.loop-j.j (sym c.modifies.ensures ∙ c.loop-j-test.true)), c.loop-j.invariant.1 ∙ past_more c.args.words.now c.loop-j.j (sym c.modifies.ensures ∙ c.loop-j-test.true))
-
-pub returns : goal.returns
-returns c =
-    (sym (c.loop-j.invariant.1 ∙ past_end c.args.words.now c.loop-j.j (sym c.modifies.ensures ∙ c.loop-j-test.false)), omega (arith, c.loop-j.invariant.0, c.requires, c.well_formed))
+    c.loop-j.invariant ∙ past_more c.args.words.now c.loop-j.j (sym c.modifies.ensures ∙ c.if-not-modifies.false)
