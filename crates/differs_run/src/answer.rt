@@ -1,22 +1,32 @@
 // A record's line: whether its left key is one; or what differs between its keys, and the list that was lent.
-use comparing::differ::{Differing, differ};
+use comparing::differ::{Undiffered, Whose, differ};
+use key_parts::refusal::Stop;
 use lines::line::Out;
 use lines::sum;
 use sound_keys::sound::sound;
 
 // A refusal's number, side and bit.
-fn refused(out: &mut Out, number: u32, side: u32, bit: usize) {
+fn refused(out: &mut Out, x: Undiffered) {
     out.bytes(b"refused");
-    out.three(u64::from(number), u64::from(side), bit as u64);
+    out.three(
+        x.why.number() as u64,
+        x.side.number() as u64,
+        x.bit as u64,
+    );
 }
 
 // Whether the left key is one.
 fn checked(out: &mut Out, left: &[u8]) {
-    let c = sound(left);
-    if c.why == 0 {
-        out.bytes(b"key");
-    } else {
-        refused(out, c.why, 1, c.bit);
+    match sound(left) {
+        Ok(()) => out.bytes(b"key"),
+        Err(Stop { why, bit }) => refused(
+            out,
+            Undiffered {
+                why,
+                side: Whose::Left,
+                bit,
+            },
+        ),
     }
 }
 
@@ -24,8 +34,8 @@ fn checked(out: &mut Out, left: &[u8]) {
 fn compared(out: &mut Out, left: &[u8], right: &[u8], list: &mut [u64]) {
     list.fill(u64::MAX);
     match differ(left, right, list) {
-        Differing::Refused(number, side, bit) => refused(out, number, side, bit),
-        Differing::Found(count) => {
+        Err(x) => refused(out, x),
+        Ok(count) => {
             out.bytes(b"found");
             out.next(count as u64);
         }

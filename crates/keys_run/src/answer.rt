@@ -2,7 +2,7 @@
 ghost use Rattle.std.specs.Prelude.{◌≡◌, ◌*◌, ◌≤◌, length};
 ghost use Rattle.fields.specs.Put.{far};
 
-use key_in::back::{Answer, take_back};
+use key_in::back::take_back;
 use key_out::out::put_key;
 use lines::line::Out;
 use lines::sum::{self, Sum, dirty, is_key, root};
@@ -27,13 +27,13 @@ impl Lent<'_> {
     pub fn answer(&mut self, out: &mut Out, op: u8, key: &[u8]) {
         dirty(self.nodes, self.names, self.text, self.again);
         match take_back(key, self.nodes, self.names, self.text) {
-            Answer::Refused(number, place) => {
+            Err(stop) => {
                 out.bytes(b"refused");
-                out.next(u64::from(number));
-                out.next(place as u64);
+                out.next(stop.why.number() as u64);
+                out.next(stop.bit as u64);
                 self.left(out);
             }
-            Answer::Taken(count, named, chars) => {
+            Ok((count, named, chars)) => {
                 out.bytes(b"taken");
                 out.three(count as u64, named as u64, chars as u64);
                 self.left(out);

@@ -8,6 +8,7 @@ use lines::line::Out;
 use speech::ask::{Form, Side};
 use speech::put::{Shape, numbered};
 use visits::visits::WORDS;
+use words::refusal::Refusal;
 
 // ---- A pair of places
 
@@ -128,15 +129,15 @@ pub fn refused(
     out: &mut Out,
     left: &[u8],
     right: &[u8],
-    number: usize,
+    why: Refusal,
     side: Option<Side>,
     bit: usize,
     room: usize,
     form: Form,
 ) {
     match side {
-        Some(Side::Left) => taking::refused(out, left, number, bit, form, side),
-        Some(Side::Right) => taking::refused(out, right, number, bit, form, side),
+        Some(Side::Left) => taking::refused(out, left, why, bit, form, side),
+        Some(Side::Right) => taking::refused(out, right, why, bit, form, side),
         None => too_many(out, room, form),
     }
 }

@@ -8,6 +8,7 @@ use noted::Note;
 use speech::ask::Side;
 use speech::put::{Shape, copy, numbered, pick, times};
 use visits::visits::{CHOICE, NODE, WORDS};
+use words::refusal::Refusal;
 
 // A comma, unless what follows is the first.
 pub fn comma(out: &mut Out, first: bool) {
@@ -204,12 +205,12 @@ pub fn failed(out: &mut Out, side: Option<Side>) {
 }
 
 // How a refusal begins: its side if there are two, its number, its name and what it means.
-pub fn refusal(out: &mut Out, side: Option<Side>, number: usize, ends: bool) {
+pub fn refusal(out: &mut Out, side: Option<Side>, why: Refusal, ends: bool) {
     failed(out, side);
-    numbered(out, b"\"refused\":{\"number\":", number);
+    numbered(out, b"\"refused\":{\"number\":", why.number());
     out.bytes(b",\"name\":\"");
-    say::refusal(out, number);
+    say::refusal(out, why);
     out.bytes(b"\",\"why\":\"");
-    say::why(out, number, ends);
+    say::why(out, why, ends);
     out.byte(b'"');
 }

@@ -229,7 +229,7 @@ pub fn granted(
 
 // The byte that a refusal is at: a bad token's first byte, which the call leaves out.
 fn refused_at(source: Source, x: Refused) -> usize {
-    if say::refusal_of(x.number) == Some(Refusal::BadToken) {
+    if x.why == Refusal::BadToken {
         source.start(x.token)
     } else {
         x.byte
@@ -239,8 +239,8 @@ fn refused_at(source: Source, x: Refused) -> usize {
 // Whether a refusal has a place.
 fn is_placed(x: Refused) -> bool {
     !matches!(
-        say::refusal_of(x.number),
-        Some(Refusal::BadList | Refusal::NoSpace)
+        x.why,
+        Refusal::BadList | Refusal::NoSpace
     )
 }
 
@@ -248,14 +248,14 @@ fn is_placed(x: Refused) -> bool {
 fn refused_all(out: &mut Out, source: Source, x: Refused) {
     let first = refused_at(source, x);
     out.bytes(b"refused: ");
-    say::refusal(out, x.number);
+    say::refusal(out, x.why);
     if is_placed(x) {
         source.place(first).told(out);
         numbered(out, b" (token ", x.token);
         out.byte(b')');
     }
     out.bytes(b": ");
-    say::why(out, x.number, source.ends(x.token));
+    say::why(out, x.why, source.ends(x.token));
     out.byte(b'\n');
     if is_placed(x) {
         source.point(out, first, x.token);
@@ -264,14 +264,14 @@ fn refused_all(out: &mut Out, source: Source, x: Refused) {
 
 fn refused_line(out: &mut Out, source: Source, x: Refused) {
     out.bytes(b"refused ");
-    say::refusal(out, x.number);
+    say::refusal(out, x.why);
     source.place(refused_at(source, x)).short(out);
     out.byte(b'\n');
 }
 
 fn refused_json(out: &mut Out, source: Source, x: Refused, job: Job) {
     let first = refused_at(source, x);
-    json::refusal(out, job.side, x.number, source.ends(x.token));
+    json::refusal(out, job.side, x.why, source.ends(x.token));
     numbered(out, b",\"token\":", x.token);
     numbered(out, b",\"half\":", x.half);
     numbered(out, b",\"byte\":", first);

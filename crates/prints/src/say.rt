@@ -19,33 +19,6 @@ pub fn side(out: &mut Out, side: Option<Side>) {
     }
 }
 
-// What a number refuses, in a reading or in a key; the library's answers, which C has too, hold numbers.
-pub fn refusal_of(number: usize) -> Option<Refusal> {
-    Some(match number {
-        1 => Refusal::BadList,
-        2 => Refusal::BadToken,
-        3 => Refusal::Unexpected,
-        5 => Refusal::TooDeep,
-        6 => Refusal::TooTall,
-        7 => Refusal::TooLong,
-        8 => Refusal::NoRoom,
-        9 => Refusal::ManyNotes,
-        10 => Refusal::BadKey,
-        11 => Refusal::NoSpace,
-        20 => Refusal::PrefixMark,
-        21 => Refusal::ParameterModifier,
-        22 => Refusal::DefaultValue,
-        23 => Refusal::MisplacedThis,
-        24 => Refusal::RestNotLast,
-        25 => Refusal::TypeParameterModifier,
-        26 => Refusal::ImportSource,
-        27 => Refusal::ImportOptions,
-        28 => Refusal::ManyTrials,
-        31 => Refusal::MemberForm,
-        _ => return None,
-    })
-}
-
 // The name of a refusal.
 fn name(refusal: Refusal) -> &'static str {
     match refusal {
@@ -114,18 +87,14 @@ fn unread(refusal: Refusal) -> &'static str {
     }
 }
 
-// The name of the refusal of a number.
-pub fn refusal(out: &mut Out, number: usize) {
-    if let Some(refusal) = refusal_of(number) {
-        word(out, name(refusal));
-    }
+// A refusal by its name.
+pub fn refusal(out: &mut Out, refusal: Refusal) {
+    word(out, name(refusal));
 }
 
-// What the refusal of a number means; `ends` where it is at the text's end.
-pub fn why(out: &mut Out, number: usize, ends: bool) {
-    if let Some(refusal) = refusal_of(number) {
-        word(out, meaning(refusal, ends));
-    }
+// What a refusal means; `ends` where it is at the text's end.
+pub fn why(out: &mut Out, refusal: Refusal, ends: bool) {
+    word(out, meaning(refusal, ends));
 }
 
 // The number of the diagnostic of a reserved name.

@@ -9,26 +9,27 @@ use speech::ask::{Form, Side};
 use speech::hex::pointed;
 use speech::put::numbered;
 use words::limits::Tree;
+use words::refusal::Refusal;
 
-fn refused_json(out: &mut Out, number: usize, bit: usize, side: Option<Side>) {
-    json::refusal(out, side, number, false);
+fn refused_json(out: &mut Out, why: Refusal, bit: usize, side: Option<Side>) {
+    json::refusal(out, side, why, false);
     numbered(out, b",\"bit\":", bit);
     out.bytes(b"}}\n");
 }
 
-fn refused_all(out: &mut Out, key: &[u8], number: usize, bit: usize) {
+fn refused_all(out: &mut Out, key: &[u8], why: Refusal, bit: usize) {
     out.bytes(b"refused: ");
-    say::refusal(out, number);
+    say::refusal(out, why);
     numbered(out, b" at bit ", bit);
     out.bytes(b": ");
-    say::why(out, number, false);
+    say::why(out, why, false);
     out.byte(b'\n');
     pointed(out, key, bit);
 }
 
-fn refused_line(out: &mut Out, number: usize, bit: usize) {
+fn refused_line(out: &mut Out, why: Refusal, bit: usize) {
     out.bytes(b"refused ");
-    say::refusal(out, number);
+    say::refusal(out, why);
     numbered(out, b" at bit ", bit);
     out.byte(b'\n');
 }
@@ -37,20 +38,20 @@ fn refused_line(out: &mut Out, number: usize, bit: usize) {
 pub fn refused(
     out: &mut Out,
     key: &[u8],
-    number: usize,
+    why: Refusal,
     bit: usize,
     form: Form,
     side: Option<Side>,
 ) {
     match form {
-        Form::Json => refused_json(out, number, bit, side),
+        Form::Json => refused_json(out, why, bit, side),
         Form::Key => {
             say::side(out, side);
-            refused_line(out, number, bit);
+            refused_line(out, why, bit);
         }
         Form::Tree | Form::All => {
             say::side(out, side);
-            refused_all(out, key, number, bit);
+            refused_all(out, key, why, bit);
         }
     }
 }

@@ -1,7 +1,7 @@
 // An answer as twelve numbers.
 use lines::sum;
-use typekey::reading::Reading;
-use typekey::taking::Taking;
+use typekey::reading::{Counts, Refused};
+use typekey::taking::{NotTaken, Used};
 
 // The numbers that a call answers, and a sum over each of the lent slices.
 #[derive(Clone, Copy, PartialEq, Eq)]
@@ -13,15 +13,15 @@ pub struct Answer {
 // 0, the counts of nodes, names, diagnostics and bytes of key, the end's token and half, and the type rules entered; or the
 // refusal's number, token, half and byte, and four zeros.
 pub fn of_reading(
-    reading: Reading,
+    reading: Result<Counts, Refused>,
     nodes: &[u64],
     names: &[u64],
     notes: &[u64],
     key: &[u8],
 ) -> Answer {
     let said = match reading {
-        Reading::Read(c) => [0, c.nodes, c.names, c.notes, c.key, c.at, c.half, c.entered],
-        Reading::Refused(x) => [x.number, x.token, x.half, x.byte, 0, 0, 0, 0],
+        Ok(c) => [0, c.nodes, c.names, c.notes, c.key, c.at, c.half, c.entered],
+        Err(x) => [x.why.number(), x.token, x.half, x.byte, 0, 0, 0, 0],
     };
     Answer {
         said,
@@ -30,10 +30,10 @@ pub fn of_reading(
 }
 
 // 0, the counts of nodes, names and letters; or the refusal's number and bit; and zeros.
-pub fn of_taking(taking: Taking, nodes: &[u64], names: &[u64], letters: &[u8]) -> Answer {
+pub fn of_taking(taking: Result<Used, NotTaken>, nodes: &[u64], names: &[u64], letters: &[u8]) -> Answer {
     let said = match taking {
-        Taking::Taken(u) => [0, u.nodes, u.names, u.letters, 0, 0, 0, 0],
-        Taking::Refused(n) => [n.number, n.bit, 0, 0, 0, 0, 0, 0],
+        Ok(u) => [0, u.nodes, u.names, u.letters, 0, 0, 0, 0],
+        Err(x) => [x.why.number(), x.bit, 0, 0, 0, 0, 0, 0],
     };
     Answer {
         said,

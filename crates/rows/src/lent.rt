@@ -9,8 +9,8 @@ use lines::line::Out;
 use lines::record::{self, Cut};
 use lines::sum::{dirty, is_key, root};
 use std::io::Read;
-use typekey::reading::{Reading, read};
-use typekey::taking::{Taking, take_back};
+use typekey::reading::read;
+use typekey::taking::take_back;
 use words::limits::Tree;
 
 // The first part of each room. The key is what is read or taken back, and `again` is for the key of what was taken.
@@ -68,8 +68,8 @@ impl Lent<'_> {
             return false;
         }
         match reading {
-            Reading::Read(c) => self.comes_back(out, run, c.key),
-            Reading::Refused(_) => true,
+            Ok(c) => self.comes_back(out, run, c.key),
+            Err(_) => true,
         }
     }
 
@@ -93,7 +93,7 @@ impl Lent<'_> {
         let key = &self.key[..size];
         dirty(self.nodes, self.names, self.letters, self.again);
         let is_back = match take_back(key, self.nodes, self.names, self.letters) {
-            Taking::Taken(u) => {
+            Ok(u) => {
                 let size = put_key(
                     self.nodes,
                     self.names,
@@ -104,7 +104,7 @@ impl Lent<'_> {
                 );
                 is_key(self.again, size, key)
             }
-            Taking::Refused(_) => false,
+            Err(_) => false,
         };
         if !is_back {
             out.bytes(b"different");

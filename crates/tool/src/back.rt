@@ -3,7 +3,7 @@ use crate::room::{Room, up_to};
 use crate::work::Work;
 use prints::taking::{granted, refused};
 use speech::hex::digits;
-use typekey::taking::{Taking, take_back};
+use typekey::taking::take_back;
 
 // The words for the nodes that a key of so many bytes can have, and no more than asked: none has fewer than six bits.
 fn node_words(n: usize, room: usize) -> usize {
@@ -19,7 +19,7 @@ impl Work {
         let names = up_to(n, &mut room.names);
         let letters = up_to(n.min(job.space), &mut room.letters);
         match take_back(key, nodes, names, letters) {
-            Taking::Taken(u) => granted(
+            Ok(u) => granted(
                 out,
                 key,
                 nodes,
@@ -30,7 +30,7 @@ impl Work {
                 u.names,
                 job.form,
             ),
-            Taking::Refused(x) => refused(out, key, x.number, x.bit, job.form, None),
+            Err(x) => refused(out, key, x.why, x.bit, job.form, None),
         }
     }
 

@@ -11,20 +11,20 @@ use prints::{differing, reading};
 use speech::ask::{Form, Side};
 use speech::hex::digits;
 use std::alloc::AllocError;
-use typekey::differing::{Differing, differ};
-use typekey::reading::{Reading, read};
-use typekey::taking::{Taking, take_back};
+use typekey::differing::{Whose, differ};
+use typekey::reading::read;
+use typekey::taking::take_back;
 use words::limits::Tree;
 
 // The words of the most pairs of places that are listed.
 const PAIRS: usize = 8192;
 
-// One of two sides by its number.
-fn side_of(number: u32) -> Option<Side> {
-    match number {
-        1 => Some(Side::Left),
-        2 => Some(Side::Right),
-        _ => None,
+// The side of a refused key, if it is one of the two.
+fn side_of(whose: Whose) -> Option<Side> {
+    match whose {
+        Whose::Left => Some(Side::Left),
+        Whose::Right => Some(Side::Right),
+        Whose::Neither => None,
     }
 }
 
@@ -38,8 +38,8 @@ fn tree_of<'a>(
 ) -> Whole<'a> {
     let visits = up_to(HALF, visits);
     let size = match take_back(key, nodes, names, letters) {
-        Taking::Taken(u) => walk(nodes, names, root(u.nodes), Tree::TALLEST, visits),
-        Taking::Refused(_) => 0,
+        Ok(u) => walk(nodes, names, root(u.nodes), Tree::TALLEST, visits),
+        Err(_) => 0,
     };
     Whole::of(Seen::of(visits, names, letters), size)
 }
@@ -84,9 +84,9 @@ impl Work {
             ..
         } = room.lend(text, usize::MAX, usize::MAX);
         match read(text, tokens, 0, job.parens, nodes, names, notes, key) {
-            Reading::Read(c) if reading::is_whole(tokens, c.at) => return Some(c.key),
-            Reading::Read(c) => reading::unread(out, text, tokens, c, *job),
-            Reading::Refused(x) => reading::refused(out, text, tokens, x, *job),
+            Ok(c) if reading::is_whole(tokens, c.at) => return Some(c.key),
+            Ok(c) => reading::unread(out, text, tokens, c, *job),
+            Err(x) => reading::refused(out, text, tokens, x, *job),
         }
         None
     }
@@ -120,8 +120,8 @@ impl Work {
         let mut list = [0; PAIRS];
         let most = self.job.room.min(PAIRS / 2);
         match differ(left, right, &mut list[..2 * most]) {
-            Differing::Found(0) => differing::alike(&mut self.out, self.job.form),
-            Differing::Found(_) => show_trees(
+            Ok(0) => differing::alike(&mut self.out, self.job.form),
+            Ok(_) => show_trees(
                 &mut self.out,
                 &mut self.room,
                 left,
@@ -129,13 +129,13 @@ impl Work {
                 &list,
                 self.job.form,
             )?,
-            Differing::Refused(number, side, bit) => differing::refused(
+            Err(x) => differing::refused(
                 &mut self.out,
                 left,
                 right,
-                number as usize,
-                side_of(side),
-                bit,
+                x.why,
+                side_of(x.side),
+                x.bit,
                 most,
                 self.job.form,
             ),

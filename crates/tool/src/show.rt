@@ -2,7 +2,7 @@
 use crate::room::Lent;
 use crate::work::Work;
 use prints::reading::{granted, refused};
-use typekey::reading::{Reading, read};
+use typekey::reading::read;
 
 impl Work {
     // Reads a type, and prints what it came to.
@@ -17,10 +17,10 @@ impl Work {
             key,
         } = room.lend(text, job.room, job.space);
         match read(text, tokens, 0, job.parens, nodes, names, notes, key) {
-            Reading::Read(c) => granted(
+            Ok(c) => granted(
                 out, text, tokens, nodes, names, visits, notes, key, c, *job,
             ),
-            Reading::Refused(x) => refused(out, text, tokens, x, *job),
+            Err(x) => refused(out, text, tokens, x, *job),
         }
     }
 }

@@ -2,11 +2,11 @@
 ghost use Rattle.std.specs.Prelude.{◌≡◌, ◌<◌, ◌≤◌, ◌^◌};
 
 use crate::head::Head;
-use checks::check::{Checked, check};
+use checks::check::{Fault, check};
 use lines::line::Out;
 use words::ahead::{FunctionStart, function_start, mapped_start, starter};
 use words::cursor::Cursor;
-use words::kind::{class_words, in_class};
+use words::kind::{Class, class_words, in_class};
 use words::token;
 
 // 1 for yes, and 0 for no.
@@ -21,22 +21,30 @@ fn pair(out: &mut Out, first: u64, second: usize) {
 }
 
 // `sound`, or the refusal's number and place.
-fn checked(out: &mut Out, c: Checked) {
+fn checked(out: &mut Out, c: Result<(), Fault>) {
     match c {
-        Checked::Sound => out.bytes(b"sound"),
-        Checked::BadList => pair(out, 1, 0),
-        Checked::BadToken(i) => pair(out, 2, i),
+        Ok(()) => out.bytes(b"sound"),
+        Err(Fault::List) => pair(out, 1, 0),
+        Err(Fault::Token(i)) => pair(out, 2, i),
     }
 }
 
 // The seven classes of a kind, in the order of their bits.
 fn classes_of(out: &mut Out, kind: u8) {
-    let classes = class_words();
-    for class in 0..7 {
-        if 0 < class {
+    let classes = [
+        Class::BindingWord,
+        Class::Name,
+        Class::Starter,
+        Class::Modifier,
+        Class::Good,
+        Class::Fixed,
+        Class::Other,
+    ];
+    for class in classes {
+        if class != Class::BindingWord {
             out.byte(b' ');
         }
-        bit(out, in_class(&classes, usize::from(kind), class));
+        bit(out, in_class(class_words(), usize::from(kind), class));
     }
 }
 
@@ -94,9 +102,9 @@ pub fn answer(out: &mut Out, head: &Head, text: &[u8], words: &[u64]) {
     match head.op {
         0 => checked(out, check(text, words, at)),
         1 => classes_of(out, (head.a % 256) as u8),
-        2 => bit(out, starter(words, &classes, at)),
-        3 => function_case(out, function_start(words, &classes, head.cursor())),
-        4 => bit(out, mapped_start(words, &classes, at)),
+        2 => bit(out, starter(words, classes, at)),
+        3 => function_case(out, function_start(words, classes, head.cursor())),
+        4 => bit(out, mapped_start(words, classes, at)),
         5 => cursor_facts(out, words, head.cursor()),
         _ => all_fields(out, words),
     }
