@@ -1,10 +1,12 @@
 -- What the call that reads promises, over the slices that it is lent, and what its parts do ("The two calls", "Refusal numbers").
-use Rattle.std.specs.Prelude.{ℕ, ◌+◌, ◌*◌, ◌^◌, ◌≤◌, ◌<◌, min, ◌≡◌, Bool, List, length, take}
+use Rattle.std.specs.Prelude.{Result, Ok, Err, ℕ, ◌+◌, ◌*◌, ◌^◌, ◌≤◌, ◌<◌, min, ◌≡◌, Bool, List, length, take}
 use Rattle.std.specs.Borrow.{Bor, MutBor}
 use denote.Triple.Both.{Both}
 use Rattle.words.specs.Limits.{most_key}
 use Rattle.keys.specs.Form.{Fits, nodes as nodesIn, names as names_in, height}
-use Rattle.keys.specs.Limits.{tallest, record_words, no_space}
+use Rattle.keys.specs.Limits.{tallest, record_words}
+use Rattle.words.specs.Refusal.{number_of}
+use Rattle.words.specs.declared.refusal.Refusal.TheVariants as refusal
 use Rattle.keys.specs.Placed.{Placed, bare}
 use Rattle.keys.specs.Table.{type}
 use Rattle.keys.specs.Key.{node_table, key_of}
@@ -13,8 +15,7 @@ use Rattle.keys.specs.Holds.{Stands}
 use Rattle.rules.specs.Read.{Lent, lend, denied, with_key, Answer, reads, refuses, Called, written, read}
 use Rattle.marks.specs.State.{view}
 use Rattle.marks.specs.declared.state.Mark.{Mark}
-use Rattle.answers.specs.declared.reading.Reading.{Reading}
-use Rattle.answers.specs.declared.reading.Reading.TheVariants.{Read, Refused}
+use Rattle.answers.specs.declared.reading.Counts.{Counts}
 use Rattle.answers.specs.declared.reading.Refused as declared
 
 -- A slice at a function's two moments.
@@ -25,10 +26,14 @@ Slice = Both (Bor (List ℕ)) (Bor (List ℕ))
 abbrev pub Filled : Type 0
 Filled = Both (MutBor (List ℕ)) (MutBor (List ℕ))
 
+-- What the code answers.
+abbrev pub Reading : Type 0
+Reading = Result Counts declared.Refused
+
 -- The code's answer in the words of the definitions.
 abbrev pub answer_of : Reading → Answer
-answer_of (Read c) = reads c.nodes c.names c.notes c.at c.half c.key c.entered
-answer_of (Refused r) = refuses r.number r.token r.half r.byte
+answer_of (Ok c) = reads c.nodes c.names c.notes c.at c.half c.key c.entered
+answer_of (Err r) = refuses (number_of r.why) r.token r.half r.byte
 
 -- What the caller sees: the answer, and the final content of every slice.
 abbrev pub seen : Reading → (N M O K : List ℕ) → Called
@@ -49,13 +54,13 @@ module _ (nodes names notes key : Filled) where
 
   -- A refusal is answered, and zeros are left.
   abbrev pub Refuses : declared.Refused → Reading → Type 0
-  Refuses q r = Leaves (written lent_of (denied q.number q.token q.half q.byte)) r
+  Refuses q r = Leaves (written lent_of (denied (number_of q.why) q.token q.half q.byte)) r
 
 -- ---- What its parts do
 
 -- The refusal for want of space.
 abbrev pub NoSpace : declared.Refused → Type 0
-NoSpace r = r ≡ record { number = no_space; token = 0; half = 0; byte = 0 }
+NoSpace r = r ≡ record { why = refusal.NoSpace; token = 0; half = 0; byte = 0 }
 
 -- A tree that was read up to a mark: it is a type within the limits, its nodes stand in the words, its names too if they fit, and they point at its spellings in the text.
 pub record HeldIn (X N M : List ℕ) (q : Mark) (t : Placed) : Type 0 where

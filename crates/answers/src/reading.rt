@@ -10,20 +10,13 @@ use key_out::out::put_key;
 use keys::store;
 use keys::store::clear;
 use marks::notes::{Noting, copy_notes};
-use marks::refusal::Refusal;
 use marks::state::Mark;
 use marks::tally::entered;
 use words::limits::{Key, Tree};
-
-// What the call answers.
-#[derive(Clone, Copy)]
-pub enum Reading {
-    Read(Counts),
-    Refused(Refused),
-}
+use words::refusal::Refusal;
 
 // How much was used of each slice, where the last node is the root; the end cursor; and how many type rules were entered.
-#[derive(Clone, Copy)]
+#[derive(Clone, Copy, Debug, PartialEq, Eq)]
 pub struct Counts {
     pub nodes: usize,
     pub names: usize,
@@ -34,13 +27,27 @@ pub struct Counts {
     pub entered: usize,
 }
 
-// A refusal's number; its token, the half used of it, and the first byte not used: all 0 where there is no such place.
-#[derive(Clone, Copy)]
+// Why a text is refused; its token, the half used of it, and the first byte not used: all 0 where there is no such place.
+#[derive(Clone, Copy, Debug, PartialEq, Eq)]
 pub struct Refused {
-    pub number: usize,
+    pub why: Refusal,
     pub token: usize,
     pub half: usize,
     pub byte: usize,
+}
+
+impl Refused {
+    // A refusal that has no place.
+    pub fn nowhere(why: Refusal) -> Refused
+        ensures { result ≡ record { why = why; token = 0; half = 0; byte = 0 } }
+    {
+        Refused {
+            why,
+            token: 0,
+            half: 0,
+            byte: 0,
+        }
+    }
 }
 
 // A refusal, after which nothing is left in what was lent.
@@ -50,26 +57,21 @@ pub fn refuse(
     notes: &mut [u64],
     key: &mut [u8],
     r: Refused,
-) -> Reading
+) -> Result<Counts, Refused>
     ensures { Refuses nodes names notes key r result }
 {
     nodes.fill(0);
     names.fill(0);
     notes.fill(0);
     key.fill(0);
-    Reading::Refused(r)
+    Err(r)
 }
 
-// The refusal for want of space: it has no place.
+// The refusal for want of space.
 fn no_space() -> Refused
     ensures { NoSpace result }
 {
-    Refused {
-        number: Refusal::NO_SPACE,
-        token: 0,
-        half: 0,
-        byte: 0,
-    }
+    Refused::nowhere(Refusal::NoSpace)
 }
 
 // The key of the type whose root is given, then zeros, if it fits; its length.
@@ -81,8 +83,14 @@ fn put(nodes: &[u64], names: &[u64], text: &[u8], root: usize, key: &mut [u8]) -
         return put_key(nodes, names, text, root, Tree::TALLEST, key);
     }
     key.fill(0);
-    let most = Key::MOST;
-    put_key(nodes, names, text, root, Tree::TALLEST, &mut key[..most])
+    put_key(
+        nodes,
+        names,
+        text,
+        root,
+        Tree::TALLEST,
+        &mut key[..Key::MOST],
+    )
 }
 
 // A tree that was read up to a mark gets its key; 11 where that or the names find no space.
@@ -94,7 +102,7 @@ pub fn finish(
     notes: &mut [u64],
     key: &mut [u8],
     q: Mark,
-) -> Reading
+) -> Result<Counts, Refused>
     requires { (0 < q.used) × (q.used < 2 ^ 32) × (q.used * record_words ≤ length nodes.old) × (q.noted ≤ most_notes) × (q.noted * note_width ≤ length notes.old) }
     ensures { (t : Placed) → Held text nodes names q t → Finishes noting nodes names notes key q t result }
 {
@@ -108,7 +116,7 @@ pub fn finish(
     clear(nodes, q.used * store::RECORD, 0);
     clear(names, q.named, 0);
     copy_notes(noting, q.noted, notes);
-    let c = Counts {
+    Ok(Counts {
         nodes: q.used,
         names: q.named,
         notes: q.noted,
@@ -116,6 +124,5 @@ pub fn finish(
         at: q.at,
         half: q.half,
         entered: entered(noting),
-    };
-    Reading::Read(c)
+    })
 }

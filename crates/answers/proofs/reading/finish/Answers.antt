@@ -16,4 +16,4 @@ returns-then-key-n c =
 
 pub returns : goal.returns
 returns c =
-    λ t h. finished h c.put-n.ensures (omega (arith, c.requires)) (omega (arith, c.if-names-q.false)) _ c.args.noting.now (omega (arith, c.if-key-n.false, c.put-n.auto)) c.clear_words.ensures c.clear_words-2.ensures c.copy_notes.ensures c.entered.ensures
+    λ t h. finished h c.put-n.ensures (omega (arith, c.requires)) (omega (arith, c.if-names-q.false)) _ c.args.noting.now (omega (arith, c.if-key-n.false, c.put-n.auto)) c.clear.ensures c.clear-2.ensures c.copy_notes.ensures c.entered.ensures

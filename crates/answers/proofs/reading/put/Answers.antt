@@ -13,12 +13,12 @@ returns-then-key-le-MOST c =
 
 pub slice_bounds-put_key-end-2 : goal.slice_bounds-put_key-end-2
 slice_bounds-put_key-end-2 c =
-    sym (length-take-le 262144 c.clear_bytes.new.bytes (omega (arith, c.if-key-le-MOST.false, c.clear_bytes.auto)))
+    sym (length-take-le 262144 c.fill.new.self (omega (arith, c.if-key-le-MOST.false, c.clear_bytes.auto)))
 
 pub put_key-requires-2 : goal.put_key-requires-2
 put_key-requires-2 c =
-    (short_front (take 262144 c.clear_bytes.new.bytes) (length-take-le 262144 c.clear_bytes.new.bytes (omega (arith, c.if-key-le-MOST.false, c.clear_bytes.auto))), c.requires)
+    (short_front (take 262144 c.fill.new.self) (length-take-le 262144 c.fill.new.self (omega (arith, c.if-key-le-MOST.false, c.clear_bytes.auto))), c.requires)
 
 pub returns : goal.returns
 returns c =
-    wrote_front (length-take-le 262144 c.clear_bytes.new.bytes (omega (arith, c.if-key-le-MOST.false, c.clear_bytes.auto))) (omega (arith, c.if-key-le-MOST.false)) (zeros c.clear_bytes.new.bytes c.args.key.now c.clear_bytes.ensures) c.put_key-2.ensures
+    wrote_front (length-take-le 262144 c.fill.new.self (omega (arith, c.if-key-le-MOST.false, c.clear_bytes.auto))) (omega (arith, c.if-key-le-MOST.false)) (zeros c.fill.new.self c.args.key.now c.clear_bytes.ensures) c.put_key-2.ensures
