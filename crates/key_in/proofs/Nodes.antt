@@ -22,7 +22,8 @@ use Rattle.key_parts.specs.Place.{state_at, Halts}
 use Rattle.key_parts.specs.Choice.{Picked, PickedIn}
 use Rattle.key_parts.specs.Widths.{Spans}
 use Rattle.key_parts.specs.Step.{Steady, Housed, with_child, fill_on, Went, PlainIn, Linked, AfterIn}
-use Rattle.key_in.specs.Back.{NodeIn, Asks, NodesIn}
+use Rattle.key_in.specs.declared.back.Outputs.{Outputs}
+use Rattle.key_in.specs.Back.{Same, NodeIn, Asks, NodesIn}
 use Rattle.std.specs.Prelude.{Result, Ok, Err}
 use Rattle.words.specs.declared.refusal.Refusal.TheVariants.{TooTall, NoRoom, BadKey}
 use Rattle.key_parts.specs.declared.refusal.Stop.{Stop}
@@ -31,6 +32,10 @@ use Rattle.key_parts.specs.declared.place.Fill.{Fill}
 use Rattle.key_parts.specs.declared.choice.Pick.{Pick}
 use Rattle.key_parts.proofs.Steps.{halts_after}
 use Rattle.key_parts.proofs.Walk.{went_none, went_then, names_went, went_fill_on, spans_nodes, nodes_spans}
+
+-- The same outputs, twice.
+pub same_then : {t u v : Outputs} → Same t u → Same u v → Same t v
+same_then a b = record { nodes = b.nodes ∙ a.nodes; names = b.names ∙ a.names; text = b.text ∙ a.text }
 
 -- ---- The same over lengths that are equal
 

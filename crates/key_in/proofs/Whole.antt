@@ -240,6 +240,11 @@ module _ (key : List ℕ) (n k m : ℕ) where
                       };
                 }
 
+-- The same of outputs that are equal.
+pub whole_kept : {key : List ℕ} {n k m : ℕ} {r : Result Pos Stop} {N M X N' M' X' : List ℕ} → WholeIn key n k m r N M X → N' ≡ N → M' ≡ M → X' ≡ X → WholeIn key n k m r N' M' X'
+whole_kept {key} {n} {k} {m} {r} {N} {M} {X} {N'} {M'} {X'} w a b c =
+    subst (λ (x : List ℕ). WholeIn key n k m r x M' X') (sym a) (subst₂ (λ (y z : List ℕ). WholeIn key n k m r N y z) (sym b) (sym c) w)
+
 -- ---- What the call leaves
 
 module _ (key : List ℕ) (a b c : ℕ) (N M X : List ℕ) (la : length N ≡ a) (lb : length M ≡ b) (lc : length X ≡ c) where

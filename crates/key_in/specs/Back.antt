@@ -16,6 +16,7 @@ use Rattle.key_parts.specs.Runs.{ran, form_run, node_run}
 use Rattle.key_parts.specs.Place.{state_at, Inside, Halts, Lent, Filled, bits_in, long}
 use Rattle.key_parts.specs.Widths.{Spans, Slim, Sized}
 use Rattle.key_parts.specs.Step.{Steady, Housed, Went}
+use Rattle.key_in.specs.declared.back.Outputs.{Outputs}
 use Rattle.key_parts.specs.declared.place.Pos.{Pos}
 use Rattle.key_parts.specs.declared.place.Fill.{Fill}
 use Rattle.key_parts.specs.declared.refusal.Stop.{Stop}
@@ -104,15 +105,21 @@ AsksNodes forms key nodes names text r s =
 
 -- ---- What is answered over what is lent
 
-abbrev pub TakesNode : (forms key : Lent) (nodes names text : Filled) (left class : ℕ) (p : Pos) (q : Result Pos Stop) → Type 0
-TakesNode forms key nodes names text left class p q =
-    NodeIn (bits_in key) (long names) (long text) (grammar_of forms.entry.now) left class p
-    nodes.entry.now names.entry.now text.entry.now q nodes.exit.now names.exit.now text.exit.now
+-- The same outputs are lent.
+pub record Same (t u : Outputs) : Type 0 where
+  pub nodes : u.nodes.ghost_name ≡ t.nodes.ghost_name
+  pub names : u.names.ghost_name ≡ t.names.ghost_name
+  pub text : u.text.ghost_name ≡ t.text.ghost_name
 
-abbrev pub TakesNodes : (forms key : Lent) (nodes names text : Filled) (left : ℕ) (r : Row) (s : Fill) (q : Result Fill Stop) → Type 0
-TakesNodes forms key nodes names text left r s q =
-    NodesIn (bits_in key) (long names) (long text) (grammar_of forms.entry.now) left r s
-    nodes.entry.now names.entry.now text.entry.now q nodes.exit.now names.exit.now text.exit.now
+abbrev pub TakesNode : (forms key : Lent) (t : Outputs) (left class : ℕ) (p : Pos) (q : Result Pos Stop) (u : Outputs) → Type 0
+TakesNode forms key t left class p q u =
+    NodeIn (bits_in key) (length t.names.now) (length t.text.now) (grammar_of forms.entry.now) left class p
+    t.nodes.now t.names.now t.text.now q u.nodes.now u.names.now u.text.now
+
+abbrev pub TakesNodes : (forms key : Lent) (t : Outputs) (left : ℕ) (r : Row) (s : Fill) (q : Result Fill Stop) (u : Outputs) → Type 0
+TakesNodes forms key t left r s q u =
+    NodesIn (bits_in key) (length t.names.now) (length t.text.now) (grammar_of forms.entry.now) left r s
+    t.nodes.now t.names.now t.text.now q u.nodes.now u.names.now u.text.now
 
 abbrev pub TakesWhole : (key : Lent) (nodes names text : Filled) (q : Result Pos Stop) → Type 0
 TakesWhole key nodes names text q =

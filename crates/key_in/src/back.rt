@@ -14,97 +14,105 @@ use node_table::forms;
 use node_table::forms::{Row, TABLE};
 use words::limits::{Key, Tree};
 
-// A node of a class, with room for `left` nodes one above the other: it meets 10 at its tag, 6, 8, then its fields in order.
-#[cycle(take)]
-fn take_node(
-    forms: &[u16; TABLE],
-    key: &[u8],
-    nodes: &mut [u64],
-    names: &mut [u64],
-    text: &mut [u8],
-    class: usize,
-    left: usize,
-    p: Pos,
-) -> Result<Pos, Stop>
-    requires { back.AsksNode forms.now key.now nodes.old names.old text.old class p }
-    ensures { back.TakesNode forms key nodes names text left class p result }
-{
-    let bit = p.bit;
-    let steps = forms::word_at(forms, 1);
-    let tags = forms::class_at(forms, class);
-    let tag = choice::take_tag(forms, key, steps, tags, bit)?;
-    if left == 0 {
-        return Err(Stop {
-            why: Refusal::TooTall,
-            bit,
-        });
-    }
-    if p.nodes == 0 {
-        return Err(Stop {
-            why: Refusal::NoRoom,
-            bit,
-        });
-    }
-    let mut s = Fill {
-        at: Pos {
-            bit: tag.bit,
-            nodes: p.nodes - 1,
-            ..p
-        },
-        base: p.used,
-        word: tag.number as u64,
-        shift: tags.w,
-        child: 0,
-        form: tag.form,
-        n: tag.n,
-    };
-    for done in 0..steps {
-        let r = forms::row_at(forms, s.form);
-        if r.op == forms::END {
-            store::append_node(nodes, s.at.used, s.word, 0, 0, s.child, p.names);
-            return Ok(Pos {
-                used: s.at.used + 1,
-                ..s.at
-            });
-        }
-        if r.op == forms::NODES {
-            s = take_nodes(forms, key, nodes, names, text, left - 1, r, s)?;
-        } else {
-            s = step::take_plain(forms, key, names, text, steps - (done + 1), r, s)?;
-        }
-    }
-    Err(Stop {
-        why: Refusal::BadKey,
-        bit: s.at.bit,
-    })
+// What a key is taken back into.
+#[derive(Drop)]
+struct Outputs<'a> {
+    nodes: &'a mut [u64],
+    names: &'a mut [u64],
+    text: &'a mut [u8],
 }
 
-// n nodes, one after the other, a spelling after each if its length has any bits.
-#[cycle(take)]
-fn take_nodes(
-    forms: &[u16; TABLE],
-    key: &[u8],
-    nodes: &mut [u64],
-    names: &mut [u64],
-    text: &mut [u8],
-    left: usize,
-    r: Row,
-    s: Fill,
-) -> Result<Fill, Stop>
-    requires { back.AsksNodes forms.now key.now nodes.old names.old text.old r s }
-    ensures { back.TakesNodes forms key nodes names text left r s result }
-{
-    let mut q = s;
-    for _ in 0..s.n {
-        let at = take_node(forms, key, nodes, names, text, r.a, left, q.at)?;
-        q = step::link_child(nodes, q, at);
-        q = step::take_after(key, names, text, r.w, q)?;
+impl Outputs<'_> {
+    // A node of a class, with room for `left` nodes one above the other: it meets 10 at its tag, 6, 8, then its fields in order.
+    #[cycle(take)]
+    fn node(
+        &mut self,
+        forms: &[u16; TABLE],
+        key: &[u8],
+        class: usize,
+        left: usize,
+        p: Pos,
+    ) -> Result<Pos, Stop>
+        requires { back.AsksNode forms.now key.now self.old.nodes.now self.old.names.now self.old.text.now class p }
+        ensures same { back.Same self.old self.new }
+        ensures takes { back.TakesNode forms key self.old left class p result self.new }
+    {
+        let bit = p.bit;
+        let steps = forms::word_at(forms, 1);
+        let tags = forms::class_at(forms, class);
+        let tag = choice::take_tag(forms, key, steps, tags, bit)?;
+        if left == 0 {
+            return Err(Stop {
+                why: Refusal::TooTall,
+                bit,
+            });
+        }
+        if p.nodes == 0 {
+            return Err(Stop {
+                why: Refusal::NoRoom,
+                bit,
+            });
+        }
+        let mut s = Fill {
+            at: Pos {
+                bit: tag.bit,
+                nodes: p.nodes - 1,
+                ..p
+            },
+            base: p.used,
+            word: tag.number as u64,
+            shift: tags.w,
+            child: 0,
+            form: tag.form,
+            n: tag.n,
+        };
+        for done in 0..steps {
+            let r = forms::row_at(forms, s.form);
+            if r.op == forms::END {
+                store::append_node(self.nodes, s.at.used, s.word, 0, 0, s.child, p.names);
+                return Ok(Pos {
+                    used: s.at.used + 1,
+                    ..s.at
+                });
+            }
+            if r.op == forms::NODES {
+                s = self.row(forms, key, left - 1, r, s)?;
+            } else {
+                s = step::take_plain(forms, key, self.names, self.text, steps - (done + 1), r, s)?;
+            }
+        }
+        Err(Stop {
+            why: Refusal::BadKey,
+            bit: s.at.bit,
+        })
     }
-    Ok(Fill {
-        form: r.b,
-        n: 1,
-        ..q
-    })
+
+    // n nodes, one after the other, a spelling after each if its length has any bits.
+    #[cycle(take)]
+    fn row(
+        &mut self,
+        forms: &[u16; TABLE],
+        key: &[u8],
+        left: usize,
+        r: Row,
+        s: Fill,
+    ) -> Result<Fill, Stop>
+        requires { back.AsksNodes forms.now key.now self.old.nodes.now self.old.names.now self.old.text.now r s }
+        ensures same { back.Same self.old self.new }
+        ensures takes { back.TakesNodes forms key self.old left r s result self.new }
+    {
+        let mut q = s;
+        for _ in 0..s.n {
+            let at = self.node(forms, key, r.a, left, q.at)?;
+            q = step::link_child(self.nodes, q, at);
+            q = step::take_after(key, self.names, self.text, r.w, q)?;
+        }
+        Ok(Fill {
+            form: r.b,
+            n: 1,
+            ..q
+        })
+    }
 }
 
 // A whole key: not too long, its edition, its tree, zero bits to the byte and no byte more.
@@ -137,16 +145,8 @@ fn take_whole(
         names: 0,
         chars: 0,
     };
-    let q = take_node(
-        &words,
-        key,
-        nodes,
-        names,
-        text,
-        forms::TYPE,
-        Tree::TALLEST,
-        start,
-    )?;
+    let mut outputs = Outputs { nodes, names, text };
+    let q = outputs.node(&words, key, forms::TYPE, Tree::TALLEST, start)?;
     let end = padding::pad_end(key, q.bit);
     if end < key.len() * 8 {
         return Err(Stop { bit: end, ..bad });
