@@ -31,7 +31,7 @@ fn halves(low: usize, high: usize) -> u64
     low as u64 + HALF * high as u64
 }
 
-// The record of a finished node, at the next place: its choices, its first and end byte, its first child and first name, no next sibling.
+// The record of a finished node, at the next place: its choices, its first and end byte, its first child and first name, no next sibling. Word by word: with `copy_from_slice` the reading takes a twelfth longer.
 pub fn append_node(
     nodes: &mut [u64],
     at: usize,
@@ -44,9 +44,11 @@ pub fn append_node(
     requires { (record_words * (at + 1) ≤ length nodes.old) × (first < 2 ^ 63) × (end < 2 ^ 31) × (child < 2 ^ 63) × (name < 2 ^ 31) }
     ensures { first_nodes nodes.new (at + 1) ≡ first_nodes nodes.old at ++ (choices ∷ (first + half_word * end) ∷ (child + half_word * name) ∷ 0 ∷ []) }
 {
-    let record = [choices, halves(first, end), halves(child, name), 0];
     let to = at * RECORD;
-    nodes[to..to + RECORD].copy_from_slice(&record);
+    nodes[to + CHOICES] = choices;
+    nodes[to + PLACE] = halves(first, end);
+    nodes[to + UNDER] = halves(child, name);
+    nodes[to + NEXT] = 0;
 }
 
 // A node's next sibling.

@@ -1,19 +1,11 @@
 -- A record of four words behind the nodes before it.
 use native.Mathlib.Omega.{arith}
-use mathlib.Core.Path.{◌≡◌, ◌∙◌, ap, ap₂}
-use mathlib.Core.List.{List, ◌++◌, ◌∷◌, []}
-use Prim.Native.Nat.{ℕ, ◌*◌}
-use lib.ListN.{length, take}
-use Rattle.std.proofs.lemmas.Slice.{take-put_mid}
-use Rattle.keys.specs.Words.{first_nodes}
+use mathlib.Core.Path.{◌≡◌}
+use Prim.Native.Nat.{◌+◌, ◌*◌}
+use Rattle.keys.proofs.Cells.{four_stored, four_words}
 use Rattle.keys.proofs.store.append_node.Goals as goal
 
 pub returns : goal.returns
-unfolding first_nodes
 returns c =
-    let old = c.args.nodes.now in
-    let at = c.args.at in
-    let four : length c.copy_from_slice.new.self ≡ 4 = ap length c.copy_from_slice.ensures.after in
-    take-put_mid (at * 4) _ old c.copy_from_slice.new.self _ (omega (arith, four)) (omega arith)
-    ∙ ap₂ (λ (k : ℕ) (ws : List ℕ). take k old ++ ws) (omega arith)
-    (c.copy_from_slice.ensures.after ∙ ap₂ (λ (p u : ℕ). c.args.choices ∷ p ∷ u ∷ 0 ∷ []) c.halves.ensures c.halves-2.ensures)
+    let first : c.args.at * 4 + 0 ≡ c.args.at * 4 = omega arith in
+    rw first (four_words c.args.nodes.now _ c.args.at c.args.choices c.halves.ensures c.halves-2.ensures (four_stored c.args.nodes.now c.args.at c.args.choices _ _ 0 (omega arith)))
