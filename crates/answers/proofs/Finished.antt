@@ -23,7 +23,7 @@ use Rattle.marks.specs.State.{notes_of, tally_of, view}
 use Rattle.marks.proofs.LaidLaws.{length_notes}
 use Rattle.marks.specs.declared.state.Mark.{Mark}
 use Rattle.answers.specs.Reading.{seen, HeldIn, WroteIn, NoSpace}
-use Rattle.answers.specs.declared.reading.Reading.TheVariants.{Read}
+use Rattle.std.specs.Prelude.{Ok}
 use Rattle.answers.specs.declared.reading.Refused as declared
 
 -- Calls that leave the same.
@@ -81,7 +81,7 @@ module _ {X N M : List ℕ} {q : Mark} {t : Placed} (h : HeldIn X N M q t) where
     -- All fits.
     pub finished : (c : ℕ) (O : List ℕ) {N' M' O' : List ℕ} {entered : ℕ} → n ≤ d → N' ≡ filled (length N) (take (q.used * record_words) N) → M' ≡ filled (length M) (take q.named M)
         → O' ≡ filled c (note_words (notes_of O q.noted)) → entered ≡ (tally_of O).entered
-        → seen (Read (record { nodes = q.used; names = q.named; notes = q.noted; key = n; at = q.at; half = q.half; entered = entered })) N' M' O' K
+        → seen (Ok (record { nodes = q.used; names = q.named; notes = q.noted; key = n; at = q.at; half = q.half; entered = entered })) N' M' O' K
         ≡ written (lend (length N) (length M) c d) (with_key (lend (length N) (length M) c d) t (view q O))
     finished c O fit as-nodes as-names as-notes counted =
         let long : n ≡ length key = omega (arith, size, h.short) in

@@ -1,5 +1,5 @@
 -- What the call that reads promises, over the slices that it is lent, and what its parts do ("The two calls", "Refusal numbers").
-use Rattle.std.specs.Prelude.{ℕ, ◌+◌, ◌*◌, ◌^◌, ◌≤◌, ◌<◌, min, ◌≡◌, Bool, List, length, take}
+use Rattle.std.specs.Prelude.{Result, Ok, Err, ℕ, ◌+◌, ◌*◌, ◌^◌, ◌≤◌, ◌<◌, min, ◌≡◌, Bool, List, length, take}
 use Rattle.std.specs.Borrow.{Bor, MutBor}
 use denote.Triple.Both.{Both}
 use Rattle.words.specs.Limits.{most_key}
@@ -13,8 +13,7 @@ use Rattle.keys.specs.Holds.{Stands}
 use Rattle.rules.specs.Read.{Lent, lend, denied, with_key, Answer, reads, refuses, Called, written, read}
 use Rattle.marks.specs.State.{view}
 use Rattle.marks.specs.declared.state.Mark.{Mark}
-use Rattle.answers.specs.declared.reading.Reading.{Reading}
-use Rattle.answers.specs.declared.reading.Reading.TheVariants.{Read, Refused}
+use Rattle.answers.specs.declared.reading.Counts.{Counts}
 use Rattle.answers.specs.declared.reading.Refused as declared
 
 -- A slice at a function's two moments.
@@ -25,10 +24,14 @@ Slice = Both (Bor (List ℕ)) (Bor (List ℕ))
 abbrev pub Filled : Type 0
 Filled = Both (MutBor (List ℕ)) (MutBor (List ℕ))
 
+-- What the code answers.
+abbrev pub Reading : Type 0
+Reading = Result Counts declared.Refused
+
 -- The code's answer in the words of the definitions.
 abbrev pub answer_of : Reading → Answer
-answer_of (Read c) = reads c.nodes c.names c.notes c.at c.half c.key c.entered
-answer_of (Refused r) = refuses r.number r.token r.half r.byte
+answer_of (Ok c) = reads c.nodes c.names c.notes c.at c.half c.key c.entered
+answer_of (Err r) = refuses r.number r.token r.half r.byte
 
 -- What the caller sees: the answer, and the final content of every slice.
 abbrev pub seen : Reading → (N M O K : List ℕ) → Called

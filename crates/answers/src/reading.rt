@@ -1,6 +1,7 @@
 // What the call that reads answers: a tree with its key, or a refusal, after which nothing is left.
 ghost use Rattle.std.specs.Prelude.{◌≡◌, ◌*◌, ◌≤◌, ◌<◌, ◌^◌, length};
 ghost use Rattle.words.specs.Limits.{most_notes};
+ghost use Rattle.words.specs.Refusal.{number_of};
 ghost use Rattle.keys.specs.Limits.{record_words};
 ghost use Rattle.keys.specs.Placed.{Placed};
 ghost use Rattle.rules.specs.Notes.{note_width};
@@ -10,20 +11,13 @@ use key_out::out::put_key;
 use keys::store;
 use keys::store::{clear_bytes, clear_words};
 use marks::notes::{Noting, copy_notes};
-use marks::refusal::Refusal;
 use marks::state::Mark;
 use marks::tally::entered;
 use words::limits::{Key, Tree};
-
-// What the call answers.
-#[derive(Clone, Copy)]
-pub enum Reading {
-    Read(Counts),
-    Refused(Refused),
-}
+use words::refusal::Refusal;
 
 // How much was used of each slice, where the last node is the root; the end cursor; and how many type rules were entered.
-#[derive(Clone, Copy)]
+#[derive(Clone, Copy, Debug, PartialEq, Eq)]
 pub struct Counts {
     pub nodes: usize,
     pub names: usize,
@@ -35,12 +29,26 @@ pub struct Counts {
 }
 
 // A refusal's number; its token, the half used of it, and the first byte not used: all 0 where there is no such place.
-#[derive(Clone, Copy)]
+#[derive(Clone, Copy, Debug, PartialEq, Eq)]
 pub struct Refused {
     pub number: usize,
     pub token: usize,
     pub half: usize,
     pub byte: usize,
+}
+
+impl Refused {
+    // A refusal that has no place.
+    pub fn nowhere(why: Refusal) -> Refused
+        ensures { result ≡ record { number = number_of why; token = 0; half = 0; byte = 0 } }
+    {
+        Refused {
+            number: why.number(),
+            token: 0,
+            half: 0,
+            byte: 0,
+        }
+    }
 }
 
 // A refusal, after which nothing is left in what was lent.
@@ -50,26 +58,21 @@ pub fn refuse(
     notes: &mut [u64],
     key: &mut [u8],
     r: Refused,
-) -> Reading
+) -> Result<Counts, Refused>
     ensures { Refuses nodes names notes key r result }
 {
     clear_words(nodes, 0);
     clear_words(names, 0);
     clear_words(notes, 0);
     clear_bytes(key, 0);
-    Reading::Refused(r)
+    Err(r)
 }
 
-// The refusal for want of space: it has no place.
+// The refusal for want of space.
 fn no_space() -> Refused
     ensures { NoSpace result }
 {
-    Refused {
-        number: Refusal::NO_SPACE,
-        token: 0,
-        half: 0,
-        byte: 0,
-    }
+    Refused::nowhere(Refusal::NoSpace)
 }
 
 // The key of the type whose root is given, then zeros, if it fits; its length.
@@ -81,8 +84,14 @@ fn put(nodes: &[u64], names: &[u64], text: &[u8], root: usize, key: &mut [u8]) -
         return put_key(nodes, names, text, root, Tree::TALLEST, key);
     }
     clear_bytes(key, 0);
-    let most = Key::MOST;
-    put_key(nodes, names, text, root, Tree::TALLEST, &mut key[..most])
+    put_key(
+        nodes,
+        names,
+        text,
+        root,
+        Tree::TALLEST,
+        &mut key[..Key::MOST],
+    )
 }
 
 // A tree that was read up to a mark gets its key; 11 where that or the names find no space.
@@ -94,7 +103,7 @@ pub fn finish(
     notes: &mut [u64],
     key: &mut [u8],
     q: Mark,
-) -> Reading
+) -> Result<Counts, Refused>
     requires { (0 < q.used) × (q.used < 2 ^ 32) × (q.used * record_words ≤ length nodes.old) × (q.noted ≤ most_notes) × (q.noted * note_width ≤ length notes.old) }
     ensures { (t : Placed) → Held text nodes names q t → Finishes noting nodes names notes key q t result }
 {
@@ -108,7 +117,7 @@ pub fn finish(
     clear_words(nodes, q.used * store::RECORD);
     clear_words(names, q.named);
     copy_notes(noting, q.noted, notes);
-    let c = Counts {
+    Ok(Counts {
         nodes: q.used,
         names: q.named,
         notes: q.noted,
@@ -116,6 +125,5 @@ pub fn finish(
         at: q.at,
         half: q.half,
         entered: entered(noting),
-    };
-    Reading::Read(c)
+    })
 }

@@ -28,6 +28,7 @@ use Rattle.marks.specs.Laid.{run_in, was_at, Laid}
 use Rattle.marks.proofs.LaidLaws.{length_notes}
 use Rattle.marks.specs.declared.state.Mark.{Mark}
 use Rattle.answers.specs.Reading.{HeldIn}
+use Rattle.answers.specs.declared.reading.Refused.{Refused}
 
 -- ---- A list that passed the check
 
@@ -97,7 +98,7 @@ module _ (text W : List ℕ) (start : ℕ) (parens : Bool) (l : Lent) (passed : 
     reads_refused e f w same = rw (passed, e) (rw (← same) (rw f at w))
 
 -- Of a list that did not pass the check.
-pub reads_bad : (text W : List ℕ) (start : ℕ) (parens : Bool) (l : Lent) {n p : ℕ} {z : Called} → check text W start ≡ refused n p
-    → z ≡ written l (denied n p 0 0) → z ≡ rules.read text W start parens l
+pub reads_bad : (text W : List ℕ) (start : ℕ) (parens : Bool) (l : Lent) {n p : ℕ} {r : Refused} {z : Called} → check text W start ≡ refused n p
+    → r ≡ record { number = n; token = p; half = 0; byte = 0 } → z ≡ written l (denied r.number r.token r.half r.byte) → z ≡ rules.read text W start parens l
 unfolding rules.read
-reads_bad text W start parens l e w = rw e w
+reads_bad text W start parens l e is w = rw e (rw is at w)

@@ -4,16 +4,16 @@ ghost use Rattle.words.specs.Check.{sound, check as checkOf};
 ghost use Rattle.marks.specs.Tally.{Untallied};
 ghost use Rattle.answers.specs.Reading.{Reads};
 
-use answers::reading::{Reading, Refused, finish, refuse};
-use checks::check::{Checked, check};
+use answers::reading::{Counts, Refused, finish, refuse};
+use checks::check::{Fault, check};
 use keys::store;
 use marks::notes::Noting;
-use marks::refusal::Refusal;
 use marks::state::{Given, Mark};
 use readers::ring::ty;
 use words::cursor::Cursor;
 use words::kind::class_words;
 use words::limits::OpenRules;
+use words::refusal::Refusal;
 
 // A sound list is read from a token on, conditionals on; its diagnostics are noted, and its type rules counted, in words of the call's own.
 fn read_noting(
@@ -26,7 +26,7 @@ fn read_noting(
     names: &mut [u64],
     notes: &mut [u64],
     key: &mut [u8],
-) -> Reading
+) -> Result<Counts, Refused>
     requires { (checkOf text.now tokens.now start ≡ sound) × Untallied noting.old }
     ensures { Reads nodes names notes key text tokens start preserve_parens result }
 {
@@ -37,26 +37,24 @@ fn read_noting(
         parens: preserve_parens,
         left: OpenRules::MOST,
     };
-    let first = Cursor::start(start);
     let m = Mark {
-        at: first.at,
-        half: first.half,
+        at: start,
+        half: 0,
         used: 0,
         named: 0,
         noted: 0,
     };
-    let a = ty(text, tokens, &classes, nodes, names, noting, given, true, m);
+    let a = ty(text, tokens, classes, nodes, names, noting, given, true, m);
     let q = a.m;
     if a.why != 0 {
-        let used = q.half;
         let place = Cursor {
             at: q.at,
-            half: used,
+            half: q.half,
         };
         let r = Refused {
             number: a.why,
-            token: q.at,
-            half: q.half,
+            token: place.at,
+            half: place.half,
             byte: place.first_byte(tokens),
         };
         return refuse(nodes, names, notes, key, r);
@@ -74,7 +72,7 @@ fn read_sound(
     names: &mut [u64],
     notes: &mut [u64],
     key: &mut [u8],
-) -> Reading
+) -> Result<Counts, Refused>
     requires { checkOf text.now tokens.now start ≡ sound }
     ensures { Reads nodes names notes key text tokens start preserve_parens result }
 {
@@ -102,40 +100,30 @@ pub fn read(
     names: &mut [u64],
     notes: &mut [u64],
     key: &mut [u8],
-) -> Reading
+) -> Result<Counts, Refused>
     ensures { Reads nodes names notes key text tokens start preserve_parens result }
 {
-    let found = check(text, tokens, start);
-    match found {
-        Checked::Sound => {
-            return read_sound(
-                text,
-                tokens,
-                start,
-                preserve_parens,
-                nodes,
-                names,
-                notes,
-                key,
-            );
+    match check(text, tokens, start) {
+        Ok(()) => read_sound(
+            text,
+            tokens,
+            start,
+            preserve_parens,
+            nodes,
+            names,
+            notes,
+            key,
+        ),
+        Err(Fault::List) => {
+            let r = Refused::nowhere(Refusal::BadList);
+            refuse(nodes, names, notes, key, r)
         }
-        Checked::BadList => {
+        Err(Fault::Token(token)) => {
             let r = Refused {
-                number: Refusal::BAD_LIST,
-                token: 0,
-                half: 0,
-                byte: 0,
+                token,
+                ..Refused::nowhere(Refusal::BadToken)
             };
-            return refuse(nodes, names, notes, key, r);
-        }
-        Checked::BadToken(i) => {
-            let r = Refused {
-                number: Refusal::BAD_TOKEN,
-                token: i,
-                half: 0,
-                byte: 0,
-            };
-            return refuse(nodes, names, notes, key, r);
+            refuse(nodes, names, notes, key, r)
         }
     }
 }

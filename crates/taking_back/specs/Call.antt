@@ -1,10 +1,11 @@
 -- What the call that takes a key back promises, over the slices that it is lent ("The two calls", "Refusal numbers").
-use Rattle.std.specs.Prelude.{◌≡◌, List, ℕ, length}
+use Rattle.words.specs.Refusal.{number_of}
+use Rattle.std.specs.Prelude.{Result, Ok, Err, ◌≡◌, List, ℕ, length}
 use Rattle.std.specs.Borrow.{Bor, MutBor}
 use denote.Triple.Both.{Both}
 use Rattle.keys.specs.Store.{Answer, back, no, TakenBack, take_back}
-use Rattle.taking_back.specs.declared.call.Taking.{Taking}
-use Rattle.taking_back.specs.declared.call.Taking.TheVariants.{Taken, Refused}
+use Rattle.taking_back.specs.declared.call.Used.{Used}
+use Rattle.key_parts.specs.declared.refusal.Stop.{Stop}
 
 -- A slice at a function's two moments, lent to be read.
 abbrev pub Slice : Type 0
@@ -14,10 +15,14 @@ Slice = Both (Bor (List ℕ)) (Bor (List ℕ))
 abbrev pub Filled : Type 0
 Filled = Both (MutBor (List ℕ)) (MutBor (List ℕ))
 
+-- What the code answers.
+abbrev pub Taking : Type 0
+Taking = Result Used Stop
+
 -- The code's answer in the words of the definitions.
 abbrev pub answer_of : Taking → Answer
-answer_of (Taken u) = back u.nodes u.names u.letters
-answer_of (Refused n) = no n.number n.bit
+answer_of (Ok u) = back u.nodes u.names u.letters
+answer_of (Err n) = no (number_of n.why) n.bit
 
 -- What the caller sees: the answer, and the final content of every slice.
 abbrev pub seen : Taking → (N M X : List ℕ) → TakenBack

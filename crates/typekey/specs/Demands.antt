@@ -1,6 +1,6 @@
 -- The three demands, sentence by sentence, of what a caller of the open calls sees, what W9 asks of the third, W4's count, and W14's positions and spaces. A text or a key is a list of bytes; trees are compared as bare values, positions aside.
 -- That what is seen is `left c`, `takeBack` or `differ`, whatever is given and lent, is the promise of each call: `Reads` in `answers/specs/Reading`, `TakesBack` in `taking_back/specs/Call`, `Differs` in `comparing/specs/Call`.
-use Rattle.std.specs.Prelude.{◌≡◌, refl, ◌↔◌, Bool, true, false, List, [], ℕ, ◌+◌, ◌*◌, ◌/◌, ◌≤◌, leb, length, take}
+use Rattle.std.specs.Prelude.{Ok, Err, ◌≡◌, refl, ◌↔◌, Bool, true, false, List, [], ℕ, ◌+◌, ◌*◌, ◌/◌, ◌≤◌, leb, length, take}
 use Rattle.std.proofs.Common.{sym, ap, ◌∙◌, subst}
 use Rattle.std.proofs.Math.Seq.{take-append_seam}
 use Rattle.keys.specs.Bits.{bits_of_bytes}
@@ -27,19 +27,16 @@ use Rattle.differs.specs.Content.{Pair, content_of, differences}
 use Rattle.differs.specs.Differ as difference
 use Rattle.differs.specs.Differ.{checked, found, Differed, declined, reported, besides, begins, differ, turned, Rises, many_differences, no_side, left_side, right_side}
 use Rattle.comparing.specs.Call as differing
+use Rattle.comparing.specs.Call.{Differing}
+use Rattle.comparing.proofs.Differing.{one_answer}
+use Rattle.words.specs.Refusal.{number_of}
+use Rattle.words.proofs.Refusals.{one_refusal}
 use Rattle.differs.proofs.Theorems as pairs
 use Rattle.comparing.proofs.Keys as alike
 use Rattle.answers.specs.Reading as reading
+use Rattle.answers.specs.Reading.{Reading}
 use Rattle.taking_back.specs.Call as taking
-use Rattle.answers.specs.declared.reading.Reading.{Reading}
-use Rattle.answers.specs.declared.reading.Reading.TheVariants as reads
-use Rattle.answers.specs.declared.reading.Reading.TheVariants.{Read}
-use Rattle.comparing.specs.declared.differ.Differing.{Differing}
-use Rattle.comparing.specs.declared.differ.Differing.TheVariants as compares
-use Rattle.comparing.specs.declared.differ.Differing.TheVariants.{Found}
-use Rattle.taking_back.specs.declared.call.Taking.{Taking}
-use Rattle.taking_back.specs.declared.call.Taking.TheVariants as takes
-use Rattle.taking_back.specs.declared.call.Taking.TheVariants.{Taken}
+use Rattle.taking_back.specs.Call.{Taking}
 
 -- ---- What a caller of `read` sees
 module _ (c : Call) (bytes : Bytes c.text) {z : Called} (seen : z ≡ left c) where
@@ -213,7 +210,7 @@ module _ {c c' : Call} (bytes : Bytes c.text) (bytes' : Bytes c'.text) (r : Resp
 -- ---- Nothing is left open: any two results that fit a call's promise coincide, without exception
 
 same_reading : (a b : Reading) → reading.answer_of a ≡ reading.answer_of b → a ≡ b
-same_reading (Read c) (Read d) e =
+same_reading (Ok c) (Ok d) e =
     let e0 : c.nodes ≡ d.nodes = cc in
     let e1 : c.names ≡ d.names = cc in
     let e2 : c.notes ≡ d.notes = cc in
@@ -221,15 +218,15 @@ same_reading (Read c) (Read d) e =
     let e4 : c.at ≡ d.at = cc in
     let e5 : c.half ≡ d.half = cc in
     let e6 : c.entered ≡ d.entered = cc in
-    λ i. Read (record { nodes = e0 i; names = e1 i; notes = e2 i; key = e3 i; at = e4 i; half = e5 i; entered = e6 i })
-same_reading (Read c) (reads.Refused d) e = clash (cc)
-same_reading (reads.Refused c) (Read d) e = clash (cc)
-same_reading (reads.Refused c) (reads.Refused d) e =
+    λ i. Ok (record { nodes = e0 i; names = e1 i; notes = e2 i; key = e3 i; at = e4 i; half = e5 i; entered = e6 i })
+same_reading (Ok c) (Err d) e = clash (cc)
+same_reading (Err c) (Ok d) e = clash (cc)
+same_reading (Err c) (Err d) e =
     let e0 : c.number ≡ d.number = cc in
     let e1 : c.token ≡ d.token = cc in
     let e2 : c.half ≡ d.half = cc in
     let e3 : c.byte ≡ d.byte = cc in
-    λ i. reads.Refused (record { number = e0 i; token = e1 i; half = e2 i; byte = e3 i })
+    λ i. Err (record { number = e0 i; token = e1 i; half = e2 i; byte = e3 i })
 
 -- Of `read`.
 pub one_reading : {c : Called} (r r' : Reading) {N M O K N' M' O' K' : List ℕ} → reading.seen r N M O K ≡ c → reading.seen r' N' M' O' K' ≡ c
@@ -239,17 +236,18 @@ one_reading r r' a b =
     (same_reading r r' (ap (λ y. y.answer) e), ap (λ y. y.node_words) e, ap (λ y. y.name_words) e, ap (λ y. y.note_words) e, ap (λ y. y.key) e)
 
 same_taking : (a b : Taking) → taking.answer_of a ≡ taking.answer_of b → a ≡ b
-same_taking (Taken c) (Taken d) e =
+same_taking (Ok c) (Ok d) e =
     let e0 : c.nodes ≡ d.nodes = cc in
     let e1 : c.names ≡ d.names = cc in
     let e2 : c.letters ≡ d.letters = cc in
-    λ i. Taken (record { nodes = e0 i; names = e1 i; letters = e2 i })
-same_taking (Taken c) (takes.Refused d) e = clash (cc)
-same_taking (takes.Refused c) (Taken d) e = clash (cc)
-same_taking (takes.Refused c) (takes.Refused d) e =
-    let e0 : c.number ≡ d.number = cc in
-    let e1 : c.bit ≡ d.bit = cc in
-    λ i. takes.Refused (record { number = e0 i; bit = e1 i })
+    λ i. Ok (record { nodes = e0 i; names = e1 i; letters = e2 i })
+same_taking (Ok c) (Err d) e = clash (cc)
+same_taking (Err c) (Ok d) e = clash (cc)
+same_taking (Err c) (Err d) e =
+    let e0 : number_of c.why ≡ number_of d.why = cc in
+    let e1 : c.why ≡ d.why = one_refusal c.why d.why e0 in
+    let e2 : c.bit ≡ d.bit = cc in
+    λ i. Err (record { why = e1 i; bit = e2 i })
 
 -- Of `take_back`.
 pub one_taking : {c : TakenBack} (r r' : Taking) {N M X N' M' X' : List ℕ} → taking.seen r N M X ≡ c → taking.seen r' N' M' X' ≡ c
@@ -257,18 +255,7 @@ pub one_taking : {c : TakenBack} (r r' : Taking) {N M X N' M' X' : List ℕ} →
 one_taking r r' a b =
     let e = a ∙ sym b in (same_taking r r' (ap (λ y. y.answer) e), ap (λ y. y.node_words) e, ap (λ y. y.name_words) e, ap (λ y. y.text) e)
 
-same_difference : (a b : Differing) → differing.answer_of a ≡ differing.answer_of b → a ≡ b
-same_difference (Found n) (Found m) e =
-    let e0 : n ≡ m = cc in ap Found e0
-same_difference (Found n) (compares.Refused w s p) e = clash (cc)
-same_difference (compares.Refused w s p) (Found m) e = clash (cc)
-same_difference (compares.Refused w s p) (compares.Refused w' s' p') e =
-    let e0 : w ≡ w' = cc in
-    let e1 : s ≡ s' = cc in
-    let e2 : p ≡ p' = cc in
-    λ i. compares.Refused (e0 i) (e1 i) (e2 i)
-
 -- Of `differ`.
 pub one_difference : {c : Differed} (r r' : Differing) {L L' : List ℕ} → differing.seen r L ≡ c → differing.seen r' L' ≡ c → (r ≡ r') × (L ≡ L')
 one_difference r r' a b =
-    let e = a ∙ sym b in (same_difference r r' (ap (λ y. y.answer) e), ap (λ y. y.list) e)
+    let e = a ∙ sym b in (one_answer r r' (ap (λ y. y.answer) e), ap (λ y. y.list) e)

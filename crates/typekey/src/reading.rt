@@ -1,7 +1,7 @@
 // The call that reads: any text, tokens, start and lent slices; tree, names, diagnostics and key, or a refusal and zeros.
 ghost use Rattle.answers.specs.Reading.{Reads};
 
-pub use answers::reading::{Counts, Reading, Refused};
+pub use answers::reading::{Counts, Refused};
 
 // Reads a type from the token `start` on.
 pub fn read(
@@ -13,7 +13,7 @@ pub fn read(
     names: &mut [u64],
     notes: &mut [u64],
     key: &mut [u8],
-) -> Reading
+) -> Result<Counts, Refused>
     ensures { Reads nodes names notes key text tokens start preserve_parens result }
 {
     calls::reading::read(

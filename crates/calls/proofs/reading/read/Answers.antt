@@ -1,17 +1,16 @@
 -- The call is what the check says of it: a reading of a sound list, or a refusal.
 use mathlib.Core.Path.{sym, ap, ◌∙◌}
+use Rattle.std.specs.Prelude.{Err}
 use Rattle.checks.specs.Verdict.{verdict}
+use Rattle.checks.specs.declared.check.Fault.{Fault}
+use Rattle.answers.specs.declared.reading.Refused.{Refused}
 use Rattle.calls.proofs.Ruled.{reads_bad}
 use Rattle.calls.proofs.reading.read.Goals as goal
 
-pub read_sound-requires : goal.read_sound-requires
-read_sound-requires c =
-    sym c.check-found.ensures ∙ ap verdict c.in-Sound.is
+pub returns-in-Err-List : goal.returns-in-Err-List
+returns-in-Err-List c =
+    reads_bad _ _ _ _ _ (sym c.check.ensures ∙ ap verdict c.in-Err-List.is ∙ ap (λ (f : Fault). verdict (Err f)) c.in-Err-List.field-0-is) c.nowhere-r.ensures c.refuse.ensures
 
-pub returns-in-BadList : goal.returns-in-BadList
-returns-in-BadList c =
-    reads_bad _ _ _ _ _ (sym c.check-found.ensures ∙ ap verdict c.in-BadList.is) c.refuse.ensures
-
-pub returns-in-BadToken : goal.returns-in-BadToken
-returns-in-BadToken c =
-    reads_bad _ _ _ _ _ (sym c.check-found.ensures ∙ ap verdict c.in-BadToken.is) c.refuse-in-BadToken.ensures
+pub returns-in-Err-Token : goal.returns-in-Err-Token
+returns-in-Err-Token c =
+    reads_bad _ _ _ _ _ (sym c.check.ensures ∙ ap verdict c.in-Err-Token.is ∙ ap (λ (f : Fault). verdict (Err f)) c.in-Err-Token.field-0-is) (ap (λ (r : Refused). record { number = r.number; token = c.in-Err-Token.token; half = r.half; byte = r.byte }) c.nowhere.ensures) c.refuse-in-Err-Token.ensures
