@@ -222,11 +222,12 @@ same_reading (Ok c) (Ok d) e =
 same_reading (Ok c) (Err d) e = clash (cc)
 same_reading (Err c) (Ok d) e = clash (cc)
 same_reading (Err c) (Err d) e =
-    let e0 : c.number ≡ d.number = cc in
-    let e1 : c.token ≡ d.token = cc in
-    let e2 : c.half ≡ d.half = cc in
-    let e3 : c.byte ≡ d.byte = cc in
-    λ i. Err (record { number = e0 i; token = e1 i; half = e2 i; byte = e3 i })
+    let e0 : number_of c.why ≡ number_of d.why = cc in
+    let e1 : c.why ≡ d.why = one_refusal c.why d.why e0 in
+    let e2 : c.token ≡ d.token = cc in
+    let e3 : c.half ≡ d.half = cc in
+    let e4 : c.byte ≡ d.byte = cc in
+    λ i. Err (record { why = e1 i; token = e2 i; half = e3 i; byte = e4 i })
 
 -- Of `read`.
 pub one_reading : {c : Called} (r r' : Reading) {N M O K N' M' O' K' : List ℕ} → reading.seen r N M O K ≡ c → reading.seen r' N' M' O' K' ≡ c
