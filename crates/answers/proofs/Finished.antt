@@ -1,12 +1,12 @@
 -- What is left of a tree that was read: with its key and diagnostics, or zeros for want of space.
 use mathlib.Core.Path.{◌≡◌, refl, sym, ap, ◌∙◌}
 use mathlib.Core.Bool.{Bool, true, false}
-use mathlib.Core.List.{List}
-use Prim.Native.Nat.{ℕ, ◌+◌, ◌*◌, ◌^◌, ◌≤◌, ◌<◌, min}
+use mathlib.Core.List.{List, []}
+use Prim.Native.Nat.{ℕ, ◌+◌, ◌-◌, ◌*◌, ◌^◌, ◌≤◌, ◌<◌, min}
 use native.Mathlib.Omega.{arith}
 use borrow.Author.Tests.{le-leb, lt-leb}
 use lib.Dec.{leb}
-use lib.ListN.{length, take}
+use lib.ListN.{length, take, replicate}
 use Rattle.words.specs.Test.{◌and◌}
 use Rattle.keys.specs.Form.{nodes}
 use Rattle.keys.specs.Limits.{record_words}
@@ -31,6 +31,11 @@ use Rattle.answers.specs.declared.reading.Refused as declared
 pub called_is : {a b : Answer} {n m o k n' m' o' k' : List ℕ} → a ≡ b → n ≡ n' → m ≡ m' → o ≡ o' → k ≡ k'
     → ◌≡◌ {A = Called} (record { answer = a; node_words = n; name_words = m; note_words = o; key = k }) (record { answer = b; node_words = n'; name_words = m'; note_words = o'; key = k' })
 called_is e f g h i = rw (e, f, g, h, i)
+
+-- A slice that is zeros alone has no part used.
+pub cleared : {l : List ℕ} (n : ℕ) → l ≡ replicate n 0 → l ≡ filled n []
+cleared n e =
+    let all : n ≡ n - 0 = omega arith in e ∙ ap (λ (k : ℕ). replicate {A = ℕ} k 0) all
 
 -- ---- No space
 

@@ -4,6 +4,7 @@ use native.Mathlib.Omega.{arith}
 use lib.ListN.{take}
 use lib.Seq.{length-take-le}
 use Rattle.keys.proofs.StoreLaws.{zeros}
+use Rattle.answers.proofs.Finished.{cleared}
 use Rattle.answers.proofs.Fronts.{wrote_all, wrote_front, short_front}
 use Rattle.answers.proofs.reading.put.Goals as goal
 
@@ -13,12 +14,12 @@ returns-then-key-le-MOST c =
 
 pub slice_bounds-put_key-end-2 : goal.slice_bounds-put_key-end-2
 slice_bounds-put_key-end-2 c =
-    sym (length-take-le 262144 c.fill.new.self (omega (arith, c.if-key-le-MOST.false, c.clear_bytes.auto)))
+    sym (length-take-le 262144 c.fill.new.self (omega (arith, c.if-key-le-MOST.false, c.fill.auto)))
 
 pub put_key-requires-2 : goal.put_key-requires-2
 put_key-requires-2 c =
-    (short_front (take 262144 c.fill.new.self) (length-take-le 262144 c.fill.new.self (omega (arith, c.if-key-le-MOST.false, c.clear_bytes.auto))), c.requires)
+    (short_front (take 262144 c.fill.new.self) (length-take-le 262144 c.fill.new.self (omega (arith, c.if-key-le-MOST.false, c.fill.auto))), c.requires)
 
 pub returns : goal.returns
 returns c =
-    wrote_front (length-take-le 262144 c.fill.new.self (omega (arith, c.if-key-le-MOST.false, c.clear_bytes.auto))) (omega (arith, c.if-key-le-MOST.false)) (zeros c.fill.new.self c.args.key.now c.clear_bytes.ensures) c.put_key-2.ensures
+    wrote_front (length-take-le 262144 c.fill.new.self (omega (arith, c.if-key-le-MOST.false, c.fill.auto))) (omega (arith, c.if-key-le-MOST.false)) (zeros c.fill.new.self c.args.key.now (cleared _ (c.fill.ensures.after (λ y e. e)))) c.put_key-2.ensures
