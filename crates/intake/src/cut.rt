@@ -387,7 +387,7 @@ impl<'a> Cutter<'a> {
     }
 }
 
-// The token words of a text, as many as there is room for, with the end; how many there are.
+// The token words of a text, as many as there is room for, with the end; how many there are, so the loop counts.
 pub fn cut(text: &[u8], words: &mut [u64]) -> usize
     ensures { (result ≤ 16385) × IsPrefixLen result words.new }
 {

@@ -96,7 +96,7 @@ fn shaped(out: &mut Out, b: u8, shape: Shape) {
     }
 }
 
-// The bytes of a text from one index up to another, each in a shape.
+// The bytes of a text from one index up to another, each in a shape; by index, since past the end of the text stands 0.
 pub fn copy(out: &mut Out, text: &[u8], from: usize, to: usize, shape: Shape) {
     for i in from..to {
         shaped(out, byte_at(text, i), shape);
