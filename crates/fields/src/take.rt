@@ -17,7 +17,7 @@ pub fn four_at(key: &[u8], at: usize) -> u64
 fn byte_or_zero(key: &[u8], at: usize) -> u8
     ensures { result ≡ get_or key.now at 0 }
 {
-    if at < key.len() { key[at] } else { 0 }
+    key.get(at).copied().unwrap_or(0)
 }
 
 // The same where the key ends before the fourth.

@@ -1,6 +1,6 @@
 -- Whether the table has no form at a number, as the code tests it.
 use mathlib.Core.Path.{◌≡◌, refl, sym, ap, ◌∙◌}
-use mathlib.Core.Bool.{false}
+use mathlib.Core.Bool.{Bool, false}
 use mathlib.Core.List.{List}
 use Prim.Native.Nat.{ℕ, zero, suc, ◌-◌, ◌≤◌, ◌<◌}
 use native.Mathlib.Omega.{arith}
@@ -35,6 +35,16 @@ module _ (T : List ℕ) (steps f : ℕ) where
 
     pub some_steps : (n : ℕ) → 1 ≤ n → eqb r.op 0 ≡ is_never (form_of T steps n f)
     some_steps n l = never_by T (λ m g. form_of T (steps - 1) m g) n (entry_of r) r.op l ∙ sym (ap is_never (at n r.op refl))
+
+    module _ (n : ℕ) (z : n ≡ 0) where
+      at_none : (k : ℕ) → r.op ≡ k → form_of T steps n f ≡ form_by T (λ m g. form_of T (steps - 1) m g) 0 (entry_of r) k
+      at_none k e = ap (λ (x : ℕ). form_of T steps x f) z ∙ at 0 k e
+
+      pub past_words : {b : Bool} → r.op ≡ 2 → ((m : ℕ) → 1 ≤ m → b ≡ is_never (form_of T (steps - 1) m r.b)) → b ≡ is_never (form_of T steps n f)
+      past_words e k = k 1 (omega arith) ∙ sym (ap is_never (at_none 2 e))
+
+      pub past_nodes : {b : Bool} → r.op ≡ 3 → ((m : ℕ) → 1 ≤ m → b ≡ is_never (form_of T (steps - 1) m r.b)) → b ≡ is_never (form_of T steps n f)
+      past_nodes e k = k 1 (omega arith) ∙ sym (ap is_never (at_none 3 e))
 
 pub some_times : (n : ℕ) → (n ≡ 0 → ⊥) → 1 ≤ n
 some_times zero h = absurd (h refl)
