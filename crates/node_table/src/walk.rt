@@ -57,7 +57,7 @@ pub trait Sink: Copy {
     fn knows(self, class: usize, word: u64) -> bool
         ensures { result ≡ known class word };
 
-    // All of such a node.
+    // All of such a node; of another nothing is promised.
     fn at_once(
         self,
         items: &mut [Self::Item],
@@ -66,8 +66,8 @@ pub trait Sink: Copy {
         depth: usize,
         o: Mark,
     ) -> Mark
-        requires { MayPut (seen items.old) o.to × (o.name ≤ most self) × (known class word ≡ true) }
-        ensures { (N : List ℕ) (left at : ℕ) → word_at N at ≡ word → Noded out (grammar_of (table_words count_width)) N (asks self) left depth (most self) class at o.name o.to (seen items.old) result.name result.to (seen items.new) };
+        requires { MayPut (seen items.old) o.to × (o.name ≤ most self) }
+        ensures { known class word ≡ true → (N : List ℕ) (left at : ℕ) → word_at N at ≡ word → Noded out (grammar_of (table_words count_width)) N (asks self) left depth (most self) class at o.name o.to (seen items.old) result.name result.to (seen items.new) };
 
     ghost sound: { Sound out };
 }

@@ -8,4 +8,4 @@ use Rattle.keys.proofs.store.append_node.Goals as goal
 pub returns : goal.returns
 returns c =
     let first : c.args.at * 4 + 0 ≡ c.args.at * 4 = omega arith in
-    rw first (four_words c.args.nodes.now _ c.args.at c.args.choices c.halves.ensures c.halves-2.ensures (four_stored c.args.nodes.now c.args.at c.args.choices _ _ 0 (omega arith)))
+    rw first (four_words c.args.nodes.now _ c.args.at c.args.choices c.halves-place.ensures c.halves-under.ensures (four_stored c.args.nodes.now c.args.at c.args.choices _ _ 0 (omega arith)))
