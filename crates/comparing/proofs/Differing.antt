@@ -14,7 +14,7 @@ use Rattle.keys.specs.Key.{Taken, node_table}
 use Rattle.keys.specs.Store.{filled}
 use Rattle.node_table.specs.Forms.{grammar_of}
 use Rattle.differs.specs.Content.{Content, ends, enters, content_of, Pair, differences}
-use Rattle.differs.specs.Differ.{words_of, found, Differed, declined, reported, besides, begins, differ, many_differences, no_side}
+use Rattle.differs.specs.Differ.{words_of, found, Differed, declined, reported, besides, begins, differ}
 use Rattle.sound_keys.specs.Sound.{reads, read_node, Good}
 use Rattle.walks.specs.Walk.{Begins, IsRead, Walked}
 use Rattle.std.specs.Prelude.{Ok, Err}

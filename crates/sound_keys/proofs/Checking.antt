@@ -14,7 +14,7 @@ use Rattle.key_parts.specs.declared.choice.Pick.{Pick}
 use Rattle.keys.specs.Store.{done, chose}
 use Rattle.keys.specs.Bits.{Bits, Field, short, field, take_field, take_bytes, bits_of_bytes}
 use Rattle.keys.proofs.BitsLaws.{clash, length_bytes}
-use Rattle.keys.specs.Form.{Form, word, both, child, is_never, state}
+use Rattle.keys.specs.Form.{Form, word, both, is_never, state}
 use Rattle.keys.specs.Limits.{bad_key}
 use Rattle.fields.specs.Take.{answered}
 use Rattle.std.proofs.Common.{Some, None}

@@ -1,5 +1,4 @@
 -- Two nodes walked together.
-use Prim.Native.Nat.{◌+◌}
 use native.Mathlib.Omega.{arith}
 use Rattle.keys.specs.Form.{one}
 use Rattle.walks.specs.Walk.{left_bits, right_bits, grammar}
