@@ -24,8 +24,8 @@ use Rattle.marks.proofs.BoundLaws.{laid_bound}
 use Rattle.marks.proofs.LeafLaws.{no_kids, one_kid}
 use Rattle.marks.specs.declared.state.Mark.{Mark}
 use Rattle.marks.specs.declared.state.Kids.{Kids}
-use Rattle.marks.specs.declared.state.Answer.{Answer}
-use Rattle.marks.specs.declared.state.Listed.{Listed}
+use Rattle.marks.specs.Told.{Answer}
+use Rattle.marks.specs.Told.{Listed}
 
 -- The same children under another name.
 pub built_as : {B : Was} {t : Run} {k l : Kids} {used named noted : ℕ} {N M O : List ℕ} → l ≡ k → Built B t k used named noted N M O → Built B t l used named noted N M O

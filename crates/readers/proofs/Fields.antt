@@ -2,9 +2,9 @@
 use mathlib.Core.Path.{◌≡◌, ap}
 use Rattle.marks.specs.declared.state.Mark.{Mark}
 use Rattle.marks.specs.declared.state.Kids.{Kids}
-use Rattle.marks.specs.declared.state.Answer.{Answer}
-use Rattle.marks.specs.declared.state.Listed.{Listed}
-use Rattle.functions.specs.declared.function.Params.{Params}
+use Rattle.marks.specs.Told.{Answer}
+use Rattle.marks.specs.Told.{Listed}
+use Rattle.functions.specs.Told.{Params}
 
 -- Marks.
 pub record SameMark (m q : Mark) : Type 0 where

@@ -35,7 +35,7 @@ use Rattle.marks.proofs.BoundLaws.{laid_bound}
 use Rattle.marks.proofs.LeafLaws.{under_one}
 use Rattle.marks.specs.declared.state.Given.{Given}
 use Rattle.marks.specs.declared.state.Mark.{Mark}
-use Rattle.marks.specs.declared.state.Answer.{Answer}
+use Rattle.marks.specs.Told.{Answer}
 use Rattle.members.specs.declared.object.IndexParams.{IndexParams}
 use Rattle.readers.proofs.Loops.{IndexTurn}
 use Rattle.readers.proofs.MemberLaws.{built_stepped}

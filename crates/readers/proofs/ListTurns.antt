@@ -25,8 +25,8 @@ use Rattle.parts.proofs.Turns.{ListTurn, looped, turn_list}
 use Rattle.marks.specs.declared.state.Given.{Given}
 use Rattle.marks.specs.declared.state.Mark.{Mark}
 use Rattle.marks.specs.declared.state.Kids.{Kids}
-use Rattle.marks.specs.declared.state.Answer.{Answer}
-use Rattle.marks.specs.declared.state.Listed.{Listed}
+use Rattle.marks.specs.Told.{Answer}
+use Rattle.marks.specs.Told.{Listed}
 use Rattle.readers.proofs.MovedLaws.{built_moved}
 
 -- The list is absent.

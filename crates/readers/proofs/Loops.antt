@@ -28,7 +28,7 @@ use Rattle.parts.proofs.Turns.{ListTurn, TreeTurn, PieceTurn, looped}
 use Rattle.members.specs.Object.{IndexIs, kept_run}
 use Rattle.marks.specs.declared.state.Mark.{Mark}
 use Rattle.marks.specs.declared.state.Kids.{Kids}
-use Rattle.tuples.specs.declared.tuple.Latest.{Latest}
+use Rattle.tuples.specs.Told.{Latest}
 use Rattle.members.specs.declared.object.IndexParams.{IndexParams}
 
 module _ (g : Given) (T : Reader) where

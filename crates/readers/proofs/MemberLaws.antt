@@ -34,10 +34,10 @@ use Rattle.marks.specs.declared.state.Given.{Given}
 use Rattle.marks.specs.declared.state.Mark.{Mark}
 use Rattle.marks.specs.declared.state.Begin.{Begin}
 use Rattle.marks.specs.declared.state.Kids.{Kids}
-use Rattle.marks.specs.declared.state.Answer.{Answer}
+use Rattle.marks.specs.Told.{Answer}
 use Rattle.functions.specs.declared.function.This.{This as ThisCode}
-use Rattle.functions.specs.declared.function.Params.{Params}
-use Rattle.members.specs.declared.object.MemberHead.{MemberHead}
+use Rattle.functions.specs.Told.{Params}
+use Rattle.members.specs.Told.{MemberHead}
 use Rattle.readers.proofs.SignatureLaws.{return_linked}
 
 -- ---- Steps

@@ -11,7 +11,7 @@ use Rattle.marks.specs.Says.{Says}
 use Rattle.marks.proofs.StepLaws.{built_at}
 use Rattle.marks.specs.declared.state.Mark.{Mark}
 use Rattle.marks.specs.declared.state.Kids.{Kids}
-use Rattle.marks.specs.declared.state.Answer.{Answer}
+use Rattle.marks.specs.Told.{Answer}
 
 -- The slices hold the same at both marks.
 was_moved : {len : ℕ} {m q : Mark} → Moved len m q → (N M O : List ℕ) → was q N M O ≡ was m N M O

@@ -13,7 +13,7 @@ use Rattle.marks.proofs.Answers.{says_same, says_stop}
 use Rattle.operators.proofs.OperatorLaws.{operators_refused}
 use Rattle.marks.specs.declared.state.Given.{Given}
 use Rattle.marks.specs.declared.state.Mark.{Mark}
-use Rattle.marks.specs.declared.state.Answer.{Answer}
+use Rattle.marks.specs.Told.{Answer}
 use Rattle.readers.proofs.MovedLaws.{says_moved}
 
 -- An operand y that begins at q, behind the prefixes from m on, which make x of it.

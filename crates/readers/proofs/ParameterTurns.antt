@@ -25,9 +25,9 @@ use Rattle.parts.proofs.Turns.{built_more}
 use Rattle.functions.proofs.ParameterListLaws.{parameters_closed, parameters_none, parameters_go}
 use Rattle.marks.specs.declared.state.Mark.{Mark}
 use Rattle.marks.specs.declared.state.Kids.{Kids}
-use Rattle.marks.specs.declared.state.Answer.{Answer}
+use Rattle.marks.specs.Told.{Answer}
 use Rattle.functions.specs.declared.function.This.{This as ThisCode}
-use Rattle.functions.specs.declared.function.Params.{Params}
+use Rattle.functions.specs.Told.{Params}
 use Rattle.readers.proofs.Loops.{ParametersTurn}
 
 -- A parameter may begin: neither a modifier word nor a `this` is there.

@@ -28,11 +28,11 @@ use Rattle.marks.proofs.StepLaws.{built_at}
 use Rattle.functions.proofs.ParameterListLaws.{opens_this, this_refused, this_goes, this_stops}
 use Rattle.marks.specs.declared.state.Mark.{Mark}
 use Rattle.marks.specs.declared.state.Kids.{Kids}
-use Rattle.marks.specs.declared.state.Head.{Head}
-use Rattle.marks.specs.declared.state.Answer.{Answer}
-use Rattle.marks.specs.declared.state.Listed.{Listed}
+use Rattle.marks.specs.Told.{Head}
+use Rattle.marks.specs.Told.{Answer}
+use Rattle.marks.specs.Told.{Listed}
 use Rattle.functions.specs.declared.function.This.{This as ThisCode}
-use Rattle.functions.specs.declared.function.Params.{Params}
+use Rattle.functions.specs.Told.{Params}
 use Rattle.readers.proofs.MovedLaws.{built_moved}
 use Rattle.readers.proofs.ChildLaws.{built_as}
 use Rattle.readers.proofs.ParameterTurns.{refused_params}

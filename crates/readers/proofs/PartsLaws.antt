@@ -29,7 +29,7 @@ use Rattle.parts.proofs.Turns.{ListTurn, built_more}
 use Rattle.marks.specs.declared.state.Given.{Given}
 use Rattle.marks.specs.declared.state.Mark.{Mark}
 use Rattle.marks.specs.declared.state.Kids.{Kids}
-use Rattle.marks.specs.declared.state.Answer.{Answer}
+use Rattle.marks.specs.Told.{Answer}
 use Rattle.readers.proofs.Loops.{end_parts, parts_of, part_due, behind_one}
 use Rattle.readers.proofs.ListTurns.{turn_starts}
 

@@ -24,10 +24,10 @@ use Rattle.parts.proofs.RingLaws.{expect_yes, expect_no, function_is, behind_par
 use Rattle.marks.proofs.StepLaws.{view_past}
 use Rattle.marks.specs.declared.state.Given.{Given}
 use Rattle.marks.specs.declared.state.Mark.{Mark}
-use Rattle.marks.specs.declared.state.Answer.{Answer}
+use Rattle.marks.specs.Told.{Answer}
 use Rattle.functions.specs.declared.function.This.{This as ThisCode}
 use Rattle.functions.specs.declared.function.FunctionHead.{FunctionHead}
-use Rattle.functions.specs.declared.function.Params.{Params}
+use Rattle.functions.specs.Told.{Params}
 
 -- The rule from where its head ends.
 pub function_from : (text W : List ℕ) (given : Given) (T : Reader) (on : Bool) {m : Mark} {h : FunctionHead} (O : List ℕ) → HeadIs W m h

@@ -25,7 +25,7 @@ use Rattle.parts.proofs.Turns.{TreeTurn}
 use Rattle.marks.specs.declared.state.Given.{Given}
 use Rattle.marks.specs.declared.state.Mark.{Mark}
 use Rattle.marks.specs.declared.state.Begin.{Begin}
-use Rattle.marks.specs.declared.state.Answer.{Answer}
+use Rattle.marks.specs.Told.{Answer}
 
 -- A mark that follows lies inside the list.
 pub suffixed_inside : (g : rule.Given) (s : State) → suffixed g s ≡ true → s.at < length g.words

@@ -29,9 +29,9 @@ use Rattle.parts.proofs.Turns.{looped, built_more}
 use Rattle.marks.specs.declared.state.Given.{Given}
 use Rattle.marks.specs.declared.state.Mark.{Mark}
 use Rattle.marks.specs.declared.state.Kids.{Kids}
-use Rattle.marks.specs.declared.state.Answer.{Answer}
-use Rattle.tuples.specs.declared.tuple.Latest.{Latest}
-use Rattle.tuples.specs.declared.tuple.Seen.{Seen}
+use Rattle.marks.specs.Told.{Answer}
+use Rattle.tuples.specs.Told.{Latest}
+use Rattle.tuples.specs.Told.{Seen}
 use Rattle.readers.proofs.MovedLaws.{built_moved}
 use Rattle.readers.proofs.Loops.{TupleTurn, end_tuple}
 

@@ -22,10 +22,10 @@ use Rattle.marks.specs.declared.state.Given.{Given}
 use Rattle.marks.specs.declared.state.Mark.{Mark}
 use Rattle.marks.specs.declared.state.Begin.{Begin}
 use Rattle.marks.specs.declared.state.Kids.{Kids}
-use Rattle.marks.specs.declared.state.Answer.{Answer}
-use Rattle.marks.specs.declared.state.Listed.{Listed}
+use Rattle.marks.specs.Told.{Answer}
+use Rattle.marks.specs.Told.{Listed}
 use Rattle.functions.specs.declared.function.This.{This}
-use Rattle.functions.specs.declared.function.Params.{Params}
+use Rattle.functions.specs.Told.{Params}
 
 -- A slice at a function's two moments.
 abbrev pub Lent : Type 0

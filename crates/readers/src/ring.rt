@@ -20,6 +20,8 @@ ghost use Rattle.rules.specs.Object as object;
 ghost use Rattle.rules.specs.Tuple as tuple;
 ghost use Rattle.rules.specs.Template as template;
 ghost use Rattle.marks.specs.State.{Under, place_of};
+ghost use Rattle.marks.specs.Told.{told, told_list};
+ghost use Rattle.functions.specs.Told.{told_params};
 ghost use Rattle.primaries.specs.Onward as onward;
 ghost use Rattle.readers.specs.Ring.{below, Past, Ready, Begun, Reads, ReadsList, Child, OnwardChild, Option, Behind, ReadsParams, ReadsOthers, ReadsSignature, ReadsIndex, Within, WithinList, WithinParams, Onward};
 
@@ -29,11 +31,10 @@ use functions::function::{
 };
 use marks::list::{list_end, past_comma};
 use marks::names::spell;
-use marks::node::{Tag, link, opt_bit, put, put_about, put_list};
+use marks::node::{Tag, link, put, put_about, put_list};
 use marks::notes::{Note, Noting};
-use marks::refusal::Refusal;
 use marks::state::{
-    Answer, Begin, Given, Kids, Listed, Mark, first_byte, kind_after, kind_at, on_line, past,
+    Begin, Entries, Given, Kids, Mark, Read, Stop, first_byte, kind_after, kind_at, on_line, past,
 };
 use marks::tally::{enter, open_trials, set_trials};
 use members::object::{
@@ -50,9 +51,10 @@ use primaries::lone::{is_lone, lone};
 use primaries::primary::{
     Start, keyword, literal, parens_node, predicates, primary_start, subject,
 };
-use tuples::tuple::{Latest, checked, element_head, element_node, tuple_node};
+use tuples::tuple::{checked, element_head, element_node, tuple_node};
 use words::ahead::starter;
 use words::kind::Kind;
+use words::refusal::Refusal;
 
 // Type: a function type where one starts, else a union, which `extends` on its line makes a conditional where that is allowed;
 // 5 where no rule may open any more.
@@ -67,38 +69,36 @@ pub fn ty(
     given: Given,
     on: bool,
     m: Mark,
-) -> Answer
+) -> Result<Read, Stop>
     requires { Ready text.now words.now classes.now nodes.old given m }
-    ensures reads { Reads 0 (λ g. read_type g given.left on) text words given m nodes names notes result }
-    ensures within { Within words given result }
-    ensures onward { Onward m result }
+    ensures reads { Reads 0 (λ g. read_type g given.left on) text words given m nodes names notes (told result) }
+    ensures within { Within words given (told result) }
+    ensures onward { Onward m (told result) }
 {
     if given.left == 0 {
-        return Answer::refused(Refusal::TOO_DEEP, m);
+        return Err(Stop {
+            why: Refusal::TooDeep,
+            m,
+        });
     }
     let below = Given {
-        room: given.room,
-        records: given.records,
-        parens: given.parens,
         left: given.left - 1,
+        ..given
     };
     enter(notes);
     if begins(words, classes, m) {
         return function(text, words, classes, nodes, names, notes, below, on, m);
     }
-    let a = union(text, words, classes, nodes, names, notes, below, on, m);
-    if a.why != 0 {
-        return a;
-    }
+    let a = union(text, words, classes, nodes, names, notes, below, on, m)?;
     if !on {
-        return a;
+        return Ok(a);
     }
     let q = a.m;
     if !on_line(words, q) {
-        return a;
+        return Ok(a);
     }
     if kind_at(words, q) != Kind::EXTENDS {
-        return a;
+        return Ok(a);
     }
     let b = Begin::at(words, m);
     extends(
@@ -119,18 +119,16 @@ fn extends(
     b: Begin,
     high: usize,
     m: Mark,
-) -> Answer
+) -> Result<Read, Stop>
     requires { Ready text.now words.now classes.now nodes.old given m × (m.at < length words.now) × (1 ≤ m.used) × (high ≤ tallest) × Begun b }
-    ensures behind { Behind (λ u g. type.conditional g (below given g) b.first u) text words given b high m nodes names notes result }
-    ensures within { Within words given result }
-    ensures onward { Onward m result }
+    ensures behind { Behind (λ u g. type.conditional g (below given g) b.first u) text words given b high m nodes names notes (told result) }
+    ensures within { Within words given (told result) }
+    ensures onward { Onward m (told result) }
 {
     let s = Mark {
         at: m.at + 1,
         half: 0,
-        used: m.used,
-        named: m.named,
-        noted: m.noted,
+        ..m
     };
     let x = child(
         text,
@@ -143,45 +141,46 @@ fn extends(
         false,
         Kids::one(m.used, high),
         s,
-    );
-    if x.why != 0 {
-        return Answer::refused(x.why, x.m);
-    }
+    )?;
     let q = x.m;
     if kind_at(words, q) != Kind::QUESTION {
-        return Answer::refused(Refusal::UNEXPECTED, q);
+        return Err(Stop {
+            why: Refusal::Unexpected,
+            m: q,
+        });
     }
     let p = Mark {
         at: q.at + 1,
         half: 0,
-        used: q.used,
-        named: q.named,
-        noted: q.noted,
+        ..q
     };
     let y = child(
         text, words, classes, nodes, names, notes, given, true, x.kids, p,
-    );
-    if y.why != 0 {
-        return Answer::refused(y.why, y.m);
-    }
+    )?;
     let r = y.m;
     if kind_at(words, r) != Kind::COLON {
-        return Answer::refused(Refusal::UNEXPECTED, r);
+        return Err(Stop {
+            why: Refusal::Unexpected,
+            m: r,
+        });
     }
     let t = Mark {
         at: r.at + 1,
         half: 0,
-        used: r.used,
-        named: r.named,
-        noted: r.noted,
+        ..r
     };
     let z = child(
         text, words, classes, nodes, names, notes, given, true, y.kids, t,
-    );
-    if z.why != 0 {
-        return Answer::refused(z.why, z.m);
-    }
-    put(words, nodes, given, b, Tag::CONDITIONAL, z.kids, z.m)
+    )?;
+    put(
+        words,
+        nodes,
+        given,
+        b,
+        Tag::Conditional as usize,
+        z.kids,
+        z.m,
+    )
 }
 
 // A type that is one child more.
@@ -197,24 +196,20 @@ fn child(
     on: bool,
     kids: Kids,
     m: Mark,
-) -> Listed
+) -> Result<Entries, Stop>
     requires { Ready text.now words.now classes.now nodes.old given m × Under m.used kids }
-    ensures child { Child (λ g. below given g on) text words given kids m nodes names notes result }
-    ensures within_list { WithinList words given result }
-    ensures onward_child { OnwardChild kids m result }
+    ensures child { Child (λ g. below given g on) text words given kids m nodes names notes (told_list result) }
+    ensures within_list { WithinList words given (told_list result) }
+    ensures onward_child { OnwardChild kids m (told_list result) }
 {
-    let a = ty(text, words, classes, nodes, names, notes, given, on, m);
-    if a.why != 0 {
-        return Listed::refused(a.why, a.m);
-    }
+    let a = ty(text, words, classes, nodes, names, notes, given, on, m)?;
     let q = a.m;
     let k = link(nodes, kids, m.used, q.used, a.high);
-    Listed {
-        why: 0,
+    Ok(Entries {
         there: true,
         kids: k,
         m: q,
-    }
+    })
 }
 
 // An optional type after a mark, which is one child more where it stands.
@@ -231,26 +226,23 @@ fn opt(
     on: bool,
     kids: Kids,
     m: Mark,
-) -> Listed
+) -> Result<Entries, Stop>
     requires { Ready text.now words.now classes.now nodes.old given m × (0 < mark) × Under m.used kids }
-    ensures option { Option (λ g. optional g mark (below given g on)) text words given kids m nodes names notes result }
-    ensures within_list { WithinList words given result }
-    ensures past { result.why ≡ 0 → Past (place_of m) m.used result.m }
+    ensures option { Option (λ g. optional g mark (below given g on)) text words given kids m nodes names notes (told_list result) }
+    ensures within_list { WithinList words given (told_list result) }
+    ensures past { (told_list result).why ≡ 0 → Past (place_of m) m.used (told_list result).m }
 {
     if kind_at(words, m) != mark {
-        return Listed {
-            why: 0,
+        return Ok(Entries {
             there: false,
             kids,
             m,
-        };
+        });
     }
     let s = Mark {
         at: m.at + 1,
         half: 0,
-        used: m.used,
-        named: m.named,
-        noted: m.noted,
+        ..m
     };
     child(
         text, words, classes, nodes, names, notes, given, on, kids, s,
@@ -269,39 +261,31 @@ fn function(
     given: Given,
     on: bool,
     m: Mark,
-) -> Answer
+) -> Result<Read, Stop>
     requires { Ready text.now words.now classes.now nodes.old given m }
-    ensures reads { Reads 0 (λ g. function.function g (below given g) on) text words given m nodes names notes result }
-    ensures within { Within words given result }
-    ensures onward { Onward m result }
+    ensures reads { Reads 0 (λ g. function.function g (below given g) on) text words given m nodes names notes (told result) }
+    ensures within { Within words given (told result) }
+    ensures onward { Onward m (told result) }
 {
     let h = function_head(words, m);
-    let t = tparams(text, words, classes, nodes, names, notes, given, on, h.m);
-    if t.why != 0 {
-        return Answer::refused(t.why, t.m);
-    }
+    let t = tparams(text, words, classes, nodes, names, notes, given, on, h.m)?;
     let k = t.kids;
     let p = params(
         text, words, classes, nodes, names, notes, given, h.is_new, k, t.m,
-    );
-    if p.why != 0 {
-        return Answer::refused(p.why, p.m);
-    }
+    )?;
     let s = p.m;
     if kind_at(words, s) != Kind::ARROW {
-        return Answer::refused(Refusal::UNEXPECTED, s);
+        return Err(Stop {
+            why: Refusal::Unexpected,
+            m: s,
+        });
     }
     let q = Mark {
         at: s.at + 1,
         half: 0,
-        used: s.used,
-        named: s.named,
-        noted: s.noted,
+        ..s
     };
-    let r = ret(text, words, classes, nodes, names, notes, given, q);
-    if r.why != 0 {
-        return r;
-    }
+    let r = ret(text, words, classes, nodes, names, notes, given, q)?;
     let f = p.with(nodes, q, r);
     function_node(words, nodes, notes, given, h, t.there, k.count, f)
 }
@@ -318,39 +302,29 @@ fn tparams(
     given: Given,
     on: bool,
     m: Mark,
-) -> Listed
+) -> Result<Entries, Stop>
     requires { Ready text.now words.now classes.now nodes.old given m }
-    ensures reads_list { ReadsList 4 (λ g. types.type_parameters g (below given g) on) text words given m nodes names notes result }
-    ensures within_list { WithinList words given result }
-    ensures past { result.why ≡ 0 → Past (place_of m) m.used result.m }
+    ensures reads_list { ReadsList 4 (λ g. types.type_parameters g (below given g) on) text words given m nodes names notes (told_list result) }
+    ensures within_list { WithinList words given (told_list result) }
+    ensures past { (told_list result).why ≡ 0 → Past (place_of m) m.used (told_list result).m }
 {
     if kind_at(words, m) != Kind::L_ANGLE {
-        return Listed::absent(m);
+        return Ok(Entries::absent(m));
     }
     let mut p = Mark {
         at: m.at + 1,
         half: 0,
-        used: m.used,
-        named: m.named,
-        noted: m.noted,
+        ..m
     };
     let mut k = Kids::none();
     while kind_at(words, p) != Kind::R_ANGLE {
-        let a = tparam(text, words, classes, nodes, names, notes, given, on, p);
-        if a.why != 0 {
-            return Listed::refused(a.why, a.m);
-        }
+        let a = tparam(text, words, classes, nodes, names, notes, given, on, p)?;
         let q = a.m;
         k = link(nodes, k, p.used, q.used, a.high);
-        let s = past_comma(words, Kind::R_ANGLE, q);
-        if s.why != 0 {
-            return Listed::refused(s.why, s.m);
-        }
-        p = s.m;
+        p = past_comma(words, Kind::R_ANGLE, q)?;
     }
     let first = first_byte(words, m);
-    let number = Note::EMPTY_TYPE_PARAMETERS;
-    list_end(words, notes, given, number, first, k, p)
+    list_end(words, notes, given, Note::EmptyTypeParameters, first, k, p)
 }
 
 // Type parameters: a name, its constraint and its default, if they stand there.
@@ -365,16 +339,13 @@ fn tparam(
     given: Given,
     on: bool,
     m: Mark,
-) -> Answer
+) -> Result<Read, Stop>
     requires { Ready text.now words.now classes.now nodes.old given m }
-    ensures reads { Reads 4 (λ g. types.type_parameter g (below given g) on) text words given m nodes names notes result }
-    ensures within { Within words given result }
-    ensures onward { Onward m result }
+    ensures reads { Reads 4 (λ g. types.type_parameter g (below given g) on) text words given m nodes names notes (told result) }
+    ensures within { Within words given (told result) }
+    ensures onward { Onward m (told result) }
 {
-    let h = type_param_head(words, classes, names, notes, given, m);
-    if h.why != 0 {
-        return Answer::refused(h.why, h.m);
-    }
+    let q = type_param_head(words, classes, names, notes, given, m)?;
     let k = Kids::none();
     let x = opt(
         text,
@@ -387,11 +358,8 @@ fn tparam(
         Kind::EXTENDS,
         on,
         k,
-        h.m,
-    );
-    if x.why != 0 {
-        return Answer::refused(x.why, x.m);
-    }
+        q,
+    )?;
     let d = opt(
         text,
         words,
@@ -404,11 +372,8 @@ fn tparam(
         on,
         x.kids,
         x.m,
-    );
-    if d.why != 0 {
-        return Answer::refused(d.why, d.m);
-    }
-    let choices = opt_bit(x.there) + 2 * opt_bit(d.there);
+    )?;
+    let choices = usize::from(x.there) + 2 * usize::from(d.there);
     put(
         words,
         nodes,
@@ -433,16 +398,13 @@ fn params(
     is_new: bool,
     kids: Kids,
     m: Mark,
-) -> Params
+) -> Result<Params, Stop>
     requires { Ready text.now words.now classes.now nodes.old given m × Under m.used kids }
-    ensures reads_params { ReadsParams text words given is_new kids m nodes names notes result }
-    ensures within_params { WithinParams words given result }
-    ensures past { result.why ≡ 0 → Past (m.at * 2 + 2) m.used result.m }
+    ensures reads_params { ReadsParams text words given is_new kids m nodes names notes (told_params result) }
+    ensures within_params { WithinParams words given (told_params result) }
+    ensures past { (told_params result).why ≡ 0 → Past (m.at * 2 + 2) m.used (told_params result).m }
 {
-    let h = params_head(words, m);
-    if h.why != 0 {
-        return Params::refused(h.why, h.m);
-    }
+    let h = params_head(words, m)?;
     if h.choices == 0 {
         let none = This::none();
         return plist(
@@ -461,17 +423,11 @@ fn params(
         true,
         before_this(is_new, kids),
         h.m,
-    );
-    if a.why != 0 {
-        return Params::refused(a.why, a.m);
-    }
-    let c = separated(words, false, freed(is_new, m, a.m));
-    if c.why != 0 {
-        return Params::refused(c.why, c.m);
-    }
+    )?;
+    let p = separated(words, false, freed(is_new, m, a.m))?;
     let t = this_of(words, m, a);
     let k = this_kids(is_new, kids, a.kids);
-    plist(text, words, classes, nodes, names, notes, given, t, k, c.m)
+    plist(text, words, classes, nodes, names, notes, given, t, k, p)
 }
 
 // Function: the parameters from here to the `)`; no modifier words, and no `this` any more.
@@ -487,34 +443,26 @@ fn plist(
     this: This,
     kids: Kids,
     m: Mark,
-) -> Params
+) -> Result<Params, Stop>
     requires { Ready text.now words.now classes.now nodes.old given m × Under m.used kids × (this.bits ≤ 3) }
-    ensures reads_others { ReadsOthers text words given this kids m nodes names notes result }
-    ensures within_params { WithinParams words given result }
-    ensures past { result.why ≡ 0 → Past (place_of m + 1) m.used result.m }
+    ensures reads_others { ReadsOthers text words given this kids m nodes names notes (told_params result) }
+    ensures within_params { WithinParams words given (told_params result) }
+    ensures past { (told_params result).why ≡ 0 → Past (place_of m + 1) m.used (told_params result).m }
 {
     let mut p = m;
     let mut k = kids;
     let mut count: usize = 0;
     while kind_at(words, p) != Kind::R_PAREN {
-        let why = no_param(words, classes, p);
-        if why != 0 {
-            return Params::refused(why, p);
+        if let Some(why) = no_param(words, classes, p) {
+            return Err(Stop { why, m: p });
         }
-        let a = param(text, words, classes, nodes, names, notes, given, p);
-        if a.why != 0 {
-            return Params::refused(a.why, a.m);
-        }
+        let a = param(text, words, classes, nodes, names, notes, given, p)?;
         let q = a.m;
         k = link(nodes, k, p.used, q.used, a.high);
         count += 1;
-        let c = separated(words, kind_at(words, p) == Kind::DOT3, q);
-        if c.why != 0 {
-            return Params::refused(c.why, c.m);
-        }
-        p = c.m;
+        p = separated(words, kind_at(words, p) == Kind::DOT3, q)?;
     }
-    Params::all(count, this, k, p)
+    Ok(Params::all(count, this, k, p))
 }
 
 // Function: one parameter, of which only its name must be there.
@@ -528,16 +476,13 @@ fn param(
     notes: &mut [u64; Noting::WORDS],
     given: Given,
     m: Mark,
-) -> Answer
+) -> Result<Read, Stop>
     requires { Ready text.now words.now classes.now nodes.old given m }
-    ensures reads { Reads 5 (λ g. function.parameter g (below given g)) text words given m nodes names notes result }
-    ensures within { Within words given result }
-    ensures onward { Onward m result }
+    ensures reads { Reads 5 (λ g. function.parameter g (below given g)) text words given m nodes names notes (told result) }
+    ensures within { Within words given (told result) }
+    ensures onward { Onward m (told result) }
 {
-    let h = param_head(words, classes, names, m);
-    if h.why != 0 {
-        return Answer::refused(h.why, h.m);
-    }
+    let h = param_head(words, classes, names, m)?;
     let colon = Kind::COLON;
     let a = opt(
         text,
@@ -551,11 +496,8 @@ fn param(
         true,
         Kids::none(),
         h.m,
-    );
-    if a.why != 0 {
-        return Answer::refused(a.why, a.m);
-    }
-    let choices = h.choices + 4 * opt_bit(a.there);
+    )?;
+    let choices = h.choices + 4 * usize::from(a.there);
     put(
         words,
         nodes,
@@ -578,11 +520,11 @@ fn ret(
     notes: &mut [u64; Noting::WORDS],
     given: Given,
     m: Mark,
-) -> Answer
+) -> Result<Read, Stop>
     requires { Ready text.now words.now classes.now nodes.old given m }
-    ensures reads { Reads 0 (λ g. function.return_type g (below given g)) text words given m nodes names notes result }
-    ensures within { Within words given result }
-    ensures onward { Onward m result }
+    ensures reads { Reads 0 (λ g. function.return_type g (below given g)) text words given m nodes names notes (told result) }
+    ensures within { Within words given (told result) }
+    ensures onward { Onward m (told result) }
 {
     if predicates(words, classes, m) {
         return pred(text, words, classes, nodes, names, notes, given, false, m);
@@ -603,11 +545,11 @@ fn pred(
     given: Given,
     asserts: bool,
     m: Mark,
-) -> Answer
+) -> Result<Read, Stop>
     requires { Ready text.now words.now classes.now nodes.old given m × (m.at + unit asserts < length words.now) }
-    ensures reads { Reads 0 (λ g. onward.predicate g (below given g) asserts) text words given m nodes names notes result }
-    ensures within { Within words given result }
-    ensures onward { Onward m result }
+    ensures reads { Reads 0 (λ g. onward.predicate g (below given g) asserts) text words given m nodes names notes (told result) }
+    ensures within { Within words given (told result) }
+    ensures onward { Onward m (told result) }
 {
     let h = subject(words, names, asserts, m);
     let a = opt(
@@ -622,11 +564,8 @@ fn pred(
         true,
         Kids::none(),
         h.m,
-    );
-    if a.why != 0 {
-        return Answer::refused(a.why, a.m);
-    }
-    let choices = h.choices + 4 * Tag::ALL * opt_bit(a.there);
+    )?;
+    let choices = h.choices + 4 * Tag::ALL * usize::from(a.there);
     put(
         words,
         nodes,
@@ -650,30 +589,25 @@ fn union(
     given: Given,
     on: bool,
     m: Mark,
-) -> Answer
+) -> Result<Read, Stop>
     requires { Ready text.now words.now classes.now nodes.old given m }
-    ensures reads { Reads 0 (λ g. union.union g (below given g) on) text words given m nodes names notes result }
-    ensures within { Within words given result }
-    ensures onward { Onward m result }
+    ensures reads { Reads 0 (λ g. union.union g (below given g) on) text words given m nodes names notes (told result) }
+    ensures within { Within words given (told result) }
+    ensures onward { Onward m (told result) }
 {
     let mut p = past(words, Kind::PIPE, m);
     let mut k = Kids::none();
     loop {
-        let a = inter(text, words, classes, nodes, names, notes, given, on, p);
-        if a.why != 0 {
-            return a;
-        }
+        let a = inter(text, words, classes, nodes, names, notes, given, on, p)?;
         let q = a.m;
         if kind_at(words, q) != Kind::PIPE {
-            return joined(words, nodes, given, Kind::PIPE, Tag::UNION, k, p.used, m, a);
+            return joined(words, nodes, given, Kind::PIPE, Tag::Union, k, p.used, m, a);
         }
         k = link(nodes, k, p.used, q.used, a.high);
         p = Mark {
             at: q.at + 1,
             half: 0,
-            used: q.used,
-            named: q.named,
-            noted: q.noted,
+            ..q
         };
     }
 }
@@ -690,11 +624,11 @@ fn inter(
     given: Given,
     on: bool,
     m: Mark,
-) -> Answer
+) -> Result<Read, Stop>
     requires { Ready text.now words.now classes.now nodes.old given m }
-    ensures reads { Reads 0 (λ g. union.intersection g (below given g) on) text words given m nodes names notes result }
-    ensures within { Within words given result }
-    ensures onward { Onward m result }
+    ensures reads { Reads 0 (λ g. union.intersection g (below given g) on) text words given m nodes names notes (told result) }
+    ensures within { Within words given (told result) }
+    ensures onward { Onward m (told result) }
 {
     if is_lone(kind_at(words, m), kind_after(words, m, 1)) {
         return lone(words, nodes, names, given, m);
@@ -702,10 +636,7 @@ fn inter(
     let mut p = past(words, Kind::AMP, m);
     let mut k = Kids::none();
     loop {
-        let a = operator(text, words, classes, nodes, names, notes, given, on, p);
-        if a.why != 0 {
-            return a;
-        }
+        let a = operator(text, words, classes, nodes, names, notes, given, on, p)?;
         let q = a.m;
         if kind_at(words, q) != Kind::AMP {
             return joined(
@@ -713,7 +644,7 @@ fn inter(
                 nodes,
                 given,
                 Kind::AMP,
-                Tag::INTERSECTION,
+                Tag::Intersection,
                 k,
                 p.used,
                 m,
@@ -724,9 +655,7 @@ fn inter(
         p = Mark {
             at: q.at + 1,
             half: 0,
-            used: q.used,
-            named: q.named,
-            noted: q.noted,
+            ..q
         };
     }
 }
@@ -743,24 +672,18 @@ fn operator(
     given: Given,
     on: bool,
     m: Mark,
-) -> Answer
+) -> Result<Read, Stop>
     requires { Ready text.now words.now classes.now nodes.old given m }
-    ensures reads { Reads 0 (λ g. operator.operator g (below given g) on) text words given m nodes names notes result }
-    ensures within { Within words given result }
-    ensures onward { Onward m result }
+    ensures reads { Reads 0 (λ g. operator.operator g (below given g) on) text words given m nodes names notes (told result) }
+    ensures within { Within words given (told result) }
+    ensures onward { Onward m (told result) }
 {
     let p = past_operators(words, m);
     if kind_at(words, p) == Kind::INFER {
-        let a = infer(text, words, classes, nodes, names, notes, given, on, p);
-        if a.why != 0 {
-            return a;
-        }
+        let a = infer(text, words, classes, nodes, names, notes, given, on, p)?;
         return put_operators(words, nodes, given, m.named, m.at, p.at, a);
     }
-    let a = postfix(text, words, classes, nodes, names, notes, given, p);
-    if a.why != 0 {
-        return a;
-    }
+    let a = postfix(text, words, classes, nodes, names, notes, given, p)?;
     put_operators(words, nodes, given, m.named, m.at, p.at, a)
 }
 
@@ -776,37 +699,31 @@ fn infer(
     given: Given,
     on: bool,
     m: Mark,
-) -> Answer
+) -> Result<Read, Stop>
     requires { Ready text.now words.now classes.now nodes.old given m × (m.at < length words.now) }
-    ensures reads { Reads 0 (λ g. infer.infer g (below given g) on) text words given m nodes names notes result }
-    ensures within { Within words given result }
-    ensures onward { Onward m result }
+    ensures reads { Reads 0 (λ g. infer.infer g (below given g) on) text words given m nodes names notes (told result) }
+    ensures within { Within words given (told result) }
+    ensures onward { Onward m (told result) }
 {
-    let h = infer_head(words, classes, names, notes, given, m);
-    if h.why != 0 {
-        return Answer::refused(h.why, h.m);
-    }
-    let p = h.m;
+    let p = infer_head(words, classes, names, notes, given, m)?;
     let b = Begin::at(words, m);
     if kind_at(words, p) != Kind::EXTENDS {
-        return put(words, nodes, given, b, Tag::INFER, Kids::none(), p);
+        return put(words, nodes, given, b, Tag::Infer as usize, Kids::none(), p);
     }
     let trials = open_trials(notes);
     if many_trials(on, trials) {
-        return Answer::refused(Refusal::MANY_TRIALS, p);
+        return Err(Stop {
+            why: Refusal::ManyTrials,
+            m: p,
+        });
     }
     set_trials(notes, with_trial(on, trials));
     let s = Mark {
         at: p.at + 1,
         half: 0,
-        used: p.used,
-        named: p.named,
-        noted: p.noted,
+        ..p
     };
-    let a = ty(text, words, classes, nodes, names, notes, given, false, s);
-    if a.why != 0 {
-        return a;
-    }
+    let a = ty(text, words, classes, nodes, names, notes, given, false, s)?;
     set_trials(notes, trials);
     let q = a.m;
     let undone = dropped(words, on, q);
@@ -824,28 +741,22 @@ fn postfix(
     notes: &mut [u64; Noting::WORDS],
     given: Given,
     m: Mark,
-) -> Answer
+) -> Result<Read, Stop>
     requires { Ready text.now words.now classes.now nodes.old given m }
-    ensures reads { Reads 0 (λ g. postfix.postfix g (below given g)) text words given m nodes names notes result }
-    ensures within { Within words given result }
-    ensures onward { Onward m result }
+    ensures reads { Reads 0 (λ g. postfix.postfix g (below given g)) text words given m nodes names notes (told result) }
+    ensures within { Within words given (told result) }
+    ensures onward { Onward m (told result) }
 {
-    let a = primary(text, words, classes, nodes, names, notes, given, m);
-    if a.why != 0 {
-        return a;
-    }
+    let a = primary(text, words, classes, nodes, names, notes, given, m)?;
     let mut p = a.m;
     let mut high = a.high;
     let b = Begin::at(words, m);
     while suffixed(words, classes, p) {
-        let c = suffix(text, words, classes, nodes, names, notes, given, b, high, p);
-        if c.why != 0 {
-            return c;
-        }
+        let c = suffix(text, words, classes, nodes, names, notes, given, b, high, p)?;
         p = c.m;
         high = c.high;
     }
-    Answer { why: 0, high, m: p }
+    Ok(Read { high, m: p })
 }
 
 // Postfix: the mark here makes a node of what was read; behind a `[`, an index where a type can start, else an array.
@@ -861,25 +772,23 @@ fn suffix(
     b: Begin,
     high: usize,
     m: Mark,
-) -> Answer
+) -> Result<Read, Stop>
     requires { Ready text.now words.now classes.now nodes.old given m × (m.at < length words.now) × (1 ≤ m.used) × (high ≤ tallest) × Begun b }
-    ensures behind { Behind (λ u g. postfix.suffix g (below given g) b.first u) text words given b high m nodes names notes result }
-    ensures within { Within words given result }
-    ensures past { result.why ≡ 0 → Past (m.at * 2 + 2) (m.used + 1) result.m }
+    ensures behind { Behind (λ u g. postfix.suffix g (below given g) b.first u) text words given b high m nodes names notes (told result) }
+    ensures within { Within words given (told result) }
+    ensures past { (told result).why ≡ 0 → Past (m.at * 2 + 2) (m.used + 1) (told result).m }
 {
     let kind = kind_at(words, m);
     let s = Mark {
         at: m.at + 1,
         half: 0,
-        used: m.used,
-        named: m.named,
-        noted: m.noted,
+        ..m
     };
     if kind == Kind::BANG {
-        return put_about(words, nodes, given, b, Tag::NON_NULL, high, s);
+        return put_about(words, nodes, given, b, Tag::NonNull as usize, high, s);
     }
     if kind == Kind::QUESTION {
-        return put_about(words, nodes, given, b, Tag::ASKED, high, s);
+        return put_about(words, nodes, given, b, Tag::Asked as usize, high, s);
     }
     if !starter(words, classes, s.at) {
         return array(words, nodes, given, b, high, s);
@@ -895,11 +804,8 @@ fn suffix(
         true,
         Kids::one(m.used, high),
         s,
-    );
-    if a.why != 0 {
-        return Answer::refused(a.why, a.m);
-    }
-    bracketed(words, nodes, given, b, Tag::INDEXED, a.kids, a.m)
+    )?;
+    bracketed(words, nodes, given, b, Tag::Indexed as usize, a.kids, a.m)
 }
 
 // Primary: by what begins here.
@@ -913,11 +819,11 @@ fn primary(
     notes: &mut [u64; Noting::WORDS],
     given: Given,
     m: Mark,
-) -> Answer
+) -> Result<Read, Stop>
     requires { Ready text.now words.now classes.now nodes.old given m }
-    ensures reads { Reads 0 (λ g. primary.primary g (below given g)) text words given m nodes names notes result }
-    ensures within { Within words given result }
-    ensures onward { Onward m result }
+    ensures reads { Reads 0 (λ g. primary.primary g (below given g)) text words given m nodes names notes (told result) }
+    ensures within { Within words given (told result) }
+    ensures onward { Onward m (told result) }
 {
     let o = primary_start(words, classes, m);
     match o {
@@ -931,7 +837,7 @@ fn primary(
         Start::Tuple => return tuple(text, words, classes, nodes, names, notes, given, m),
         Start::Parens => return parens(text, words, classes, nodes, names, notes, given, m),
         Start::Template => return template(text, words, classes, nodes, names, notes, given, m),
-        Start::Nothing(why) => return Answer::refused(why, m),
+        Start::Nothing(why) => return Err(Stop { why, m }),
     }
 }
 
@@ -946,20 +852,14 @@ fn named(
     notes: &mut [u64; Noting::WORDS],
     given: Given,
     m: Mark,
-) -> Answer
+) -> Result<Read, Stop>
     requires { Ready text.now words.now classes.now nodes.old given m }
-    ensures reads { Reads 0 (λ g. onward.name_at g (below given g)) text words given m nodes names notes result }
-    ensures within { Within words given result }
-    ensures onward { Onward m result }
+    ensures reads { Reads 0 (λ g. onward.name_at g (below given g)) text words given m nodes names notes (told result) }
+    ensures within { Within words given (told result) }
+    ensures onward { Onward m (told result) }
 {
-    let n = named_head(words, classes, names, m);
-    if n.why != 0 {
-        return Answer::refused(n.why, n.m);
-    }
-    let l = targs(text, words, classes, nodes, names, notes, given, n.m);
-    if l.why != 0 {
-        return Answer::refused(l.why, l.m);
-    }
+    let n = named_head(words, classes, names, m)?;
+    let l = targs(text, words, classes, nodes, names, notes, given, n.m)?;
     named_node(words, nodes, given, Begin::at(words, m), n, l)
 }
 
@@ -974,32 +874,24 @@ fn targs(
     notes: &mut [u64; Noting::WORDS],
     given: Given,
     m: Mark,
-) -> Listed
+) -> Result<Entries, Stop>
     requires { Ready text.now words.now classes.now nodes.old given m }
-    ensures reads_list { ReadsList 0 (λ g. arguments.arguments g (below given g)) text words given m nodes names notes result }
-    ensures within_list { WithinList words given result }
-    ensures past { result.why ≡ 0 → Past (place_of m) m.used result.m }
+    ensures reads_list { ReadsList 0 (λ g. arguments.arguments g (below given g)) text words given m nodes names notes (told_list result) }
+    ensures within_list { WithinList words given (told_list result) }
+    ensures past { (told_list result).why ≡ 0 → Past (place_of m) m.used (told_list result).m }
 {
     if !opens(words, m) {
-        return Listed::absent(m);
+        return Ok(Entries::absent(m));
     }
     let mut p = opened(words, m);
     let mut k = Kids::none();
     while kind_at(words, p) != Kind::R_ANGLE {
-        let a = child(text, words, classes, nodes, names, notes, given, true, k, p);
-        if a.why != 0 {
-            return a;
-        }
+        let a = child(text, words, classes, nodes, names, notes, given, true, k, p)?;
         k = a.kids;
-        let s = past_comma(words, Kind::R_ANGLE, a.m);
-        if s.why != 0 {
-            return Listed::refused(s.why, s.m);
-        }
-        p = s.m;
+        p = past_comma(words, Kind::R_ANGLE, a.m)?;
     }
     let first = first_byte(words, m);
-    let number = Note::EMPTY_ARGUMENTS;
-    list_end(words, notes, given, number, first, k, p)
+    list_end(words, notes, given, Note::EmptyArguments, first, k, p)
 }
 
 // Primary: brackets, which are a node of their own if asked for.
@@ -1013,23 +905,18 @@ fn parens(
     notes: &mut [u64; Noting::WORDS],
     given: Given,
     m: Mark,
-) -> Answer
+) -> Result<Read, Stop>
     requires { Ready text.now words.now classes.now nodes.old given m × (m.at < length words.now) }
-    ensures reads { Reads 0 (λ g. primary.brackets g (below given g)) text words given m nodes names notes result }
-    ensures within { Within words given result }
-    ensures onward { Onward m result }
+    ensures reads { Reads 0 (λ g. primary.brackets g (below given g)) text words given m nodes names notes (told result) }
+    ensures within { Within words given (told result) }
+    ensures onward { Onward m (told result) }
 {
     let s = Mark {
         at: m.at + 1,
         half: 0,
-        used: m.used,
-        named: m.named,
-        noted: m.noted,
+        ..m
     };
-    let a = ty(text, words, classes, nodes, names, notes, given, true, s);
-    if a.why != 0 {
-        return a;
-    }
+    let a = ty(text, words, classes, nodes, names, notes, given, true, s)?;
     let b = Begin::at(words, m);
     parens_node(words, nodes, given, b, a.high, a.m)
 }
@@ -1045,16 +932,13 @@ fn mapped(
     notes: &mut [u64; Noting::WORDS],
     given: Given,
     m: Mark,
-) -> Answer
+) -> Result<Read, Stop>
     requires { Ready text.now words.now classes.now nodes.old given m × (m.at < length words.now) }
-    ensures reads { kind_at words.now m.at m.half ≡ LCurly → Reads 0 (λ g. mapped.mapped g (below given g)) text words given m nodes names notes result }
-    ensures within { Within words given result }
-    ensures onward { Onward m result }
+    ensures reads { kind_at words.now m.at m.half ≡ LCurly → Reads 0 (λ g. mapped.mapped g (below given g)) text words given m nodes names notes (told result) }
+    ensures within { Within words given (told result) }
+    ensures onward { Onward m (told result) }
 {
-    let h = mapped_head(words, classes, names, m);
-    if h.why != 0 {
-        return Answer::refused(h.why, h.m);
-    }
+    let h = mapped_head(words, classes, names, m)?;
     let c = child(
         text,
         words,
@@ -1066,10 +950,7 @@ fn mapped(
         true,
         Kids::none(),
         h.m,
-    );
-    if c.why != 0 {
-        return Answer::refused(c.why, c.m);
-    }
+    )?;
     let n = opt(
         text,
         words,
@@ -1082,14 +963,8 @@ fn mapped(
         true,
         c.kids,
         c.m,
-    );
-    if n.why != 0 {
-        return Answer::refused(n.why, n.m);
-    }
-    let a = mapped_middle(words, n.m);
-    if a.why != 0 {
-        return Answer::refused(a.why, a.m);
-    }
+    )?;
+    let a = mapped_middle(words, n.m)?;
     let t = opt(
         text,
         words,
@@ -1102,11 +977,13 @@ fn mapped(
         true,
         n.kids,
         a.m,
+    )?;
+    let choices = mapped_choices(
+        h.choices,
+        usize::from(n.there),
+        a.choices,
+        usize::from(t.there),
     );
-    if t.why != 0 {
-        return Answer::refused(t.why, t.m);
-    }
-    let choices = mapped_choices(h.choices, opt_bit(n.there), a.choices, opt_bit(t.there));
     let b = Begin::at(words, m);
     mapped_node(words, nodes, given, b, choices, t.kids, t.m)
 }
@@ -1122,25 +999,20 @@ fn object(
     notes: &mut [u64; Noting::WORDS],
     given: Given,
     m: Mark,
-) -> Answer
+) -> Result<Read, Stop>
     requires { Ready text.now words.now classes.now nodes.old given m × (m.at < length words.now) }
-    ensures reads { kind_at words.now m.at m.half ≡ LCurly → Reads 0 (λ g. object.object g (below given g)) text words given m nodes names notes result }
-    ensures within { Within words given result }
-    ensures onward { Onward m result }
+    ensures reads { kind_at words.now m.at m.half ≡ LCurly → Reads 0 (λ g. object.object g (below given g)) text words given m nodes names notes (told result) }
+    ensures within { Within words given (told result) }
+    ensures onward { Onward m (told result) }
 {
     let mut p = Mark {
         at: m.at + 1,
         half: 0,
-        used: m.used,
-        named: m.named,
-        noted: m.noted,
+        ..m
     };
     let mut k = Kids::none();
     while kind_at(words, p) != Kind::R_CURLY {
-        let a = memb(text, words, classes, nodes, names, notes, given, p);
-        if a.why != 0 {
-            return a;
-        }
+        let a = memb(text, words, classes, nodes, names, notes, given, p)?;
         let q = a.m;
         k = link(nodes, k, p.used, q.used, a.high);
         p = q;
@@ -1148,12 +1020,10 @@ fn object(
     let e = Mark {
         at: p.at + 1,
         half: 0,
-        used: p.used,
-        named: p.named,
-        noted: p.noted,
+        ..p
     };
     let b = Begin::at(words, m);
-    put_list(words, nodes, given, b, Tag::OBJECT, k, e)
+    put_list(words, nodes, given, b, Tag::Object, k, e)
 }
 
 // Member: a signature, an index signature, or a property with its optional type.
@@ -1167,16 +1037,13 @@ fn memb(
     notes: &mut [u64; Noting::WORDS],
     given: Given,
     m: Mark,
-) -> Answer
+) -> Result<Read, Stop>
     requires { Ready text.now words.now classes.now nodes.old given m }
-    ensures reads { Reads 6 (λ g. object.member g (below given g)) text words given m nodes names notes result }
-    ensures within { Within words given result }
-    ensures past { result.why ≡ 0 → Past (m.at * 2 + 2) (m.used + 1) result.m }
+    ensures reads { Reads 6 (λ g. object.member g (below given g)) text words given m nodes names notes (told result) }
+    ensures within { Within words given (told result) }
+    ensures past { (told result).why ≡ 0 → Past (m.at * 2 + 2) (m.used + 1) (told result).m }
 {
-    let h = member_head(text, words, classes, names, m);
-    if h.why != 0 {
-        return Answer::refused(h.why, h.m);
-    }
+    let h = member_head(text, words, classes, names, m)?;
     let b = Begin::at(words, m);
     let head = h.choices;
     let p = h.m;
@@ -1198,10 +1065,7 @@ fn memb(
         true,
         Kids::none(),
         p,
-    );
-    if t.why != 0 {
-        return Answer::refused(t.why, t.m);
-    }
+    )?;
     let all = property_choices(head, t.there);
     member_node(words, nodes, given, b, all, t.kids, t.m)
 }
@@ -1219,43 +1083,28 @@ fn sign(
     b: Begin,
     head: usize,
     m: Mark,
-) -> Answer
+) -> Result<Read, Stop>
     requires { Ready text.now words.now classes.now nodes.old given m × Begun b × (head ≤ 127) }
-    ensures reads_signature { ReadsSignature text words given b head m nodes names notes result }
-    ensures within { Within words given result }
-    ensures past { result.why ≡ 0 → Past (m.at * 2 + 2) (m.used + 1) result.m }
+    ensures reads_signature { ReadsSignature text words given b head m nodes names notes (told result) }
+    ensures within { Within words given (told result) }
+    ensures past { (told result).why ≡ 0 → Past (m.at * 2 + 2) (m.used + 1) (told result).m }
 {
-    let t = tparams(text, words, classes, nodes, names, notes, given, true, m);
-    if t.why != 0 {
-        return Answer::refused(t.why, t.m);
-    }
+    let t = tparams(text, words, classes, nodes, names, notes, given, true, m)?;
     let k = t.kids;
     let is_new = head == Sort::CONSTRUCT;
     let p = params(
         text, words, classes, nodes, names, notes, given, is_new, k, t.m,
-    );
-    if p.why != 0 {
-        return Answer::refused(p.why, p.m);
-    }
-    let n = note_this(notes, given, is_new, p.this, p.m);
-    if n.why != 0 {
-        return Answer::refused(n.why, n.m);
-    }
-    let s = n.m;
+    )?;
+    let s = note_this(notes, given, is_new, p.this, p.m)?;
     if kind_at(words, s) != Kind::COLON {
         return signature_node(words, nodes, given, b, head, t.there, k.count, p, false, s);
     }
     let q = Mark {
         at: s.at + 1,
         half: 0,
-        used: s.used,
-        named: s.named,
-        noted: s.noted,
+        ..s
     };
-    let r = ret(text, words, classes, nodes, names, notes, given, q);
-    if r.why != 0 {
-        return r;
-    }
+    let r = ret(text, words, classes, nodes, names, notes, given, q)?;
     let f = p.with(nodes, q, r);
     signature_node(words, nodes, given, b, head, t.there, k.count, f, true, f.m)
 }
@@ -1273,48 +1122,30 @@ fn index(
     b: Begin,
     head: usize,
     m: Mark,
-) -> Answer
+) -> Result<Read, Stop>
     requires { Ready text.now words.now classes.now nodes.old given m × (m.at < length words.now) × Begun b × (head ≤ 127) }
-    ensures reads_index { ReadsIndex text words given b head m nodes names notes result }
-    ensures within { Within words given result }
-    ensures past { result.why ≡ 0 → Past (m.at * 2 + 2) (m.used + 1) result.m }
+    ensures reads_index { ReadsIndex text words given b head m nodes names notes (told result) }
+    ensures within { Within words given (told result) }
+    ensures past { (told result).why ≡ 0 → Past (m.at * 2 + 2) (m.used + 1) (told result).m }
 {
     let mut p = Mark {
         at: m.at + 1,
         half: 0,
-        used: m.used,
-        named: m.named,
-        noted: m.noted,
+        ..m
     };
     let first = first_byte(words, p);
     let mut ps = IndexParams::none();
     while kind_at(words, p) != Kind::R_BRACK {
-        let h = index_head(words, classes, names, notes, given, p);
-        if h.why != 0 {
-            return Answer::refused(h.why, h.m);
-        }
-        let a = ty(text, words, classes, nodes, names, notes, given, true, h.m);
-        if a.why != 0 {
-            return a;
-        }
+        let h = index_head(words, classes, names, notes, given, p)?;
+        let a = ty(text, words, classes, nodes, names, notes, given, true, h)?;
         let q = freed(ps.count != 0, p, a.m);
         ps = ps.with(words, a);
-        let s = index_next(words, notes, given, q);
-        if s.why != 0 {
-            return Answer::refused(s.why, s.m);
-        }
-        p = s.m;
+        p = index_next(words, notes, given, q)?;
     }
-    let e = index_end(words, nodes, notes, given, b.first, first, ps, p);
-    if e.why != 0 {
-        return Answer::refused(e.why, e.m);
-    }
+    let e = index_end(words, nodes, notes, given, b.first, first, ps, p)?;
     let t = child(
-        text, words, classes, nodes, names, notes, given, true, ps.kids, e.m,
-    );
-    if t.why != 0 {
-        return Answer::refused(t.why, t.m);
-    }
+        text, words, classes, nodes, names, notes, given, true, ps.kids, e,
+    )?;
     let all = index_choices(head, ps.count != 0);
     member_node(words, nodes, given, b, all, t.kids, t.m)
 }
@@ -1330,38 +1161,26 @@ fn tuple(
     notes: &mut [u64; Noting::WORDS],
     given: Given,
     m: Mark,
-) -> Answer
+) -> Result<Read, Stop>
     requires { Ready text.now words.now classes.now nodes.old given m × (m.at < length words.now) }
-    ensures reads { kind_at words.now m.at m.half ≡ LBrack → Reads 0 (λ g. tuple.tuple g (below given g)) text words given m nodes names notes result }
-    ensures within { Within words given result }
-    ensures onward { Onward m result }
+    ensures reads { kind_at words.now m.at m.half ≡ LBrack → Reads 0 (λ g. tuple.tuple g (below given g)) text words given m nodes names notes (told result) }
+    ensures within { Within words given (told result) }
+    ensures onward { Onward m (told result) }
 {
     let mut p = Mark {
         at: m.at + 1,
         half: 0,
-        used: m.used,
-        named: m.named,
-        noted: m.noted,
+        ..m
     };
     let mut k = Kids::none();
-    let mut latest = Latest::none();
+    let mut latest = None;
     while kind_at(words, p) != Kind::R_BRACK {
-        let a = elem(text, words, classes, nodes, names, notes, given, p);
-        if a.why != 0 {
-            return a;
-        }
-        let e = checked(nodes, notes, given, latest, a.m);
-        if e.why != 0 {
-            return Answer::refused(e.why, e.m);
-        }
+        let a = elem(text, words, classes, nodes, names, notes, given, p)?;
+        let e = checked(nodes, notes, given, latest, a.m)?;
         let q = e.m;
         latest = e.latest;
         k = link(nodes, k, p.used, q.used, a.high);
-        let s = past_comma(words, Kind::R_BRACK, q);
-        if s.why != 0 {
-            return Answer::refused(s.why, s.m);
-        }
-        p = s.m;
+        p = past_comma(words, Kind::R_BRACK, q)?;
     }
     tuple_node(words, nodes, given, Begin::at(words, m), k, p)
 }
@@ -1377,17 +1196,14 @@ fn elem(
     notes: &mut [u64; Noting::WORDS],
     given: Given,
     m: Mark,
-) -> Answer
+) -> Result<Read, Stop>
     requires { Ready text.now words.now classes.now nodes.old given m }
-    ensures reads { Reads 1 (λ g. tuple.element g (below given g)) text words given m nodes names notes result }
-    ensures within { Within words given result }
-    ensures onward { Onward m result }
+    ensures reads { Reads 1 (λ g. tuple.element g (below given g)) text words given m nodes names notes (told result) }
+    ensures within { Within words given (told result) }
+    ensures onward { Onward m (told result) }
 {
     let l = element_head(words, classes, names, m);
-    let a = ty(text, words, classes, nodes, names, notes, given, true, l.m);
-    if a.why != 0 {
-        return a;
-    }
+    let a = ty(text, words, classes, nodes, names, notes, given, true, l.m)?;
     element_node(words, nodes, notes, given, l, a)
 }
 
@@ -1402,29 +1218,29 @@ fn template(
     notes: &mut [u64; Noting::WORDS],
     given: Given,
     m: Mark,
-) -> Answer
+) -> Result<Read, Stop>
     requires { Ready text.now words.now classes.now nodes.old given m × (m.at < length words.now) }
-    ensures reads { kind_at words.now m.at m.half ≡ TemplateHead → Reads 0 (λ g. template.template g (below given g)) text words given m nodes names notes result }
-    ensures within { Within words given result }
-    ensures onward { Onward m result }
+    ensures reads { kind_at words.now m.at m.half ≡ TemplateHead → Reads 0 (λ g. template.template g (below given g)) text words given m nodes names notes (told result) }
+    ensures within { Within words given (told result) }
+    ensures onward { Onward m (told result) }
 {
     let mut p = spell(words, names, m);
     let mut k = Kids::none();
     loop {
-        let a = child(text, words, classes, nodes, names, notes, given, true, k, p);
-        if a.why != 0 {
-            return Answer::refused(a.why, a.m);
-        }
+        let a = child(text, words, classes, nodes, names, notes, given, true, k, p)?;
         let q = a.m;
         k = a.kids;
         let kind = kind_at(words, q);
         if kind == Kind::TEMPLATE_TAIL {
             let n = spell(words, names, q);
             let b = Begin::at(words, m);
-            return put_list(words, nodes, given, b, Tag::TEMPLATE, k, n);
+            return put_list(words, nodes, given, b, Tag::Template, k, n);
         }
         if kind != Kind::TEMPLATE_MIDDLE {
-            return Answer::refused(Refusal::UNEXPECTED, q);
+            return Err(Stop {
+                why: Refusal::Unexpected,
+                m: q,
+            });
         }
         p = spell(words, names, q);
     }

@@ -9,6 +9,7 @@ use Rattle.keys.specs.Store.{done, Run}
 use Rattle.marks.specs.State.{view, given_of, Under, place_of}
 use Rattle.marks.specs.Laid.{Was, Laid, was, BuiltAt, Stands, name_run}
 use Rattle.readers.specs.Ring.{below}
+use Rattle.tuples.specs.Told.{told_latest}
 use Rattle.readers.proofs.Kept.{Kept}
 use Rattle.readers.proofs.Loops.{IndexTurn, PartsTurn, MembersTurn, ParametersTurn, SuffixTurn, ArgumentsTurn, PiecesTurn, TypesTurn, TupleTurn}
 use Rattle.words.specs.Kind.{Amp, LCurly, TemplateHead, LBrack, Pipe}
@@ -118,14 +119,14 @@ abbrev pub decreases-index-loop-names : goal.decreases-index-loop-names
 decreases-index-loop-names l =
     length l.words * 2 - place_of l.p
 
-abbrev pub invariant-inter-loop-given : goal.invariant-inter-loop-given
-invariant-inter-loop-given l =
+abbrev pub invariant-inter-loop-a : goal.invariant-inter-loop-a
+invariant-inter-loop-a l =
     Kept (length l.words) l.given l.initial.nodes l.initial.names l.initial.p l.nodes l.names l.p × (Under l.p.used l.k)
     × (PartsTurn (given_of l.text l.words l.given) (below l.given (given_of l.text l.words l.given)) Amp node.intersection (operators.operator (given_of l.text l.words l.given) (below l.given (given_of l.text l.words l.given)) l.on) (view l.m l.initial.notes)
     (unions.intersection (given_of l.text l.words l.given) (below l.given (given_of l.text l.words l.given)) l.on (view l.m l.initial.notes)) (was l.m l.initial.nodes l.initial.names l.initial.notes) l.k l.p l.nodes l.names l.notes)
 
-abbrev pub decreases-inter-loop-given : goal.decreases-inter-loop-given
-decreases-inter-loop-given l =
+abbrev pub decreases-inter-loop-a : goal.decreases-inter-loop-a
+decreases-inter-loop-a l =
     length l.words * 2 - place_of l.p
 
 abbrev pub invariant-object-loop-nodes : goal.invariant-object-loop-nodes
@@ -168,15 +169,15 @@ abbrev pub decreases-targs-loop-nodes : goal.decreases-targs-loop-nodes
 decreases-targs-loop-nodes l =
     length l.words * 2 - place_of l.p
 
-abbrev pub invariant-template-loop-given : goal.invariant-template-loop-given
-invariant-template-loop-given l =
+abbrev pub invariant-template-loop-a : goal.invariant-template-loop-a
+invariant-template-loop-a l =
     Kept (length l.words) l.given l.initial.nodes l.initial.names l.initial.p l.nodes l.names l.p × (Under l.p.used l.k)
     × (kind_at l.words l.m.at l.m.half ≡ TemplateHead → (B : Was)
     → Laid B (name_run (spelling (given_of l.text l.words l.given) (view l.m l.initial.notes))) l.initial.p.used l.initial.p.named l.initial.p.noted l.initial.nodes l.initial.names l.initial.notes
     → PiecesTurn (given_of l.text l.words l.given) (below l.given (given_of l.text l.words l.given)) (view l.m l.initial.notes) (view l.initial.p l.initial.notes) B l.k l.p l.nodes l.names l.notes)
 
-abbrev pub decreases-template-loop-given : goal.decreases-template-loop-given
-decreases-template-loop-given l =
+abbrev pub decreases-template-loop-a : goal.decreases-template-loop-a
+decreases-template-loop-a l =
     length l.words * 2 - place_of l.p
 
 abbrev pub invariant-tparams-loop-nodes : goal.invariant-tparams-loop-nodes
@@ -193,18 +194,18 @@ abbrev pub invariant-tuple-loop-latest : goal.invariant-tuple-loop-latest
 invariant-tuple-loop-latest l =
     Kept (length l.words) l.given l.initial.nodes l.initial.names l.initial.p l.nodes l.names l.p × (Under l.p.used l.k)
     × (kind_at l.words l.m.at l.m.half ≡ LBrack → TupleTurn (given_of l.text l.words l.given) (below l.given (given_of l.text l.words l.given)) (view l.m l.initial.notes)
-    (was l.m l.initial.nodes l.initial.names l.initial.notes) l.latest l.k l.p l.nodes l.names l.notes)
+    (was l.m l.initial.nodes l.initial.names l.initial.notes) (told_latest l.latest) l.k l.p l.nodes l.names l.notes)
 
 abbrev pub decreases-tuple-loop-latest : goal.decreases-tuple-loop-latest
 decreases-tuple-loop-latest l =
     length l.words * 2 - place_of l.p
 
-abbrev pub invariant-union-loop-given : goal.invariant-union-loop-given
-invariant-union-loop-given l =
+abbrev pub invariant-union-loop-a : goal.invariant-union-loop-a
+invariant-union-loop-a l =
     Kept (length l.words) l.given l.initial.nodes l.initial.names l.initial.p l.nodes l.names l.p × (Under l.p.used l.k)
     × (PartsTurn (given_of l.text l.words l.given) (below l.given (given_of l.text l.words l.given)) Pipe node.union (unions.intersection (given_of l.text l.words l.given) (below l.given (given_of l.text l.words l.given)) l.on) (view l.m l.initial.notes)
     (unions.union (given_of l.text l.words l.given) (below l.given (given_of l.text l.words l.given)) l.on (view l.m l.initial.notes)) (was l.m l.initial.nodes l.initial.names l.initial.notes) l.k l.p l.nodes l.names l.notes)
 
-abbrev pub decreases-union-loop-given : goal.decreases-union-loop-given
-decreases-union-loop-given l =
+abbrev pub decreases-union-loop-a : goal.decreases-union-loop-a
+decreases-union-loop-a l =
     length l.words * 2 - place_of l.p
