@@ -18,7 +18,7 @@ cat >"$work/crates/parts_try/src/main.rt" <<'END'
 use checks::check::check;
 use key_out::out::put_key;
 use keys::store;
-use keys::store::clear_words;
+use keys::store::clear;
 use marks::notes::Noting;
 use marks::notes::copy_notes;
 use marks::state::Given;
@@ -43,7 +43,6 @@ fn part_read(text: &[u8], tokens: &[u64], nodes: &mut [u64], names: &mut [u64], 
         return;
     }
     let mut noting = [0u64; Noting::WORDS];
-    let classes = class_words();
     let given = Given {
         room: nodes.len() / store::RECORD,
         records: notes.len() / Noting::RECORD,
@@ -51,16 +50,16 @@ fn part_read(text: &[u8], tokens: &[u64], nodes: &mut [u64], names: &mut [u64], 
         left: OpenRules::MOST,
     };
     let m = Mark { at: 0, half: 0, used: 0, named: 0, noted: 0 };
-    let a = ty(text, tokens, classes, nodes, names, &mut noting, given, true, m);
-    let q = a.m;
-    if a.why != 0 {
-        *answer = [a.why as u64, 0, 0, 0, 0, 0, 0, 0];
-        return;
+    match ty(text, tokens, class_words(), nodes, names, &mut noting, given, true, m) {
+        Err(stop) => *answer = [stop.why.number() as u64, 0, 0, 0, 0, 0, 0, 0],
+        Ok(a) => {
+            let q = a.m;
+            clear(nodes, q.used * store::RECORD, 0);
+            clear(names, q.named, 0);
+            copy_notes(&noting, q.noted, notes);
+            *answer = [0, q.used as u64, q.named as u64, q.noted as u64, 0, q.at as u64, q.half as u64, 0];
+        }
     }
-    clear_words(nodes, q.used * store::RECORD);
-    clear_words(names, q.named);
-    copy_notes(&noting, q.noted, notes);
-    *answer = [0, q.used as u64, q.named as u64, q.noted as u64, 0, q.at as u64, q.half as u64, 0];
 }
 
 fn part_key(nodes: &[u64], names: &[u64], text: &[u8], root: usize, key: &mut [u8], answer: &mut [u64; 8]) {

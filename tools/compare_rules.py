@@ -178,7 +178,7 @@ def largest():
     yield ('13,106 keyof',) + keyofs(13106)
 
 
-ARRAYS = 2 * 65536 + 8 * (2 * 16385 + 838860 + 128) + 2 * 262146 + 131072   # bytes: lines and text, all words, two keys, letters
+ARRAYS = 65536   # bytes: the lines that are gathered; what is lent lies on the heap
 
 
 def least_stack(which, case):
