@@ -214,8 +214,8 @@ module _ {bs : Bits} {ln lm lx : ℕ} {T : List ℕ} {class : ℕ} {p : Pos} (h 
   node_bad left N M X {e} k = refuse left N M X e (by left)
     where
       by : (x : ℕ) → Halts bs (node_run lx (grammar_of T) x class (state_at bs lm lx p)) e
-      by zero = (picked_as (Err e) k).stopped p.nodes (lm - p.names) (lx - p.chars) _
-      by (suc x) = (picked_as (Err e) k).stopped p.nodes (lm - p.names) (lx - p.chars) _
+      by zero = (picked_as (Err e) k).stopped.2 p.nodes (lm - p.names) (lx - p.chars) _
+      by (suc x) = (picked_as (Err e) k).stopped.2 p.nodes (lm - p.names) (lx - p.chars) _
 
   module _ {c : Pick} (k' : PickedIn bs T steps r.w (leads T (form_of T steps) (entry_of r) 0) p.bit (Ok c)) where
     k : Picked bs T steps r.w (leads T (form_of T steps) (entry_of r) 0) p.bit c

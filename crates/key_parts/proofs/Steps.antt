@@ -283,7 +283,7 @@ module _ (bs : Bits) (T : List ℕ) (steps w : ℕ) (fs : ℕ → Form) (bit : �
   bad = record { why = BadKey; bit = bit }
 
   picked_bad : ((n k m : ℕ) (K : ℕ → Bits → Ran) → choice_run w fs (state n k m (drop bit bs)) K ≡ halt bad_key (length (drop bit bs))) → PickedIn bs T steps w fs bit (Err bad)
-  picked_bad e = record { stopped = λ n k m K. record { in_key = h; is = e n k m K ∙ ap (halt bad_key) (length-drop bit bs) }; picked = tt }
+  picked_bad e = record { stopped = (refl, refl, λ n k m K. record { in_key = h; is = e n k m K ∙ ap (halt bad_key) (length-drop bit bs) }); picked = tt }
 
   pub picked_short : None ≡ remembered (answered (take_field w (drop bit bs))) (bit + w) → PickedIn bs T steps w fs bit (Err bad)
   picked_short e = picked_bad (λ n k m K. ap (whole_run (state n k m (drop bit bs)) fs K) (field_cut (take_field w (drop bit bs)) (bit + w) e))

@@ -211,7 +211,7 @@ module _ (bs : Bits) (lm lx : ℕ) (T : List ℕ) (steps : ℕ) (r : Row) (s : F
           names_same = refl;
           text_same = refl;
           stopped =
-              λ Y. subst (λ (x : Form). Halts bs (form_run lx Y x (state_at bs lm lx s.at)) e) (sym is_choice) (d.stopped s.at.nodes (lm - s.at.names) (lx - s.at.chars) _);
+              λ Y. subst (λ (x : Form). Halts bs (form_run lx Y x (state_at bs lm lx s.at)) e) (sym is_choice) (d.stopped.2 s.at.nodes (lm - s.at.names) (lx - s.at.chars) _);
           went = tt;
         }
 

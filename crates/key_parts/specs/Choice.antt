@@ -2,6 +2,8 @@
 use Rattle.std.specs.Prelude.{◌≡◌, List, ℕ, ◌+◌, ◌*◌, ◌^◌, ◌≤◌, ◌<◌, length, drop, Result, IfOk, IfErr}
 use Rattle.keys.specs.Bits.{Bits}
 use Rattle.keys.specs.Form.{Form, state}
+use Rattle.keys.specs.Limits.{bad_key}
+use Rattle.words.specs.Refusal.{number_of}
 use Rattle.node_table.specs.Forms.{form_of, leads, entry_of, table_most}
 use Rattle.node_table.specs.declared.forms.Row.{Row}
 use Rattle.node_table.specs.declared.forms.Jump.{Jump}
@@ -34,9 +36,9 @@ pub record Picked (bs : Bits) (T : List ℕ) (steps w : ℕ) (fs : ℕ → Form)
   pub in_table : c.form < table_most
   pub few : c.n < table_most
 
--- A field that chooses among forms: refused, or a choice.
+-- A field that chooses among forms: refused with 10 at its bit, or a choice.
 pub record PickedIn (bs : Bits) (T : List ℕ) (steps w : ℕ) (fs : ℕ → Form) (bit : ℕ) (r : Result Pick Stop) : Type 0 where
-  pub stopped : IfErr r λ e. (n k m : ℕ) (K : ℕ → Bits → Ran) → Halts bs (choice_run w fs (state n k m (drop bit bs)) K) e
+  pub stopped : IfErr r λ e. (number_of e.why ≡ bad_key) × (e.bit ≡ bit) × ((n k m : ℕ) (K : ℕ → Bits → Ran) → Halts bs (choice_run w fs (state n k m (drop bit bs)) K) e)
   pub picked : IfOk r λ c. Picked bs T steps w fs bit c
 
 -- A form is the one that a jump leads to.

@@ -1,4 +1,4 @@
-// The steps of a node's walk: past choices and spellings, and past a child.
+// The steps of a node's walk: past choices and spellings, and past a child. Each takes just the slices that it reads or writes, so that no step may touch the others.
 ghost use Rattle.std.specs.Prelude.{◌*◌, ◌<◌, ◌≤◌, length};
 ghost use Rattle.keys.specs.Limits.{record_words};
 ghost use Rattle.key_parts.specs.Spelling.{AsksSpelling};
