@@ -43,9 +43,7 @@ fn read_noting(
         named: 0,
         noted: 0,
     };
-    match ty(
-        text, tokens, classes, nodes, names, noting, given, true, m,
-    ) {
+    match ty(text, tokens, classes, nodes, names, noting, given, true, m) {
         Ok(a) => finish(text, noting, nodes, names, notes, key, a.m),
         Err(stop) => {
             let place = stop.m.cursor();

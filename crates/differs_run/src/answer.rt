@@ -8,11 +8,7 @@ use sound_keys::sound::sound;
 // A refusal's number, side and bit.
 fn refused(out: &mut Out, x: Undiffered) {
     out.bytes(b"refused");
-    out.three(
-        x.why.number() as u64,
-        x.side.number() as u64,
-        x.bit as u64,
-    );
+    out.three(x.why.number() as u64, x.side.number() as u64, x.bit as u64);
 }
 
 // Whether the left key is one.

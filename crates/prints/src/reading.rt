@@ -238,10 +238,7 @@ fn refused_at(source: Source, x: Refused) -> usize {
 
 // Whether a refusal has a place.
 fn is_placed(x: Refused) -> bool {
-    !matches!(
-        x.why,
-        Refusal::BadList | Refusal::NoSpace
-    )
+    !matches!(x.why, Refusal::BadList | Refusal::NoSpace)
 }
 
 // A refusal with its place, ` at line 1, column 15 (token 4)`, if it has one, what it means, and its source line.

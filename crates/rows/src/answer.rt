@@ -30,7 +30,12 @@ pub fn of_reading(
 }
 
 // 0, the counts of nodes, names and letters; or the refusal's number and bit; and zeros.
-pub fn of_taking(taking: Result<Used, NotTaken>, nodes: &[u64], names: &[u64], letters: &[u8]) -> Answer {
+pub fn of_taking(
+    taking: Result<Used, NotTaken>,
+    nodes: &[u64],
+    names: &[u64],
+    letters: &[u8],
+) -> Answer {
     let said = match taking {
         Ok(u) => [0, u.nodes, u.names, u.letters, 0, 0, 0, 0],
         Err(x) => [x.why.number(), x.bit, 0, 0, 0, 0, 0, 0],

@@ -17,9 +17,7 @@ impl Work {
             key,
         } = room.lend(text, job.room, job.space);
         match read(text, tokens, 0, job.parens, nodes, names, notes, key) {
-            Ok(c) => granted(
-                out, text, tokens, nodes, names, visits, notes, key, c, *job,
-            ),
+            Ok(c) => granted(out, text, tokens, nodes, names, visits, notes, key, c, *job),
             Err(x) => refused(out, text, tokens, x, *job),
         }
     }
