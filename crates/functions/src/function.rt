@@ -390,7 +390,7 @@ fn constructor_node(
         p.this.bits != 0,
         notes,
         given,
-        Note::ThisOnConstructor,
+        Note::ThisOnConstructor as usize,
         p.this.first,
         p.this.end,
         p.m,

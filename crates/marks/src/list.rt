@@ -44,7 +44,15 @@ pub fn list_end(
     ensures ends_at { EndsAt given m (told_list result) }
 {
     let p = next(m);
-    let m = report_if(k.count == 0, notes, given, n, first, end_byte(words, p), p)?;
+    let m = report_if(
+        k.count == 0,
+        notes,
+        given,
+        n.number(),
+        first,
+        end_byte(words, p),
+        p,
+    )?;
     Ok(Entries {
         there: true,
         kids: k,

@@ -76,7 +76,7 @@ pub fn bound(
         reserved(kind_at(words, m)),
         notes,
         given,
-        Note::ReservedName,
+        Note::ReservedName as usize,
         first_byte(words, m),
         end_byte(words, q),
         q,

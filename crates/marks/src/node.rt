@@ -109,12 +109,12 @@ pub fn put_list(
     nodes: &mut [u64],
     given: Given,
     b: Begin,
-    tag: Tag,
+    tag: usize,
     k: Kids,
     m: Mark,
 ) -> Result<Read, Stop>
-    requires { MayPutList words.now nodes.old given b (tag_number tag) k m }
-    ensures makes_list { MakesList words.now given b (tag_number tag) k m nodes.old (told result) nodes.new }
+    requires { MayPutList words.now nodes.old given b tag k m }
+    ensures makes_list { MakesList words.now given b tag k m nodes.old (told result) nodes.new }
     ensures put { Put given m (told result) }
 {
     if List::LONGEST < k.count {
@@ -123,15 +123,7 @@ pub fn put_list(
             m,
         });
     }
-    put(
-        words,
-        nodes,
-        given,
-        b,
-        tag.number() + Tag::ALL * k.count,
-        k,
-        m,
-    )
+    put(words, nodes, given, b, tag + Tag::ALL * k.count, k, m)
 }
 
 // A node about the tree that was read last, which ended before m.

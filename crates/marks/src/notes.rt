@@ -60,30 +60,30 @@ impl Noting {
 }
 
 // The words of a record. The array comes as a slice: lending it so is what tells the proof how long it is.
-fn append_note(notes: &mut [u64], at: usize, n: Note, place: Place, other: Place)
+fn append_note(notes: &mut [u64], at: usize, number: usize, place: Place, other: Place)
     requires { note_at (at + 1) ≤ length notes.old }
-    ensures at_after { notes_of notes.new (at + 1) ≡ notes_of notes.old at ++ (note_both (number_of n) place.first place.end other.first other.end ∷ []) }
+    ensures at_after { notes_of notes.new (at + 1) ≡ notes_of notes.old at ++ (note_both number place.first place.end other.first other.end ∷ []) }
     ensures notes_unchanged { tally_of notes.new ≡ tally_of notes.old }
 {
     let to = Noting::TALLIES + at * Noting::RECORD;
-    notes[to] = n.number() as u64;
+    notes[to] = number as u64;
     notes[to + 1] = place.first as u64;
     notes[to + 2] = place.end as u64;
     notes[to + 3] = other.first as u64;
     notes[to + 4] = other.end as u64;
 }
 
-// A diagnostic of two places; 9 where it would be one too many or has no record.
+// A diagnostic of two places, by its number, which is any: docs/MAP names `report_both`. 9 where it would be one too many or has no record.
 pub fn report_both(
     notes: &mut [u64; Noting::WORDS],
     given: Given,
-    n: Note,
+    number: usize,
     place: Place,
     other: Place,
     m: Mark,
 ) -> Result<Mark, Stop>
     requires { m.noted ≤ given.records }
-    ensures reports { Reports true given (note_both (number_of n) place.first place.end other.first other.end) m notes.old (told_mark result) notes.new }
+    ensures reports { Reports true given (note_both number place.first place.end other.first other.end) m notes.old (told_mark result) notes.new }
     ensures noted { Noted given m (told_mark result) }
 {
     if Notes::MOST <= m.noted || given.records <= m.noted {
@@ -92,7 +92,7 @@ pub fn report_both(
             m,
         });
     }
-    append_note(notes, m.noted, n, place, other);
+    append_note(notes, m.noted, number, place, other);
     Ok(Mark {
         noted: m.noted + 1,
         ..m
@@ -103,18 +103,18 @@ pub fn report_both(
 pub fn report(
     notes: &mut [u64; Noting::WORDS],
     given: Given,
-    n: Note,
+    number: usize,
     first: usize,
     end: usize,
     m: Mark,
 ) -> Result<Mark, Stop>
     requires { m.noted ≤ given.records }
-    ensures reports { Reports true given (note (number_of n) first end) m notes.old (told_mark result) notes.new }
+    ensures reports { Reports true given (note number first end) m notes.old (told_mark result) notes.new }
     ensures noted { Noted given m (told_mark result) }
 {
     let place = Place { first, end };
     let none = Place { first: 0, end: 0 };
-    report_both(notes, given, n, place, none, m)
+    report_both(notes, given, number, place, none, m)
 }
 
 // A diagnostic where a test holds.
@@ -122,17 +122,17 @@ pub fn report_if(
     holds: bool,
     notes: &mut [u64; Noting::WORDS],
     given: Given,
-    n: Note,
+    number: usize,
     first: usize,
     end: usize,
     m: Mark,
 ) -> Result<Mark, Stop>
     requires { m.noted ≤ given.records }
-    ensures reports { Reports holds given (note (number_of n) first end) m notes.old (told_mark result) notes.new }
+    ensures reports { Reports holds given (note number first end) m notes.old (told_mark result) notes.new }
     ensures noted { Noted given m (told_mark result) }
 {
     if holds {
-        return report(notes, given, n, first, end, m);
+        return report(notes, given, number, first, end, m);
     }
     Ok(m)
 }

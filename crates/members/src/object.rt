@@ -269,7 +269,7 @@ pub fn note_this(
         this.bits != 0,
         notes,
         given,
-        Note::ThisOnConstructor,
+        Note::ThisOnConstructor as usize,
         this.first,
         this.end,
         m,
@@ -382,7 +382,7 @@ pub fn index_head(
         kind_at(words, p) == Kind::QUESTION,
         notes,
         given,
-        Note::AskedIndex,
+        Note::AskedIndex as usize,
         first_byte(words, p),
         end_byte(words, next(p)),
         p,
@@ -423,7 +423,7 @@ pub fn index_next(
         kind_at(words, p) == Kind::R_BRACK,
         notes,
         given,
-        Note::CommaAfterIndex,
+        Note::CommaAfterIndex as usize,
         first_byte(words, m),
         end_byte(words, p),
         p,
@@ -472,18 +472,25 @@ fn note_index(
     ensures noted { Noted given m (told_mark result) }
 {
     if ps.count != 1 {
-        return report(notes, given, Note::NotOneIndex, b, end, m);
+        return report(notes, given, Note::NotOneIndex as usize, b, end, m);
     }
     let at = ps.kids.first;
     if is_literal(nodes, at) {
         let place = place_at(nodes, at);
-        return report(notes, given, Note::LiteralIndex, place.first, place.end, m);
+        return report(
+            notes,
+            given,
+            Note::LiteralIndex as usize,
+            place.first,
+            place.end,
+            m,
+        );
     }
     report_if(
         is_no_index(nodes, at),
         notes,
         given,
-        Note::KeywordIndex,
+        Note::KeywordIndex as usize,
         first,
         ps.end,
         m,

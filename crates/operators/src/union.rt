@@ -3,11 +3,10 @@ ghost use Rattle.std.specs.Prelude.{◌≡◌, ◌*◌, ◌≤◌, ◌<◌, leng
 ghost use Rattle.words.specs.Limits.{most_tokens, tallest};
 ghost use Rattle.keys.specs.Limits.{record_words};
 ghost use Rattle.marks.specs.State.{Sound, Fine, Under};
-ghost use Rattle.marks.specs.Number.{tag_number};
 ghost use Rattle.marks.specs.Told.{told};
 ghost use Rattle.operators.specs.Union.{is_alone, Joins, JoinedAt};
 
-use marks::node::{Tag, link, put_list};
+use marks::node::{link, put_list};
 use marks::state::{Begin, Given, Kids, Mark, Read, Stop, kind_at};
 
 // Whether a part is alone behind those before it: there are none, and no mark stood before it.
@@ -17,21 +16,21 @@ fn alone(words: &[u64], mark: usize, k: Kids, m: Mark) -> bool
     k.count == 0 && kind_at(words, m) != mark
 }
 
-// The last part was read: alone it is just that, unless a mark stood before it, else it ends the list of a node.
+// The last part was read: alone it is just that, unless a mark stood before it, else it ends the list of a node, whose tag is any number: docs/PROMISES names `joined`.
 pub fn joined(
     words: &[u64],
     nodes: &mut [u64],
     given: Given,
     mark: usize,
-    tag: Tag,
+    tag: usize,
     k: Kids,
     before: usize,
     m: Mark,
     a: Read,
 ) -> Result<Read, Stop>
     requires sound { Sound words.now × (given.room * record_words ≤ length nodes.old) × Fine (length words.now) given a.m × Under before k × (before < a.m.used) }
-    requires high_le_tallest { (a.high ≤ tallest) × (m.half ≤ 1) × (m.named ≤ most_tokens) }
-    ensures joins { Joins words.now given mark (tag_number tag) k before m nodes.old (told (Ok a)) (told result) nodes.new }
+    requires high_le_tallest { (a.high ≤ tallest) × (m.half ≤ 1) × (m.named ≤ most_tokens) × (tag < 64) }
+    ensures joins { Joins words.now given mark tag k before m nodes.old (told (Ok a)) (told result) nodes.new }
     ensures joined_at { JoinedAt given (told (Ok a)) (told result) }
 {
     if alone(words, mark, k, m) {

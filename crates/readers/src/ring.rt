@@ -601,7 +601,17 @@ fn union(
         let a = inter(text, words, classes, nodes, names, notes, given, on, p)?;
         let q = a.m;
         if kind_at(words, q) != Kind::PIPE {
-            return joined(words, nodes, given, Kind::PIPE, Tag::Union, k, p.used, m, a);
+            return joined(
+                words,
+                nodes,
+                given,
+                Kind::PIPE,
+                Tag::Union as usize,
+                k,
+                p.used,
+                m,
+                a,
+            );
         }
         k = link(nodes, k, p.used, q.used, a.high);
         p = Mark {
@@ -644,7 +654,7 @@ fn inter(
                 nodes,
                 given,
                 Kind::AMP,
-                Tag::Intersection,
+                Tag::Intersection as usize,
                 k,
                 p.used,
                 m,
@@ -1023,7 +1033,7 @@ fn object(
         ..p
     };
     let b = Begin::at(words, m);
-    put_list(words, nodes, given, b, Tag::Object, k, e)
+    put_list(words, nodes, given, b, Tag::Object as usize, k, e)
 }
 
 // Member: a signature, an index signature, or a property with its optional type.
@@ -1234,7 +1244,7 @@ fn template(
         if kind == Kind::TEMPLATE_TAIL {
             let n = spell(words, names, q);
             let b = Begin::at(words, m);
-            return put_list(words, nodes, given, b, Tag::Template, k, n);
+            return put_list(words, nodes, given, b, Tag::Template as usize, k, n);
         }
         if kind != Kind::TEMPLATE_MIDDLE {
             return Err(Stop {

@@ -160,7 +160,7 @@ fn member(
         l.dots,
         notes,
         given,
-        Note::RestAfterLabel,
+        Note::RestAfterLabel as usize,
         l.typed,
         end,
         c.m,
@@ -169,7 +169,7 @@ fn member(
         converted,
         notes,
         given,
-        Note::AskedAfterLabel,
+        Note::AskedAfterLabel as usize,
         l.typed,
         end,
         n,
@@ -219,7 +219,7 @@ fn rest_of(
         l.asked,
         notes,
         given,
-        Note::OptionalAndRest,
+        Note::OptionalAndRest as usize,
         l.b.first,
         end_byte(words, m),
         m,
@@ -268,7 +268,14 @@ pub fn checked(
     if last_tag(nodes, m.used) == Tag::Rest as usize {
         return Ok(Seen { latest, m });
     }
-    let m = report_both(notes, given, Note::RequiredAfterOptional, place, other, m)?;
+    let m = report_both(
+        notes,
+        given,
+        Note::RequiredAfterOptional as usize,
+        place,
+        other,
+        m,
+    )?;
     Ok(Seen { latest, m })
 }
 
@@ -285,5 +292,5 @@ pub fn tuple_node(
     ensures makes_list { MakesList words.now given b 19 k (next_mark m) nodes.old (told result) nodes.new }
     ensures put { Put given (next_mark m) (told result) }
 {
-    put_list(words, nodes, given, b, Tag::Tuple, k, next(m))
+    put_list(words, nodes, given, b, Tag::Tuple as usize, k, next(m))
 }
