@@ -2,9 +2,8 @@
 use mathlib.Core.Path.{◌≡◌, refl, sym, ap, ◌∙◌}
 use mathlib.Core.Bool.{Bool, true, false, not}
 use mathlib.Core.List.{List, [], ◌∷◌}
-use Prim.Native.Nat.{ℕ, ◌+◌, ◌*◌, ◌≤◌}
+use Prim.Native.Nat.{ℕ, ◌+◌, ◌*◌}
 use native.Mathlib.Omega.{arith}
-use borrow.Author.Tests.{ltb-false}
 use lib.Dec.{ltb, eqb, leb-zero}
 use lib.ListN.{length}
 use Rattle.words.specs.Limits.{longest}
@@ -19,12 +18,12 @@ use Rattle.keys.specs.Placed.{Placed, join, Opt, absent, present, bit, listed, m
 use Rattle.keys.specs.Store.{Run, done, plant, packed, ◌⊕◌}
 use Rattle.keys.proofs.StoreLaws.{join_join}
 use Rattle.rules.specs.Refusal.{too_long}
-use Rattle.rules.specs.Notes.{Note, note, this_on_constructor}
+use Rattle.rules.specs.Notes.{note, this_on_constructor}
 use Rattle.rules.specs.State as rule
 use Rattle.rules.specs.State.{State, Result, Reader, refuse, end, make, report_if}
 use Rattle.rules.specs.List.{count}
 use Rattle.rules.specs.Function.{ThisParameter, Parameters, this_type, report_this, function_node}
-use Rattle.marks.specs.State.{view, given_of, place_of, Fine, Reached}
+use Rattle.marks.specs.State.{view, given_of}
 use Rattle.marks.specs.Laid.{skeleton, run_in, runs, runs_opt, IsNode, IsOpt, AllNodes, AllOpt, Shape}
 use Rattle.marks.specs.Says.{is_there}
 use Rattle.marks.specs.Notes.{refused_at, Reports, Noted}
@@ -32,12 +31,11 @@ use Rattle.marks.specs.Node.{Makes, opt_list, list_scale}
 use Rattle.functions.specs.Function.{type_bits, this_bits, this_first, this_end, ThisIs, IsThis, this_run, this_scale, function_choices, constructor_choices, MakesFunction}
 use Rattle.marks.proofs.RunLaws.{skeleton_join}
 use Rattle.marks.proofs.Answers.{says_same, says_refused, says_stop}
-use Rattle.marks.proofs.ReportLaws.{reports_done, reports_refused, built_reported, reports_high}
+use Rattle.marks.proofs.ReportLaws.{reports_done, reports_refused, built_reported}
 use Rattle.marks.proofs.ShapeLaws.{packed_node, skeleton_maybe, packed_maybe, skeleton_list, packed_list, skeleton_maybe_list, packed_maybe_list}
 use Rattle.functions.proofs.ParameterLaws.{type_bits_lem}
-use Rattle.marks.proofs.MarkLaws.{fine_noted, or_false}
+use Rattle.marks.proofs.MarkLaws.{or_false}
 use Rattle.marks.specs.declared.state.Given.{Given}
-use Rattle.marks.specs.declared.state.Mark.{Mark}
 use Rattle.marks.specs.Told.{Answer}
 use Rattle.functions.specs.declared.function.FunctionHead.{FunctionHead}
 use Rattle.functions.specs.declared.function.This.{This as ThisCode}
@@ -206,24 +204,3 @@ module _ (W : List ℕ) (given : Given) (h : FunctionHead) (there : Bool) (many 
         ∙ none_long g (count ts) (length ps.list) _ (view a.m O') (rw (← many_is, ← count_is) long))
         (makes text 0 B (((runs_opt 4 ts ⊕ done) ⊕ runs 5 ps.list) ⊕ run_in 0 u) 13 _ M O' (built_reported reports more (rw new at b)) first_is
         (rw (choices_are, there_is, many_is, count_is) (shape_constructor ts ps.list u each-type each is_node h.is_abstract))))
-
--- ---- Numbers
-
--- Neither list is too long.
-pub both_fit : (a b : ℕ) → ltb longest a or ltb longest b ≡ false → (a ≤ longest) × (b ≤ longest)
-both_fit a b e = by (ltb longest a) (ltb longest b) refl refl e
-  where
-    by : (x y : Bool) → ltb longest a ≡ x → ltb longest b ≡ y → x or y ≡ false → (a ≤ longest) × (b ≤ longest)
-    by true y p q h = let z : ◌≡◌ {A = ℕ} 0 1 = cc in absurd (omega arith)
-    by false y p q h = (ltb-false longest a p, ltb-false longest b (q ∙ h))
-
--- A report that is refused reaches its mark.
-pub reached_reported : {holds : Bool} {len : ℕ} {given : Given} {n : Note} {m : Mark} {O : List ℕ} {a : Answer} {O' : List ℕ} → Reports holds given n m O a O'
-    → (a.why ≡ 0 → ⊥) → Fine len given m → Noted given m a → Reached len given (place_of m) (m.used + 1) a.high a.why a.m
-reached_reported r stop f n =
-    record {
-      past = omega (arith, n.at_is, n.half_is);
-      more = omega (arith, n.used_is, stop);
-      low = omega (arith, reports_high r);
-      fine = fine_noted f n;
-    }

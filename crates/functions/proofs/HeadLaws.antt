@@ -4,10 +4,8 @@ use mathlib.Core.Bool.{Bool, true, false}
 use mathlib.Core.List.{List}
 use Prim.Native.Nat.{ℕ, ◌+◌, ◌*◌}
 use native.Mathlib.Omega.{arith}
-use Rattle.words.specs.Kind.{Question, Dot3, Const, In, Out, This}
-use Rattle.words.specs.Test.{◌and◌, ◌or◌, test}
-use Rattle.words.specs.Class as class
-use Rattle.words.specs.Cursor.{whole_kind}
+use Rattle.words.specs.Kind.{Question, Dot3, This}
+use Rattle.words.specs.Test.{◌and◌, test}
 use Rattle.keys.specs.Bits.{unit}
 use Rattle.keys.specs.Placed.{Spelling}
 use Rattle.rules.specs.Refusal.{misplaced_this, type_parameter_modifier}
@@ -21,20 +19,13 @@ use Rattle.marks.specs.Names.{one_name}
 use Rattle.marks.specs.Notes.{refused_at}
 use Rattle.marks.specs.List.{here}
 use Rattle.functions.specs.Function.{type_parameter_head, parameter_head}
-use Rattle.marks.proofs.Answers.{then_read_lem, then_refused}
+use Rattle.marks.proofs.Answers.{then_read_lem}
 use Rattle.marks.proofs.BuiltLaws.{spoken_from, spoken_to}
 use Rattle.marks.proofs.BoundLaws.{bound_same}
 use Rattle.marks.proofs.StepLaws.{view_past}
 use Rattle.marks.specs.declared.state.Given.{Given}
 use Rattle.marks.specs.declared.state.Mark.{Mark}
 use Rattle.marks.specs.Told.{Answer}
-
--- ---- Tests, by what each of their parts answers
-
-module _ (text W O : List ℕ) (given : Given) (m : Mark) where
-  pub varies_is : {a b c d : Bool} → here W Const m ≡ a → here W In m ≡ b → here W Out m ≡ c → class.binding_word (whole_kind W (m.at + 1)) ≡ d
-      → types.varies (given_of text W given) (view m O) ≡ (a or b or (c and d))
-  varies_is p q r s = rw (p, q, r, s)
 
 -- ---- A type parameter up to its constraint
 
@@ -60,20 +51,12 @@ module _ (text W O : List ℕ) (given : Given) (m p : Mark) (e : p ≡ past_mark
   head_from_lem : parameter_head (given_of text W given) (view m O) ≡ head_from (given_of text W given) (here W Dot3 m) (view p O)
   head_from_lem = ap (head_from (given_of text W given) (here W Dot3 m)) (sym (ap (λ (x : Mark). view x O) e ∙ view_past text W given Dot3 m O))
 
-  -- A `this` stands behind the dots.
-  pub head_this : (here W Dot3 m and here W This p) ≡ true → parameter_head (given_of text W given) (view m O) ≡ refuse misplaced_this p.at p.half
-  head_this h = head_from_lem ∙ rw h
-
   head_named : (here W Dot3 m and here W This p) ≡ false
       → parameter_head (given_of text W given) (view m O)
       ≡ then (one_name 0 (given_of text W given) (view p O)) λ x q. read (x, rule.stands (given_of text W given) Question q) (past (given_of text W given) Question q)
   head_named h = head_from_lem ∙ rw h
 
   module _ (h : (here W Dot3 m and here W This p) ≡ false) {why : ℕ} {q : Mark} {M M' : List ℕ} (w : SaysNames one Any (one_name 0 (given_of text W given) (view p O)) why p q M M' O) where
-    -- No name stands there.
-    pub parameter_head_refused : (why ≡ 0 → ⊥) → parameter_head (given_of text W given) (view m O) ≡ refuse why q.at q.half
-    parameter_head_refused n = head_named h ∙ then_refused _ (w.refused n)
-
     -- The name was read, and a `?` passed if it stands there.
     pub parameter_head_read : {len len' : ℕ} (r : Mark) (choices : ℕ) → why ≡ 0 → r ≡ past_mark W Question q → Moved len m p → Moved len' q r
         → choices ≡ unit (here W Dot3 m) + 2 * unit (here W Question q)

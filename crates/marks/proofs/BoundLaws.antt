@@ -1,11 +1,7 @@
 -- A name that is bound, and its diagnostic.
 use mathlib.Core.Path.{◌≡◌, refl, sym, ◌∙◌, subst}
-use mathlib.Core.Bool.{false}
 use mathlib.Core.List.{List}
-use Prim.Native.Nat.{ℕ, ◌≤◌, ◌<◌}
-use lib.Dec.{leb}
-use borrow.Author.Tests.{le-leb, lt-leb}
-use Rattle.words.specs.Kind.{Any as AnyWord, Unknown}
+use Prim.Native.Nat.{ℕ}
 use Rattle.words.specs.Cursor.{kind_at, first_byte, end_byte}
 use Rattle.keys.specs.Placed.{Spelling}
 use Rattle.keys.specs.Store.{done}
@@ -24,15 +20,6 @@ use Rattle.marks.proofs.ReportLaws.{reports_done, reports_refused, laid_reported
 use Rattle.marks.specs.declared.state.Given.{Given}
 use Rattle.marks.specs.declared.state.Mark.{Mark}
 use Rattle.marks.specs.Told.{Answer}
-
--- ---- Whether a kind is reserved
-
-module _ (k : ℕ) where
-  pub reserved_low : k < AnyWord → false ≡ reserved k
-  reserved_low h = rw (lt-leb AnyWord k h)
-
-  pub reserved_from : AnyWord ≤ k → leb k Unknown ≡ reserved k
-  reserved_from h = rw (le-leb AnyWord k h)
 
 -- ---- The name
 

@@ -12,7 +12,7 @@ use Rattle.keys.specs.Store.{Run, done, name, under, called, first_kid, records,
 use Rattle.keys.proofs.StoreLaws.{under_join, called_join, records_join, names_in_join}
 use Rattle.keys.specs.Words.{first_nodes, first_names}
 use Rattle.rules.specs.Notes.{Note}
-use Rattle.marks.specs.State.{tallies, note_at, note_from, notes_of, tally_of}
+use Rattle.marks.specs.State.{tallies, note_at, note_from, notes_of}
 use Rattle.marks.specs.Laid.{skeleton, names_run, Was, was_at, Laid}
 use Rattle.marks.proofs.RunLaws.{under_skeleton, called_skeleton, records_skeleton, names_in_skeleton, under_names, records_names}
 
@@ -142,21 +142,6 @@ notes_recorded O n z h =
     ∙ notes_set s1 n (i + 1) z.first (omega arith) ∙ notes_set O n i z.number (omega arith) in
     ap (notes_of (recorded O i z)) (let e : n + 1 ≡ suc n = omega arith in e)
     ∙ ap₂ (λ (l : List Note) (y : Note). l ++ (y ∷ [])) before (note_recorded O i z (omega arith))
-
--- A word behind the tally does not change it.
-tally_set : (O : List ℕ) (i v : ℕ) → tallies ≤ i → tally_of (set O i v) ≡ tally_of O
-tally_set O i v h = rw (get_or-set_other O i 0 v 0 (λ e. omega arith), get_or-set_other O i 1 v 0 (λ e. omega arith))
-
--- Nor do the words of a record.
-pub tally_recorded : (O : List ℕ) (n : ℕ) (z : Note) → tally_of (recorded O (note_at n) z) ≡ tally_of O
-tally_recorded O n z =
-    let i = note_at n in
-    let s1 = set O i z.number in
-    let s2 = set s1 (i + 1) z.first in
-    let s3 = set s2 (i + 2) z.end in
-    let s4 = set s3 (i + 3) z.other_first in
-    tally_set s4 (i + 4) z.other_end (omega arith) ∙ tally_set s3 (i + 3) z.other_first (omega arith) ∙ tally_set s2 (i + 2) z.end (omega arith)
-    ∙ tally_set s1 (i + 1) z.first (omega arith) ∙ tally_set O i z.number (omega arith)
 
 -- ---- What is laid
 

@@ -1,14 +1,14 @@
 -- Nodes with no child or one, once they are put: their numbers, and what the answer says.
 use mathlib.Core.Path.{◌≡◌, sym, ap, subst}
 use mathlib.Core.List.{List, [], ◌∷◌}
-use Prim.Native.Nat.{ℕ, ◌-◌, ◌≤◌, ◌<◌}
+use Prim.Native.Nat.{ℕ, ◌-◌, ◌≤◌}
 use native.Mathlib.Omega.{arith}
 use Rattle.words.specs.Limits.{tallest}
 use Rattle.words.specs.Cursor.{first_byte}
 use Rattle.keys.specs.Placed.{Placed, tree, Spelling}
 use Rattle.keys.specs.Store.{done}
 use Rattle.rules.specs.State.{make, first, end, next, spelling}
-use Rattle.marks.specs.State.{view, given_of, next_mark, named_mark, Spelt, Fine, Under}
+use Rattle.marks.specs.State.{view, given_of, next_mark, named_mark, Spelt, Under}
 use Rattle.marks.specs.Laid.{run_in, name_run, Was, was, Stands, Shape}
 use Rattle.marks.specs.Says.{Says}
 use Rattle.marks.specs.Node.{Makes}
@@ -23,20 +23,11 @@ use Rattle.marks.specs.Told.{Answer}
 
 -- ---- Numbers
 
-pub fine_next : {len : ℕ} {g : Given} {m : Mark} → Fine len g m → m.at < len → Fine len g (next_mark m)
-fine_next f h = record { inside = omega arith; half = omega arith; roomy = f.roomy; few = omega (arith, f.few); recorded = f.recorded }
-
-pub fine_named : {len : ℕ} {g : Given} {m : Mark} → Fine len g m → m.at < len → Fine len g (named_mark m)
-fine_named f h = record { inside = omega arith; half = omega arith; roomy = f.roomy; few = omega (arith, f.few); recorded = f.recorded }
-
 abbrev pub no_kids : Kids
 no_kids = record { first = 0; count = 0; high = 0 }
 
 abbrev pub one_kid : ℕ → ℕ → Kids
 one_kid used high = record { first = used - 1; count = 1; high = high }
-
-pub under_none : (used : ℕ) → Under used no_kids
-under_none used = record { first = omega arith; count = omega arith; some = omega arith; low = omega arith }
 
 pub under_one : (used high : ℕ) → 1 ≤ used → high ≤ tallest → Under used (one_kid used high)
 under_one used high h l = record { first = omega arith; count = omega arith; some = omega arith; low = l }

@@ -1,46 +1,20 @@
 -- Marks and numbers: how large what stands at a cursor is, the steps of a mark, how far an answer reaches; and tests of kinds.
-use mathlib.Core.Path.{◌≡◌, refl, sym, ap, ◌∙◌, subst}
+use mathlib.Core.Path.{◌≡◌, refl, sym, ap, ◌∙◌}
 use mathlib.Core.Bool.{Bool, true, false}
 use mathlib.Core.List.{List}
-use Prim.Native.Nat.{ℕ, zero, suc, ◌+◌, ◌≤◌, ◌<◌}
+use Prim.Native.Nat.{ℕ, zero, suc, ◌<◌}
 use native.Mathlib.Omega.{arith}
 use native.Mathlib.Decide.{dec_lt}
 use lib.Dec.{eqb}
 use mir.Val.{bool_byte}
 use lib.ListN.{length, get_or, get_or-eq_default}
 use borrow.Author.Tests.{eq-eqb, ne_eqb}
-use Rattle.words.specs.Limits.{most_text}
 use Rattle.words.specs.Test.{◌or◌}
-use Rattle.words.specs.Class.{in_class}
-use Rattle.words.specs.Word.{kind, start}
-use Rattle.words.specs.Cursor.{word_at, left, kind_at, taken_end, end_byte}
+use Rattle.words.specs.Word.{kind}
+use Rattle.words.specs.Cursor.{left, kind_at}
 use Rattle.keys.specs.Bits.{unit}
-use Rattle.marks.specs.State.{Sound, Inside, Fine, Reached, place_of, Moved, Along, next_mark, named_mark, past_mark}
-use Rattle.marks.specs.Notes.{refused_at, Noted}
-use Rattle.marks.specs.Node.{Put}
-use Rattle.marks.specs.declared.state.Given.{Given}
+use Rattle.marks.specs.State.{Inside, Moved, Along, next_mark, named_mark, past_mark}
 use Rattle.marks.specs.declared.state.Mark.{Mark}
-use Rattle.marks.specs.Told.{Answer}
-
--- Where a name stands the list is not over.
-pub class_some : (class k : ℕ) → class ≤ 1 → in_class class k ≡ true → 0 < k
-class_some class (suc k) h e = omega arith
-class_some zero zero h e = let z : ◌≡◌ {A = ℕ} 0 1 = cc in absurd (omega arith)
-class_some (suc zero) zero h e = let z : ◌≡◌ {A = ℕ} 0 1 = cc in absurd (omega arith)
-class_some (suc (suc class)) zero h e = absurd (omega arith)
-
--- No token starts too far on.
-pub start_small : {W : List ℕ} → Sound W → (at : ℕ) → start (word_at W at) ≤ most_text
-start_small {W} s at = omega (arith, s.ends at)
-
-taken_small : {W : List ℕ} → Sound W → (at : ℕ) → taken_end W at ≤ most_text + 1
-taken_small s zero = omega arith
-taken_small s (suc i) = omega (arith, s.ends i)
-
--- What was taken last ends in the text, or one byte past a start.
-pub end_small : {W : List ℕ} → Sound W → (at half : ℕ) → half ≤ 1 → end_byte W at half ≤ most_text + 1
-end_small s at zero h = taken_small s at
-end_small s at (suc half) h = omega (arith, start_small s at)
 
 -- ---- Steps of a mark
 
@@ -127,38 +101,8 @@ inside_along a = record { inside = a.inside; half = a.half }
 pub inside_next : {len : ℕ} (m : Mark) → m.at < len → Inside len (next_mark m)
 inside_next m h = record { inside = omega arith; half = omega arith }
 
-pub past_here : (W : List ℕ) (k : ℕ) (m : Mark) → eqb (kind_at W m.at m.half) k ≡ true → past_mark W k m ≡ next_mark m
-past_here W k m e = rw e
-
 pub past_none : (W : List ℕ) (k : ℕ) (m : Mark) → eqb (kind_at W m.at m.half) k ≡ false → past_mark W k m ≡ m
 past_none W k m e = rw e
-
--- ---- Marks that are fine, and how far an answer reaches
-
--- A mark that is fine stays so with a diagnostic more, and with a node more.
-pub fine_noted : {len : ℕ} {given : Given} {m : Mark} {a : Answer} → Fine len given m → Noted given m a → Fine len given a.m
-fine_noted f n = record { inside = omega arith; half = omega arith; roomy = omega arith; few = omega arith; recorded = n.recorded }
-
-pub fine_put : {len : ℕ} {given : Given} {m : Mark} {a : Answer} → Fine len given m → Put given m a → Fine len given a.m
-fine_put f p = record { inside = omega arith; half = omega arith; roomy = p.roomy; few = omega arith; recorded = omega arith }
-
--- A node that was put at q, or a refusal.
-pub reached_put : {len place used : ℕ} {given : Given} {q : Mark} {a : Answer} (p : Mark) → q ≡ p → Fine len given p → place ≤ place_of p → used ≤ p.used + 1 → Put given q a
-    → Reached len given place used a.high a.why a.m
-reached_put {len} {place} {used} {given} {q} {a} p e f h u w = at_p (subst (λ (x : Mark). Put given x a) e w)
-  where
-    at_p : Put given p a → Reached len given place used a.high a.why a.m
-    at_p w = record { past = omega (arith, w.at_is, w.half_is); more = omega (arith, w.more); low = w.low; fine = fine_put f w }
-
--- A refusal at a mark.
-pub reached_refused : {len place used : ℕ} {given : Given} {m : Mark} {a : Answer} (why : ℕ) → a ≡ refused_at why m → Fine len given m
-    → place ≤ place_of m + why → used ≤ m.used + why → Reached len given place used a.high a.why a.m
-reached_refused {len} {place} {used} {given} {m} {a} why e f h u =
-    subst (λ (x : Answer). Reached len given place used x.high x.why x.m) (sym e) (record { past = h; more = u; low = omega arith; fine = f })
-
--- A place before, and fewer nodes, may be asked for.
-pub reached_less : {len place on used more high why : ℕ} {given : Given} {q : Mark} → place ≤ on → used ≤ more → Reached len given on more high why q → Reached len given place used high why q
-reached_less a b r = record { past = omega (arith, r.past); more = omega (arith, r.more); low = r.low; fine = r.fine }
 
 -- ---- Tests
 

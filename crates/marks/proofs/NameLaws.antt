@@ -6,23 +6,20 @@ use Prim.Native.Nat.{ℕ, suc, ◌+◌, ◌-◌, ◌*◌, ◌^◌, ◌≤◌, �
 use native.Mathlib.Omega.{arith}
 use lib.ListN.{length, take}
 use Rattle.words.specs.Kind.{Dot}
-use Rattle.words.specs.Class.{in_class}
 use Rattle.words.specs.Word.{start, size}
 use Rattle.words.specs.Check.{spelled}
-use Rattle.words.specs.Cursor.{word_at, kind_at}
+use Rattle.words.specs.Cursor.{word_at}
 use Rattle.keys.specs.Placed.{Spelling}
 use Rattle.keys.specs.Words.{first_names}
-use Rattle.rules.specs.Refusal.{unexpected}
-use Rattle.rules.specs.Names.{name, binding_word, dots_from, dotted}
-use Rattle.rules.specs.State.{Given, State, Result, read, refuse, then, next, kind, stands, spelling, turns}
-use Rattle.marks.specs.State.{view, given_of, Spelt, next_mark, named_mark}
+use Rattle.rules.specs.Names.{name, dots_from, dotted}
+use Rattle.rules.specs.State.{Given, State, Result, read, refuse, then, next, stands, turns}
+use Rattle.marks.specs.State.{view, next_mark, named_mark}
 use Rattle.marks.specs.Laid.{Spoken}
 use Rattle.marks.specs.Says.{GotNames, SaysNames, Any, one}
 use Rattle.marks.specs.Names.{Speaks, one_name, GotDots, SaysDots}
-use Rattle.marks.specs.Notes.{taken_at, refused_at}
+use Rattle.marks.specs.Notes.{taken_at}
 use Rattle.marks.proofs.BuiltLaws.{spoken_one, spoken_none, spoken_then, spoken_from}
 use Rattle.marks.proofs.Answers.{then_read_lem, then_refused}
-use Rattle.marks.specs.declared.state.Given as code
 use Rattle.marks.specs.declared.state.Mark.{Mark}
 use Rattle.marks.specs.Told.{Answer}
 
@@ -32,17 +29,6 @@ pub name_is : (g : Given) (s : State) → name g s ≡ one_name 1 g s
 unfolding name
 name_is g s = refl
 
-pub binding_is : (g : Given) (s : State) → binding_word g s ≡ one_name 0 g s
-unfolding binding_word
-binding_is g s = refl
-
-module _ (class : ℕ) (g : Given) (s : State) where
-  pub name_read : in_class class (kind g s) ≡ true → one_name class g s ≡ read (spelling g s) (next s)
-  name_read h = rw h
-
-  pub name_refused : in_class class (kind g s) ≡ false → one_name class g s ≡ refuse unexpected s.at s.half
-  name_refused h = rw h
-
 -- The word of a token behind the names is the token's name.
 pub speaks_word : {W : List ℕ} {m : Mark} {M M' : List ℕ} {first count : ℕ} → length M' ≡ length M
     → first ≡ start (word_at W m.at) → count ≡ size (word_at W m.at)
@@ -51,29 +37,6 @@ pub speaks_word : {W : List ℕ} {m : Mark} {M M' : List ℕ} {first count : ℕ
 speaks_word {W} {m} {M} {M'} {first} {count} l f n e text w =
     spoken_one (start (word_at W m.at)) (spelled text (word_at W m.at)) (named_mark m) refl refl refl l
     (e ∙ ap₂ (λ (x y : ℕ). take (length M) (first_names M m.named ++ ((x * 2 ^ 32 + y) ∷ []))) f (n ∙ sym (w.sizes m.at)))
-
--- No name of the class stands there.
-pub says_unnamed : (class : ℕ) (W : List ℕ) {m : Mark} {a : Answer} (text O M : List ℕ) (given : code.Given) → in_class class (kind_at W m.at m.half) ≡ false
-    → a ≡ refused_at unexpected m → SaysNames one Any (one_name class (given_of text W given) (view m O)) a.why m a.m M M O
-says_unnamed class W {m} text O M given h e =
-    subst (λ (z : Answer). SaysNames one Any (one_name class (given_of text W given) (view m O)) z.why m z.m M M O) (sym e)
-    (record { done = λ z. absurd (omega arith); refused = λ _. name_refused class (given_of text W given) (view m O) h })
-
--- The name there is spelled.
-pub says_named : (class : ℕ) {W : List ℕ} {m : Mark} {a : Answer} {M M' : List ℕ} (text O : List ℕ) (given : code.Given) → in_class class (kind_at W m.at m.half) ≡ true
-    → a ≡ taken_at (named_mark m) → Speaks W m M M' → Spelt text W → SaysNames one Any (one_name class (given_of text W given) (view m O)) a.why m a.m M M' O
-says_named class {W} {m} {a} {M} {M'} text O given h e s w =
-    subst (λ (z : Answer). SaysNames one Any (one_name class (given_of text W given) (view m O)) z.why m z.m M M' O) (sym e)
-    (record {
-      done = λ _.
-          record {
-            what = spelling (given_of text W given) (view m O);
-            is = name_read class (given_of text W given) (view m O) h;
-            such = tt;
-            spoken = s text w;
-          };
-      refused = λ z. absurd (z refl);
-    })
 
 -- ---- Dots
 

@@ -1,7 +1,7 @@
 -- What the rules' making of a node comes to, by its lists, its height and the room.
-use mathlib.Core.Path.{◌≡◌, refl, sym, ap, ap₂, ◌∙◌, subst}
+use mathlib.Core.Path.{◌≡◌, sym, ap, ap₂, ◌∙◌}
 use mathlib.Core.List.{List, [], ◌∷◌, ◌++◌}
-use Prim.Native.Nat.{ℕ, suc, ◌+◌, ◌-◌, ◌*◌, ◌^◌, ◌≤◌, ◌<◌, max}
+use Prim.Native.Nat.{ℕ, ◌+◌, ◌-◌, ◌*◌, ◌^◌, ◌≤◌, ◌<◌, max}
 use native.Mathlib.Omega.{arith}
 use lib.ListN.{length, set}
 use borrow.Author.Tests.{lt-ltb, le-ltb, le-leb, lt-leb}
@@ -14,7 +14,7 @@ use Rattle.keys.specs.Store.{Run, done, plant}
 use Rattle.rules.specs.Refusal.{too_long}
 use Rattle.rules.specs.State.{Given, State, read, refuse, make, end}
 use Rattle.marks.specs.Laid.{heights, Was, Built, Shape}
-use Rattle.marks.specs.Node.{Put, Makes, MakesList, Links}
+use Rattle.marks.specs.Node.{Makes, MakesList, Links}
 use Rattle.marks.specs.Notes.{refused_at}
 use Rattle.keys.specs.Words.{first_nodes}
 use Rattle.words.specs.Cursor.{end_byte}
@@ -62,12 +62,6 @@ shape_high {c} {tag} {choices} {p} {B} {t} {k} first end b s =
     let e : height (bare p) ≡ heights r = (let z : height (bare p) ≡ max (height (bare p)) 0 = omega arith in z) ∙ sym (heights_plant node_table (node_table.row c tag) p done) in
     let h : height (bare p) ≡ k.high = e ∙ sym (heights_skeleton r) ∙ ap heights s.same ∙ heights_skeleton t ∙ sym b.high_is in
     omega (arith, h)
-
--- A refusal puts nothing.
-pub put_refused : {given : code.Given} {m : Mark} {a : Answer} (why : ℕ) → a ≡ refused_at (suc why) m → m.used ≤ given.room → Put given m a
-put_refused {given} {m} why e h =
-    subst (λ (z : Answer). Put given m z) (sym e)
-    (record { at_is = refl; half_is = refl; named_is = refl; noted_is = refl; more = omega arith; roomy = h; low = omega arith })
 
 module _ (W : List ℕ) (given : code.Given) (b : Begin) (choices : ℕ) (k : Kids) (m : Mark) (N : List ℕ) where
   -- The node that is made, of any text.

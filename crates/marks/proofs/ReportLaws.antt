@@ -1,47 +1,21 @@
 -- What the rules' reporting of a diagnostic comes to, by what the code's did.
-use mathlib.Core.Path.{◌≡◌, refl, sym, ap, ◌∙◌, subst}
-use mathlib.Core.Bool.{Bool, true, false}
+use mathlib.Core.Path.{◌≡◌, sym, ap, ◌∙◌, subst}
+use mathlib.Core.Bool.{Bool}
 use mathlib.Core.List.{List}
-use Prim.Native.Nat.{ℕ, ◌≤◌, ◌<◌}
+use Prim.Native.Nat.{ℕ}
 use native.Mathlib.Omega.{arith}
-use borrow.Author.Tests.{le-leb, lt-leb}
-use Rattle.words.specs.Limits.{most_notes}
 use Rattle.rules.specs.Notes.{Note, note}
 use Rattle.rules.specs.Refusal.{many_notes}
 use Rattle.rules.specs.State.{State, Result, refuse, report_if}
-use Rattle.marks.specs.State.{view, given_of, noted_mark, notes_of}
+use Rattle.marks.specs.State.{view, given_of, notes_of}
 use Rattle.keys.specs.Store.{Run}
 use Rattle.marks.specs.Laid.{Was, Laid, BuiltAt}
-use Rattle.marks.specs.Notes.{is_full, taken_at, refused_at, Reports, silent, noted, full, Noted}
+use Rattle.marks.specs.Notes.{Reports, silent, noted, full, Noted}
 use Rattle.marks.proofs.LaidLaws.{length_notes, notes_before, laid_noted}
 use Rattle.marks.specs.declared.state.Given.{Given}
 use Rattle.marks.specs.declared.state.Mark.{Mark}
 use Rattle.marks.specs.declared.state.Kids.{Kids}
 use Rattle.marks.specs.Told.{Answer}
-
--- ---- Whether there is a record
-
-module _ (given : Given) (m : Mark) where
-  pub full_most : most_notes ≤ m.noted → is_full given m ≡ true
-  full_most h = rw (le-leb most_notes m.noted h)
-
-  pub full_records : m.noted < most_notes → given.records ≤ m.noted → is_full given m ≡ true
-  full_records l h = rw (lt-leb most_notes m.noted l, le-leb given.records m.noted h)
-
-  pub full_not : m.noted < most_notes → m.noted < given.records → is_full given m ≡ false
-  full_not l h = rw (lt-leb most_notes m.noted l, lt-leb given.records m.noted h)
-
--- Nothing was reported.
-pub noted_same : {given : Given} {m : Mark} {a : Answer} (why : ℕ) → a ≡ refused_at why m → m.noted ≤ given.records → Noted given m a
-noted_same {given} {m} why e h =
-    subst (λ (z : Answer). Noted given m z) (sym e)
-    (record { at_is = refl; half_is = refl; used_is = refl; named_is = refl; more = omega arith; recorded = h })
-
--- One diagnostic was.
-pub noted_one : {given : Given} {m : Mark} {a : Answer} → a ≡ taken_at (noted_mark m) → m.noted < given.records → Noted given m a
-noted_one {given} {m} e h =
-    subst (λ (z : Answer). Noted given m z) (sym e)
-    (record { at_is = refl; half_is = refl; used_is = refl; named_is = refl; more = omega arith; recorded = omega arith })
 
 -- ---- What was reported
 
@@ -53,16 +27,6 @@ reports_as {holds} {is} {given} {number} {f} {e} {f'} {e'} {m} {O} {a} {O'} h i 
     (subst (λ (x : ℕ). Reports holds given (note number x e') m O a O') i (subst (λ (x : ℕ). Reports holds given (note number f x) m O a O') j r))
 
 module _ {holds : Bool} {given : Given} {n : Note} {m : Mark} {O : List ℕ} {a : Answer} {O' : List ℕ} where
-  -- A report where the test holds.
-  pub reports_when : holds ≡ true → Reports true given n m O a O' → Reports holds given n m O a O'
-  reports_when h r = subst (λ (b : Bool). Reports b given n m O a O') (sym h) r
-
-  -- The answer has no height.
-  pub reports_high : Reports holds given n m O a O' → a.high ≡ 0
-  reports_high (silent h e o) = ap (λ (x : Answer). x.high) e
-  reports_high (noted h f e o t) = ap (λ (x : Answer). x.high) e
-  reports_high (full h f e o) = ap (λ (x : Answer). x.high) e
-
   -- The diagnostics before stand.
   pub reports_before : Reports holds given n m O a O' → notes_of O' m.noted ≡ notes_of O m.noted
   reports_before (silent h e o) = ap (λ (x : List ℕ). notes_of x m.noted) o

@@ -1,11 +1,11 @@
 -- What a step of the tally leaves: the count or the trials, and all else as it was.
-use mathlib.Core.Path.{◌≡◌, refl, ◌∙◌, subst}
+use mathlib.Core.Path.{◌≡◌, ◌∙◌, subst}
 use mathlib.Core.List.{List}
-use Prim.Native.Nat.{ℕ, ◌+◌, ◌≤◌, ◌<◌}
+use Prim.Native.Nat.{ℕ, ◌+◌, ◌<◌}
 use native.Mathlib.Omega.{arith}
 use lib.ListN.{length, set}
 use lib.Seq.{get_or-set_same, get_or-set_other}
-use borrow.Author.Tests.{lt-ltb, le-ltb}
+use borrow.Author.Tests.{lt-ltb}
 use Rattle.words.specs.Limits.{most_entered}
 use Rattle.keys.specs.Placed.{Placed}
 use Rattle.keys.specs.Store.{Run}
@@ -23,12 +23,6 @@ use Rattle.marks.specs.Told.{Answer}
 -- They are none of a diagnostic's.
 notes_tally : (O : List ℕ) (n i v : ℕ) → i < tallies → notes_of (set O i v) n ≡ notes_of O n
 notes_tally O n i v h = notes_apart O n i v (λ k l b e. omega arith)
-
--- At its limit the count stays.
-pub tallied_most : (O : List ℕ) {n : ℕ} → n ≡ (tally_of O).entered → most_entered ≤ n → Tallied O (one_more (tally_of O).entered) (tally_of O).trials O
-tallied_most O {n} e h =
-    let most : most_entered ≤ (tally_of O).entered = omega arith in
-    record { entered_is = rw (le-ltb (tally_of O).entered most_entered most); trials_is = refl; notes_are = λ n. refl }
 
 module _ (O : List ℕ) {O' : List ℕ} where
   -- One type rule more is counted.

@@ -1,15 +1,9 @@
 -- A member's end, and the node of a member without lists behind it.
 use mathlib.Core.Path.{◌≡◌}
-use mathlib.Core.Bool.{true, false}
 use mathlib.Core.List.{List, []}
 use Prim.Native.Nat.{ℕ}
-use borrow.Author.Tests.{ne_eqb}
-use Rattle.words.specs.Kind.{Comma, Semicolon, RCurly}
 use Rattle.keys.specs.Placed.{tree}
-use Rattle.rules.specs.Refusal.{unexpected}
-use Rattle.rules.specs.State as rule
-use Rattle.rules.specs.State.{State, Result, refuse, next, kind, on_line, end, make}
-use Rattle.rules.specs.Object.{member_end}
+use Rattle.rules.specs.State.{end, make}
 use Rattle.marks.specs.State.{view, given_of}
 use Rattle.marks.specs.Node.{Makes}
 use Rattle.marks.proofs.Answers.{says_same, says_stop}
@@ -19,29 +13,6 @@ use Rattle.marks.specs.declared.state.Mark.{Mark}
 use Rattle.marks.specs.declared.state.Begin.{Begin}
 use Rattle.marks.specs.declared.state.Kids.{Kids}
 use Rattle.marks.specs.Told.{Answer}
-
--- The end by what stands there.
-module _ {A : Type 0} (g : rule.Given) (s : State) (on : State → Result A) where
-  -- A `,` is taken.
-  pub end_comma : kind g s ≡ Comma → member_end g s on ≡ on (next s)
-  end_comma e = rw e
-
-  -- A `;` is taken.
-  pub end_semicolon : kind g s ≡ Semicolon → member_end g s on ≡ on (next s)
-  end_semicolon e = rw e
-
-  -- A `}` does without.
-  pub end_curly : kind g s ≡ RCurly → member_end g s on ≡ on s
-  end_curly e = rw e
-
-  module _ (a : kind g s ≡ Comma → ⊥) (b : kind g s ≡ Semicolon → ⊥) (c : kind g s ≡ RCurly → ⊥) where
-    -- A line break does without.
-    pub end_break : on_line g s ≡ false → member_end g s on ≡ on s
-    end_break l = rw (ne_eqb (kind g s) Comma a, ne_eqb (kind g s) Semicolon b, ne_eqb (kind g s) RCurly c, l)
-
-    -- Anything else is refused.
-    pub end_none : on_line g s ≡ true → member_end g s on ≡ refuse unexpected s.at s.half
-    end_none l = rw (ne_eqb (kind g s) Comma a, ne_eqb (kind g s) Semicolon b, ne_eqb (kind g s) RCurly c, l)
 
 -- The end of a member over children that stand since B.
 module _ (W : List ℕ) (given : Given) (b : Begin) (choices : ℕ) (k : Kids) (m : Mark) (N : List ℕ) (e : Answer)

@@ -2,11 +2,8 @@
 use mathlib.Core.Path.{◌≡◌, refl, sym, ap, ap₂, ◌∙◌, subst}
 use mathlib.Core.Bool.{Bool, true, false}
 use mathlib.Core.List.{List, [], ◌∷◌}
-use Prim.Native.Nat.{ℕ, ◌+◌, ◌*◌, ◌≤◌, ◌<◌}
-use native.Mathlib.Omega.{arith}
-use borrow.Author.Tests.{ne_eqb}
-use lib.Dec.{eqb}
-use Rattle.words.specs.Kind.{LParen, LAngle, LBrack, Question}
+use Prim.Native.Nat.{ℕ, ◌+◌, ◌*◌}
+use Rattle.words.specs.Kind.{LBrack, Question}
 use Rattle.words.specs.Cursor.{kind_at}
 use Rattle.words.specs.Ahead.{property_key, index_start}
 use Rattle.keys.specs.Bits.{unit}
@@ -16,27 +13,16 @@ use Rattle.rules.specs.State as rule
 use Rattle.rules.specs.State.{State, Result, Reader, refuse, next, kind, stands, first, spelling, past}
 use Rattle.rules.specs.Object as object
 use Rattle.rules.specs.Object.{of_method, of_call, of_construct, signs, key_sort, key_here}
-use Rattle.marks.specs.State.{view, given_of, next_mark, named_mark, past_mark, Spelt, Inside, Moved, Along}
+use Rattle.marks.specs.State.{view, given_of, next_mark, named_mark, past_mark, Spelt, Moved}
 use Rattle.marks.specs.Laid.{Spoken}
 use Rattle.marks.specs.Names.{Speaks}
 use Rattle.marks.specs.List.{here}
-use Rattle.marks.proofs.MarkLaws.{or_false, along_named, along_moved, along_then}
 use Rattle.marks.proofs.StepLaws.{view_past}
 use Rattle.marks.proofs.BuiltLaws.{spoken_none, spoken_from, spoken_to}
-use Rattle.members.specs.Object.{a_property, a_signature, an_index, key_choices, HeadHas, GotMember, FindsMember}
+use Rattle.members.specs.Object.{a_property, a_signature, an_index, key_choices, GotMember, FindsMember}
 use Rattle.marks.specs.declared.state.Given.{Given}
 use Rattle.marks.specs.declared.state.Mark.{Mark}
 use Rattle.members.specs.Told.{MemberHead}
-
--- ---- What begins a signature
-
--- A `(` does.
-pub signs_paren : (k : ℕ) → k ≡ LParen → true ≡ signs k
-signs_paren k e = rw e
-
--- Else a `<` does.
-pub signs_angle : (k : ℕ) → (k ≡ LParen → ⊥) → eqb k LAngle ≡ signs k
-signs_angle k n = rw (ne_eqb k LParen n) (or_false (eqb k LAngle))
 
 -- ---- The rules
 
@@ -137,19 +123,7 @@ finds_from {m = m} u n o e w =
       refused = λ z T. e T ∙ w.refused z T;
     }
 
--- The numbers of a head that was refused.
-pub has_refused : {len : ℕ} {m : Mark} {h : MemberHead} (why : ℕ) (q : Mark) → h ≡ refused_head why q → m.at ≤ q.at → 0 < why → HeadHas len m h
-has_refused {len} {m} why q e l s = subst (λ (h : MemberHead). HeadHas len m h) (sym e) (record { some = omega arith; past = omega arith; few = omega arith })
-
--- The numbers of a head from an earlier mark on.
-pub has_from : {len : ℕ} {m p : Mark} {h : MemberHead} → m.at ≤ p.at → HeadHas len p h → HeadHas len m h
-has_from l h = record { some = h.some; past = omega (arith, h.past); few = h.few }
-
 -- ---- A key
-
--- Where reading stands behind a key and its `?`.
-pub along_key : {len : ℕ} {m p q : Mark} → Inside len m → m.at < len → p ≡ named_mark m → Moved len p q → Along len m q
-along_key {len} {m} i l e v = along_then (subst (λ (x : Mark). Along len m x) (sym e) (along_named i l)) (along_moved v)
 
 module _ (text W : List ℕ) (given : Given) (b : ℕ) (readonly : Bool) (m p q : Mark) (M M' O : List ℕ) {len k : ℕ} (kind_is : k ≡ kind_at W m.at m.half) (is_key : property_key k ≡ true)
     (p-is : p ≡ named_mark m) (q-is : q ≡ past_mark W Question p) (moved : Moved len p q) (speaks : Speaks W m M M') (spelt : Spelt text W) where

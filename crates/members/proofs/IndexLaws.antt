@@ -30,10 +30,9 @@ use Rattle.marks.specs.List.{here}
 use Rattle.marks.proofs.Answers.{then_read_lem, then_refused}
 use Rattle.marks.proofs.StepLaws.{view_past, laid_at}
 use Rattle.marks.proofs.ReportLaws.{reports_as, reports_done, reports_refused, laid_reported}
-use Rattle.primaries.proofs.PrimaryLaws.{ne_at}
 use Rattle.tuples.proofs.ElementLaws.{both_hold, is_true, tag_below, last_word_lem, last_place}
 use Rattle.members.specs.Object.{SaysStep, index_start, index_next, IndexIs, none, one as oneIs, several, kept_run, NotesIndex, index_end, EndsIndex, literal_word, no_index_word}
-use Rattle.members.proofs.StepLaws.{step_reports, step_stop, step_refused, step_taken}
+use Rattle.members.proofs.StepLaws.{step_reports, step_stop, step_refused}
 use Rattle.marks.specs.declared.state.Given.{Given}
 use Rattle.marks.specs.declared.state.Mark.{Mark}
 use Rattle.marks.specs.declared.state.Kids.{Kids}
@@ -104,14 +103,6 @@ module _ (text W : List ℕ) (given : Given) (m : Mark) (M O : List ℕ) where
 -- ---- Behind its type
 
 module _ (text W : List ℕ) (given : Given) (m : Mark) (O : List ℕ) where
-  -- At the `]`.
-  pub next_closes : {a : Answer} {len : ℕ} → here W RBrack m ≡ true → a ≡ taken_at m → Moved len m m → SaysStep (index_next (given_of text W given) (view m O)) m O a O
-  next_closes c e v = step_taken m e v (λ on. rw c)
-
-  -- No comma.
-  pub next_stops : {a : Answer} → here W RBrack m ≡ false → here W Comma m ≡ false → a ≡ refused_at unexpected m → SaysStep (index_next (given_of text W given) (view m O)) m O a O
-  next_stops c n e = step_refused unexpected m (λ z. omega arith) e (λ on. rw (c, n))
-
   -- Past a comma, with diagnostic 9 if the `]` follows.
   pub next_goes : {p : Mark} {a : Answer} {O' : List ℕ} → here W RBrack m ≡ false → here W Comma m ≡ true → p ≡ next_mark m
       → Reports (here W RBrack p) given (note comma_after_index (first_byte W m.at m.half) (end_byte W p.at p.half)) p O a O' → Noted given p a
@@ -143,10 +134,6 @@ five false false true d e = refl
 five false false false true e = refl
 five false false false false true = refl
 five false false false false false = refl
-
--- A number that is none of the five.
-pub no_five : {k h : ℕ} → k ≡ h → (k ≡ 0 → ⊥) → (k ≡ 5 → ⊥) → (k ≡ 7 → ⊥) → (k ≡ 8 → ⊥) → (k ≡ 9 → ⊥) → true ≡ not (among (0 ∷ 5 ∷ 7 ∷ 8 ∷ 9 ∷ []) h)
-no_five i a b c d e = rw (ne_at 0 i a, ne_at 5 i b, ne_at 7 i c, ne_at 8 i d, ne_at 9 i e)
 
 -- A keyword or a template shows what it chose.
 pub chosen_is : (tag : ℕ) (p : Placed) → T (allowed 0 tag p) → among (2 ∷ 15 ∷ []) tag ≡ true → packed (plant node_table (node_table.row 0 tag) p done) ≡ chosen p

@@ -22,11 +22,11 @@ use Rattle.rules.specs.Notes.{note, this_on_constructor}
 use Rattle.rules.specs.State.{end, make}
 use Rattle.rules.specs.List.{count}
 use Rattle.rules.specs.Function.{ThisParameter, Parameters, this_type, report_this}
-use Rattle.rules.specs.Object.{Signature, of_method, of_call, of_construct, is_construct, signature_node, this_noted}
+use Rattle.rules.specs.Object.{Signature, of_method, of_call, of_construct, is_construct, signature_node}
 use Rattle.marks.specs.State.{view, given_of}
 use Rattle.marks.specs.Laid.{skeleton, run_opt, opt_bit, runs, runs_opt, names_run, IsOpt, AllNodes, AllOpt, Shape}
 use Rattle.marks.specs.Says.{is_there}
-use Rattle.marks.specs.Notes.{taken_at, refused_at, Reports, Noted}
+use Rattle.marks.specs.Notes.{refused_at, Reports, Noted}
 use Rattle.marks.specs.Node.{Makes, opt_list, list_scale}
 use Rattle.marks.proofs.Answers.{says_same, says_stop, says_refused}
 use Rattle.functions.specs.Function.{IsThis, this_bits, this_run, this_scale, new_choices, call_choices}
@@ -43,16 +43,6 @@ use Rattle.functions.specs.declared.function.This.{This as ThisCode}
 use Rattle.functions.specs.Told.{Params}
 
 -- ---- Diagnostic 3
-
--- It is not for a signature that is no construct signature's.
-pub this_silent : (given : Given) (isNew : Bool) (this : ThisCode) {m : Mark} {O : List ℕ} {a : Answer} → isNew ≡ false → a ≡ taken_at m → NotesThis given isNew this m O a O
-this_silent given isNew this {m} {O} {a} f e text W x t i j =
-    subst (λ (r : Answer). SaysStep {A = Placed} (report_this (given_of text W given) (this_noted x t) (view m O)) m O r O) (sym e)
-    (record {
-      done = λ _ on. rw (sym i ∙ f);
-      kept = λ _ B t N M d. d;
-      refused = λ z. absurd (z refl);
-    })
 
 -- It is for the `this` of one that is.
 pub this_noted_lem : (given : Given) (isNew : Bool) (this : ThisCode) {m : Mark} {O : List ℕ} {a : Answer} {O' : List ℕ} → isNew ≡ true

@@ -1,14 +1,13 @@
 -- Steps that move the cursor and report diagnostics alone: what they say.
-use mathlib.Core.Path.{◌≡◌, refl, sym, ◌∙◌, subst}
+use mathlib.Core.Path.{◌≡◌, sym, ◌∙◌, subst}
 use mathlib.Core.Bool.{Bool}
 use mathlib.Core.List.{List}
-use Prim.Native.Nat.{ℕ, ◌+◌}
-use native.Mathlib.Omega.{arith}
+use Prim.Native.Nat.{ℕ}
 use Rattle.rules.specs.Notes.{Note}
 use Rattle.rules.specs.State.{State, Result, refuse, report_if}
-use Rattle.marks.specs.State.{view, given_of, place_of, Fine, Moved, Reached}
-use Rattle.marks.specs.Notes.{taken_at, refused_at, Reports, Noted}
-use Rattle.marks.proofs.StepLaws.{laid_at, fine_moved}
+use Rattle.marks.specs.State.{view, given_of}
+use Rattle.marks.specs.Notes.{refused_at, Reports, Noted}
+use Rattle.marks.proofs.StepLaws.{laid_at}
 use Rattle.marks.proofs.ReportLaws.{reports_done, reports_refused, laid_reported}
 use Rattle.members.specs.Object.{SaysStep}
 use Rattle.marks.specs.declared.state.Given.{Given}
@@ -16,16 +15,6 @@ use Rattle.marks.specs.declared.state.Mark.{Mark}
 use Rattle.marks.specs.Told.{Answer}
 
 module _ {A : Type 0} {step : (State → Result A) → Result A} {m : Mark} {O : List ℕ} where
-  -- The step goes on at a mark, and nothing was written.
-  pub step_taken : {a : Answer} {len : ℕ} (q : Mark) → a ≡ taken_at q → Moved len m q → ((on : State → Result A) → step on ≡ on (view q O)) → SaysStep step m O a O
-  step_taken q e v f =
-      subst (λ (x : Answer). SaysStep step m O x O) (sym e)
-      (record {
-        done = λ _ on. f on;
-        kept = λ _ B t N M d. laid_at m q v.used_is v.named_is v.noted_is d;
-        refused = λ z. absurd (z refl);
-      })
-
   -- It is refused.
   pub step_stop : {a : Answer} {O' : List ℕ} → (a.why ≡ 0 → ⊥) → ((on : State → Result A) → step on ≡ refuse a.why a.m.at a.m.half) → SaysStep step m O a O'
   step_stop n f = record { done = λ z. absurd (n z); kept = λ z. absurd (n z); refused = λ _ on. f on }
@@ -44,15 +33,3 @@ module _ {A : Type 0} {step : (State → Result A) → Result A} {m : Mark} {O :
         kept = λ z B t N M d. laid_reported r k (laid_at m p u n o d);
         refused = λ z on. f on ∙ reports_refused text W on r z;
       }
-
-  -- The same step under another name.
-  pub step_same : {other : (State → Result A) → Result A} {a : Answer} {O' : List ℕ} → ((on : State → Result A) → other on ≡ step on) → SaysStep step m O a O' → SaysStep other m O a O'
-  step_same e w = record { done = λ z on. e on ∙ w.done z on; kept = w.kept; refused = λ z on. e on ∙ w.refused z on }
-
--- ---- Where reading stands
-
--- A refusal behind which only the cursor moved reaches its mark.
-pub reached_stop : {len : ℕ} {g : Given} {m : Mark} {a : Answer} → Fine len g m → Moved len m a.m → a.high ≡ 0 → (a.why ≡ 0 → ⊥)
-    → Reached len g (place_of m) (m.used + 1) a.high a.why a.m
-reached_stop f v h stop =
-    record { past = omega (arith, v.onward); more = omega (arith, v.used_is, stop); low = omega (arith, h); fine = fine_moved f v }

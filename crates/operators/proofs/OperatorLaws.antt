@@ -2,15 +2,14 @@
 use mathlib.Core.Path.{◌≡◌, refl, sym, ap, ap₂, ◌∙◌, subst}
 use mathlib.Core.Bool.{Bool, true, false, not}
 use mathlib.Core.List.{List, []}
-use Prim.Native.Nat.{ℕ, zero, suc, ◌+◌, ◌-◌, ◌*◌, ◌/◌, ◌^◌, ◌≤◌, ◌<◌}
-use native.Mathlib.Nat.{add-zero, mod-lt}
+use Prim.Native.Nat.{ℕ, zero, suc, ◌+◌, ◌-◌, ◌*◌, ◌≤◌, ◌<◌}
+use native.Mathlib.Nat.{add-zero}
 use native.Mathlib.Omega.{arith}
-use borrow.Author.Tests.{eq-eqb, ne_eqb}
 use lib.Dec.{eqb}
 use lib.ListN.{length}
 use Rattle.keys.specs.Limits.{tags}
 use Rattle.words.specs.Test.{test, among}
-use Rattle.words.specs.Kind.{KeyOf, Unique, Readonly, Eof, LAngle, Eq, LtEq, ShiftLeft, ShiftLeftEq}
+use Rattle.words.specs.Kind.{Eof, LAngle, Eq, LtEq, ShiftLeft, ShiftLeftEq}
 use Rattle.words.specs.Word.{start}
 use Rattle.words.specs.Cursor.{word_at, whole_kind, second_half, kind_at, first_byte}
 use Rattle.keys.proofs.BitsLaws.{clash}
@@ -26,7 +25,6 @@ use Rattle.marks.specs.Node.{Makes}
 use Rattle.marks.proofs.Answers.{says_read, says_same, says_stop}
 use Rattle.marks.proofs.BuiltLaws.{built_one}
 use Rattle.operators.specs.Operator.{operator_about, operators_about}
-use Rattle.marks.proofs.MarkLaws.{or_false}
 use Rattle.marks.specs.declared.state.Given.{Given as Code}
 use Rattle.marks.specs.declared.state.Mark.{Mark}
 use Rattle.marks.specs.declared.state.Begin.{Begin}
@@ -68,25 +66,6 @@ whole W at (suc half) e = let z : true ≡ false = sym e ∙ no_half (whole_kind
 pub operator_some : (k : ℕ) → among operators k ≡ true → 0 < k
 operator_some zero e = clash (cc)
 operator_some (suc k) e = omega arith
-
--- ---- Which prefix it is
-
-pub is_keyof : (k : ℕ) → k ≡ KeyOf → (true ≡ among operators k) × (0 ≡ position k operators)
-is_keyof k e = (rw (eq-eqb k KeyOf e), rw (eq-eqb KeyOf k (sym e)))
-
-module _ (k : ℕ) (a : k ≡ KeyOf → ⊥) where
-  pub is_unique : k ≡ Unique → (true ≡ among operators k) × (1 ≡ position k operators)
-  is_unique e = (rw (ne_eqb k KeyOf a, eq-eqb k Unique e), rw (ne_eqb KeyOf k (λ z. a (sym z)), eq-eqb Unique k (sym e)))
-
-  module _ (b : k ≡ Unique → ⊥) where
-    pub is_readonly_lem : eqb k Readonly ≡ among operators k
-    is_readonly_lem = rw (ne_eqb k KeyOf a, ne_eqb k Unique b) (or_false (eqb k Readonly))
-
-    pub number_readonly : k ≡ Readonly → 2 ≡ position k operators
-    number_readonly e = rw (ne_eqb KeyOf k (λ z. a (sym z)), ne_eqb Unique k (λ z. b (sym z)), eq-eqb Readonly k (sym e))
-
-    pub number_none : (k ≡ Readonly → ⊥) → 3 ≡ position k operators
-    number_none c = rw (ne_eqb KeyOf k (λ z. a (sym z)), ne_eqb Unique k (λ z. b (sym z)), ne_eqb Readonly k (λ z. c (sym z)))
 
 -- ---- Past them
 
@@ -155,10 +134,6 @@ operator_made W given b choices high k i p N a N' f z e n text B t M O w m =
     (ap₂ (λ (x y : ℕ). make (given_of text W given) [] (node.operator x (end (given_of text W given) (view p O)) y t) (view p O)) (add-zero (start (word_at W i)) ∙ sym z) (sym n))
     (f text 0 B (run_in 0 t) 11 (join (number k) t) M O (built_one [] w.is_node w.high_is w.laid) m
     (subst (λ (c : ℕ). Shape 0 11 (join (number k) t) (run_in 0 t) c) (sym e) (operator_shape k w.is_node)))
-
--- A token starts at a number of 32 bits.
-pub start_low : (w : ℕ) → start w < 2 ^ 32
-start_low w = mod-lt (w / 2 ^ 0) (omega arith)
 
 -- What is left: of so many prefixes about x some are put, the others are still to be put about what stands.
 pub record Left (g : Given) (from all left : ℕ) (x : Result Placed) (B : Was) (high : ℕ) (p : Mark) (N M O : List ℕ) : Type 0 where

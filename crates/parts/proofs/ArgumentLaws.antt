@@ -2,37 +2,32 @@
 use mathlib.Core.Path.{◌≡◌, refl, sym, ap, ap₂, ◌∙◌, subst}
 use mathlib.Core.Bool.{Bool, true, false}
 use mathlib.Core.List.{List, [], ◌∷◌}
-use Prim.Native.Nat.{ℕ, ◌+◌, ◌-◌, ◌*◌, ◌^◌, ◌≤◌, ◌<◌}
-use native.Mathlib.Nat.{mul-le-mul}
+use Prim.Native.Nat.{ℕ, ◌+◌, ◌-◌, ◌*◌, ◌≤◌, ◌<◌}
 use native.Mathlib.Omega.{arith}
-use borrow.Author.Tests.{eq-eqb, ne_eqb, lt-ltb, le-ltb}
-use lib.Dec.{eqb}
+use borrow.Author.Tests.{lt-ltb, le-ltb}
 use lib.ListN.{length}
 use Rattle.keys.specs.Limits.{tags, counts}
 use Rattle.words.specs.Limits.{longest}
-use Rattle.words.specs.Test.{◌and◌, test, among}
+use Rattle.words.specs.Test.{test}
 use Rattle.words.specs.Kind.{LParen, RParen, Str, Comma, LAngle, ShiftLeft, LtEq, ShiftLeftEq, Import, Typeof}
-use Rattle.words.specs.Cursor.{same_line, kind_at}
 use Rattle.keys.specs.Bits.{unit}
 use Rattle.keys.specs.Placed.{Placed, Spelling, Opt}
 use Rattle.keys.specs.Store.{◌⊕◌}
-use Rattle.rules.specs.Refusal.{unexpected, too_long, import_source as oddSource, import_options}
+use Rattle.rules.specs.Refusal.{too_long}
 use Rattle.rules.specs.State as rule
 use Rattle.rules.specs.State.{State, Result, read, refuse, refused, then, next, halved, stands, end, spelling, make, turns}
 use Rattle.rules.specs.List.{count}
 use Rattle.rules.specs.Names.{dots_from, dotted}
-use Rattle.rules.specs.Arguments.{opens, opened}
 use Rattle.marks.specs.State.{view, given_of, next_mark, named_mark, Spelt, Inside, Along}
 use Rattle.marks.specs.Laid.{names_run, runs_opt, AllOpt, Was, BuiltAt, Spoken, Shape}
 use Rattle.marks.specs.Says.{GotNames, SaysNames, Any, one, Says, is_there}
 use Rattle.marks.specs.Node.{Makes, opt_list}
 use Rattle.marks.specs.Names.{Speaks, GotDots}
 use Rattle.parts.specs.Arguments.{Naming, reference, typeof, import, names_of, name_count, name_choices, name_scale, named_node, import_source, import_head, dotted_head, query_head, naming_head, NamingIs, Dotted}
-use Rattle.marks.specs.List.{here}
-use Rattle.marks.proofs.Answers.{then_read_lem, then_refused, says_same}
+use Rattle.marks.proofs.Answers.{then_read_lem, says_same}
 use Rattle.marks.proofs.BuiltLaws.{spoken_from, spoken_to, spoken_then}
 use Rattle.marks.proofs.MarkLaws.{moved_next, inside_next, along_named, along_then, along_moved}
-use Rattle.marks.proofs.StepLaws.{names_refused, names_read}
+use Rattle.marks.proofs.StepLaws.{names_read}
 use Rattle.parts.proofs.NamingLaws.{name_tag, name_content, named_tree, named_shape, spoken_count}
 use Rattle.marks.specs.declared.state.Given.{Given}
 use Rattle.marks.specs.declared.state.Mark.{Mark}
@@ -47,40 +42,11 @@ use Rattle.parts.specs.Told.{Named}
 abbrev pub openers : List ℕ
 openers = LAngle ∷ ShiftLeft ∷ LtEq ∷ ShiftLeftEq ∷ []
 
-pub no_opener : (k : ℕ) → (k ≡ LAngle → ⊥) → (k ≡ ShiftLeft → ⊥) → (k ≡ LtEq → ⊥) → (k ≡ ShiftLeftEq → ⊥) → among openers k ≡ false
-no_opener k a b c d = rw (ne_eqb k LAngle a, ne_eqb k ShiftLeft b, ne_eqb k LtEq c, ne_eqb k ShiftLeftEq d)
-
-module _ (text W : List ℕ) (given : Given) (m : Mark) (O : List ℕ) where
-  pub opens_off : same_line W m.at m.half ≡ false → false ≡ opens (given_of text W given) (view m O)
-  opens_off e = sym (ap (λ (b : Bool). b and eqb m.half 0 and among openers (kind_at W m.at m.half)) e)
-
-  pub opens_half : same_line W m.at m.half ≡ true → (m.half ≡ 0 → ⊥) → false ≡ opens (given_of text W given) (view m O)
-  opens_half e h = sym (ap₂ (λ (a b : Bool). a and b and among openers (kind_at W m.at m.half)) e (ne_eqb m.half 0 h))
-
-  pub opens_by : {b : Bool} → same_line W m.at m.half ≡ true → m.half ≡ 0 → among openers (kind_at W m.at m.half) ≡ b → b ≡ opens (given_of text W given) (view m O)
-  opens_by {b} e h i =
-      sym (ap₂ (λ (x y : Bool). x and y and among openers (kind_at W m.at m.half)) e (eq-eqb m.half 0 h) ∙ i)
-
-  pub opened_by : (b : Bool) → here W LAngle m ≡ b → opened (given_of text W given) (view m O) ≡ test b (λ _. next (view m O)) (λ _. halved (view m O))
-  opened_by b e = ap (λ (x : Bool). test x (λ _. next (view m O)) (λ _. halved (view m O))) e
-
 -- ---- The source of an import
 
 module _ (g : rule.Given) (s : State) where
-  pub source_none : stands g LParen s ≡ false → import_source g s ≡ refused unexpected s
-  source_none a = rw a
-
   module _ (a : stands g LParen s ≡ true) where
-    pub source_other : stands g Str (next s) ≡ false → import_source g s ≡ refused oddSource (next s)
-    source_other b = rw (a, b)
-
     module _ (b : stands g Str (next s) ≡ true) where
-      pub source_comma : stands g Comma (next (next s)) ≡ true → import_source g s ≡ refused import_options (next (next s))
-      source_comma c = rw (a, b, c)
-
-      pub source_open : stands g Comma (next (next s)) ≡ false → stands g RParen (next (next s)) ≡ false → import_source g s ≡ refused unexpected (next (next s))
-      source_open c d = rw (a, b, c, d)
-
       pub source_read : stands g Comma (next (next s)) ≡ false → stands g RParen (next (next s)) ≡ true → import_source g s ≡ read (spelling g (next s)) (next (next (next s)))
       source_read c d = rw (a, b, c, d)
 
@@ -91,18 +57,6 @@ source_spoken text W given m O {p} {M} {M'} e f h =
     spoken_to (next_mark (named_mark (next_mark m))) refl refl refl (spoken_from m refl refl refl (subst (λ (q : Mark). Speaks W q M M') e f text h))
 
 -- ---- Names
-
--- Names were refused, and the answer says so with no numbers.
-pub named_refused : {A : Type 0} {R : A → List Spelling} {P : A → Type 0} {x : Result A} {m : Mark} {M M' O : List ℕ} (r : Named) (k : ℕ) (q : Mark)
-    → (k ≡ 0 → ⊥) → r ≡ record { why = k; choices = 0; scale = 0; count = 0; m = q } → x ≡ refuse k q.at q.half → SaysNames R P x r.why m r.m M M' O
-named_refused r k q h e i =
-    names_refused (λ z. h (sym (ap (λ (y : Named). y.why) e) ∙ z)) (i ∙ ap (λ (y : Named). refuse y.why y.m.at y.m.half) (sym e))
-
-pub of_reference : Dotted 1 reference
-of_reference = record { names_are = λ l. refl; choices_are = λ l. refl; scale_is = λ l. refl; count_is = λ l. refl }
-
-pub of_typeof : Dotted 17 typeof
-of_typeof = record { names_are = λ l. refl; choices_are = λ l. refl; scale_is = λ l. refl; count_is = λ l. refl }
 
 counted : (a b n : ℕ) → a ≡ b + n → a - b ≡ n
 counted a b n e = omega arith
@@ -146,9 +100,6 @@ module _ (g : rule.Given) (s : State) where
   pub query_import : stands g Import s ≡ true → query_head g s ≡ import_head g true (next s)
   query_import e = ap (λ (b : Bool). test b (λ _. import_head g true (next s)) (λ _. dotted_head g typeof s)) e
 
-  pub query_name : stands g Import s ≡ false → query_head g s ≡ dotted_head g typeof s
-  query_name e = ap (λ (b : Bool). test b (λ _. import_head g true (next s)) (λ _. dotted_head g typeof s)) e
-
   naming_by : Bool → Bool → Result Naming
   naming_by a b = test a (λ _. query_head g (next s)) (λ _. test b (λ _. import_head g false (next s)) (λ _. dotted_head g reference s))
 
@@ -159,20 +110,6 @@ module _ (g : rule.Given) (s : State) where
   pub naming_import : stands g Typeof s ≡ false → stands g Import s ≡ true → naming_head g s ≡ import_head g false (next s)
   unfolding naming_by
   naming_import e h = ap₂ naming_by e h
-
-  pub naming_name : stands g Typeof s ≡ false → stands g Import s ≡ false → naming_head g s ≡ dotted_head g reference s
-  unfolding naming_by
-  naming_name e h = ap₂ naming_by e h
-
-  pub reference_refused : (make : List Spelling → Naming) (n i h : ℕ) → dotted g s ≡ refuse n i h → dotted_head g make s ≡ refuse n i h
-  reference_refused make n i h e = then_refused (λ l q. read (make l) q) e
-
-  pub import_refused : (isTypeof : Bool) (n i h : ℕ) → import_source g s ≡ refuse n i h → import_head g isTypeof s ≡ refuse n i h
-  import_refused isTypeof n i h e = then_refused (λ x p. then (dots_from g (turns g) [] p) λ l p. read (import isTypeof x l) p) e
-
-  pub import_dots : (isTypeof : Bool) (x : Spelling) (p : State) (n i h : ℕ) → import_source g s ≡ read x p → dots_from g (turns g) [] p ≡ refuse n i h → import_head g isTypeof s ≡ refuse n i h
-  import_dots isTypeof x p n i h e f =
-      then_read_lem (λ x p. then (dots_from g (turns g) [] p) λ l p. read (import isTypeof x l) p) e ∙ then_refused (λ l p. read (import isTypeof x l) p) f
 
 -- Past a token and a name.
 pub along_source : {len : ℕ} (m : Mark) → Inside len m → m.at + 1 < len → Along len m (named_mark (next_mark m))
@@ -193,10 +130,6 @@ lists_longer g a b t s h i = rw (le-ltb longest a h, lt-ltb longest b i)
 pub lists_short : (g : rule.Given) (a b : ℕ) (t : Placed) (s : State) → a ≤ longest → b ≤ longest → make g (a ∷ b ∷ []) t s ≡ make g [] t s
 unfolding make
 lists_short g a b t s h i = rw (le-ltb longest a h, le-ltb longest b i)
-
--- The choices of such a node fit a word.
-pub product_small : (a b : ℕ) → a ≤ 128 → b ≤ 33554431 → a * b ≤ 2 ^ 32
-product_small a b h i = let e : a * b ≤ 128 * 33554431 = mul-le-mul h i in omega arith
 
 -- The node of names and arguments that stand is what the rules make.
 pub named_made : (W : List ℕ) (given : Given) (b : Begin) (n : Named) (l : Listed) (opt : ℕ) (N : List ℕ) (a : Answer) (N' : List ℕ)

@@ -21,7 +21,7 @@ use Rattle.marks.specs.Laid.{run_in, run_opt, name_run, IsNode, node as isNode, 
 use Rattle.marks.specs.Names.{one_name}
 use Rattle.parts.specs.Mapped.{mapped_head, mapped_middle, mapped_choices, close_curly}
 use Rattle.primaries.specs.Onward.{behind_constraint}
-use Rattle.parts.proofs.RingLaws.{expect_yes, expect_no}
+use Rattle.parts.proofs.RingLaws.{expect_yes}
 use Rattle.marks.specs.declared.state.Given.{Given as Code}
 use Rattle.marks.specs.declared.state.Mark.{Mark}
 
@@ -109,13 +109,7 @@ module _ (g : Given) (k : ℕ) (s : State) where
   unfolding modifier
   modifier_none e h i = rw (e, h, i)
 
-pub head_modifier : (g : Given) (s : State) (n i h : ℕ) → modifier g Readonly s ≡ refuse n i h → mapped_head g s ≡ refuse n i h
-head_modifier g s n i h e = rw e
-
 module _ (g : Given) (s p : State) (r : ℕ) (e : modifier g Readonly s ≡ read r p) where
-  pub head_bracket : stands g LBrack p ≡ false → mapped_head g s ≡ refused unexpected p
-  head_bracket a = rw (e, a)
-
   pub head_name : (n i h : ℕ) → stands g LBrack p ≡ true → one_name 0 g (next p) ≡ refuse n i h → mapped_head g s ≡ refuse n i h
   head_name n i h a b = rw (e, a, b)
 
@@ -130,9 +124,6 @@ module _ (g : Given) (s p : State) (r : ℕ) (e : modifier g Readonly s ≡ read
 module _ (text W : List ℕ) (given : Code) (m p : Mark) (O : List ℕ) (on : State → Result Placed) (e : p ≡ past_mark W Semicolon m) where
   at_end : close_curly (given_of text W given) (view m O) on ≡ expect (given_of text W given) RCurly (view p O) on
   at_end = ap (λ (s : State). expect (given_of text W given) RCurly s on) (sym (ap (λ (q : Mark). view q O) e ∙ view_past text W given Semicolon m O))
-
-  pub curly_refused : here W RCurly p ≡ false → close_curly (given_of text W given) (view m O) on ≡ refuse unexpected p.at p.half
-  curly_refused h = at_end ∙ expect_no (given_of text W given) RCurly (view p O) on h
 
   pub curly_taken : (q : Mark) → q ≡ next_mark p → here W RCurly p ≡ true → close_curly (given_of text W given) (view m O) on ≡ on (view q O)
   curly_taken q i h = at_end ∙ expect_yes (given_of text W given) RCurly (view p O) on h ∙ ap (λ (x : Mark). on (view x O)) (sym i)

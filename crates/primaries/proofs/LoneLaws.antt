@@ -2,9 +2,9 @@
 use mathlib.Core.Path.{◌≡◌, refl, sym, ap, ◌∙◌}
 use mathlib.Core.Bool.{Bool, true, false, not}
 use mathlib.Core.List.{List, [], ◌∷◌}
-use Prim.Native.Nat.{ℕ, ◌+◌, ◌≤◌}
+use Prim.Native.Nat.{ℕ, ◌+◌}
 use native.Mathlib.Omega.{arith}
-use borrow.Author.Tests.{leb-true, not-true}
+use borrow.Author.Tests.{not-true}
 use lib.Dec.{eqb, leb, ltb}
 use Rattle.words.specs.Limits.{tallest}
 use Rattle.words.specs.Test.{◌and◌, ◌or◌, between, among, test}
@@ -13,8 +13,6 @@ use Rattle.words.proofs.Tests.{both_true, among_next}
 use Rattle.keys.specs.Form.{height}
 use Rattle.keys.specs.Placed as node
 use Rattle.keys.specs.Placed.{Placed, Spelling, absent, bare, join, listed_names, maybe_list}
-use Rattle.keys.proofs.BitsLaws.{clash}
-use Rattle.keys.proofs.Fitting.{Each}
 use Rattle.rules.specs.State.{Given, State, Result, Reader, read, refuse, next, kind, kind_after, stands, on_line, first, end, spelling, overlong, make}
 use Rattle.rules.specs.Union.{joined, intersection}
 use Rattle.rules.specs.Operator.{operators, operator, operator_from, operand}
@@ -34,11 +32,6 @@ use Rattle.primaries.specs.Primary.{is_literal}
 and_not : (a : Bool) {b : Bool} → b ≡ false → a and b ≡ false
 and_not true e = e
 and_not false e = refl
-
--- What is none of a list's kinds is not in it.
-pub none_of : (l : List ℕ) (k : ℕ) → Each (λ (x : ℕ). k ≡ x → ⊥) l → among l k ≡ false
-none_of [] k e = refl
-none_of (x ∷ l) k e = among_next x l k e.0 ∙ none_of l k e.1
 
 -- ---- Where a reading ends
 
@@ -150,12 +143,6 @@ shape_name x = record { same = refl; choices_are = omega arith; allowed_is = tt 
 
 -- ---- What is left by kind
 
--- It has no sign.
-pub lone_unsigned : {A : Type 0} (k n : ℕ) → is_lone k n ≡ true → eqb k Minus ≡ true → A
-lone_unsigned k n l e =
-    let z : true ≡ false = sym e ∙ not-true _ (every_among (λ x. not (eqb x Minus)) whole_types k refl (both_true (among whole_types k) _ l).0) in
-    clash (cc)
-
 -- It is a keyword if it is neither a name nor a literal.
 pub lone_word : (k n : ℕ) → is_lone k n ≡ true → (k ≡ Word → ⊥) → among literals k ≡ false → among word_types k ≡ true
 lone_word k n l w h =
@@ -163,11 +150,3 @@ lone_word k n l w h =
     = among_next Word (NumberLiteral ∷ BigIntLiteral ∷ Str ∷ True ∷ False ∷ word_types) k w
     ∙ rw (not_kind (among literals) NumberLiteral k refl h, not_kind (among literals) BigIntLiteral k refl h, not_kind (among literals) Str k refl h, not_kind (among literals) True k refl h, not_kind (among literals) False k refl h) in
     sym rest ∙ (both_true (among whole_types k) _ l).0
-
--- It stands in the list.
-pub lone_there : (k n : ℕ) → is_lone k n ≡ true → 1 ≤ k
-lone_there k n l = leb-true 1 k (every_among (λ x. leb 1 x) whole_types k refl (both_true (among whole_types k) _ l).0)
-
--- What the test of two kinds says of the kinds that they are.
-pub lone_at : {k n k' n' : ℕ} {b : Bool} → k ≡ k' → n ≡ n' → b ≡ is_lone k n → b ≡ true → is_lone k' n' ≡ true
-lone_at {k} {n} {k'} {n'} e f r t = ap (λ (x : ℕ). is_lone x n') (sym e) ∙ ap (λ (x : ℕ). is_lone k x) (sym f) ∙ sym r ∙ t

@@ -2,14 +2,14 @@
 use mathlib.Core.Path.{◌≡◌, refl, sym, ap, ◌∙◌, subst}
 use mathlib.Core.Bool.{Bool, true, false, not}
 use mathlib.Core.List.{List, [], ◌∷◌}
-use Prim.Native.Nat.{ℕ, ◌+◌, ◌*◌, ◌≤◌, ◌<◌}
+use Prim.Native.Nat.{ℕ, ◌+◌, ◌*◌, ◌<◌}
 use native.Mathlib.Omega.{arith}
 use lib.ListN.{length}
 use lib.Dec.{eqb}
-use borrow.Author.Tests.{eq-eqb, ne_eqb, eqb-true, lt-leb, le-leb}
+use borrow.Author.Tests.{eq-eqb, ne_eqb, eqb-true}
 use Rattle.keys.specs.Limits.{tags}
 use Rattle.words.specs.Test.{◌and◌, ◌or◌, between, among}
-use Rattle.words.specs.Cursor.{whole_kind, kind_at, same_line}
+use Rattle.words.specs.Cursor.{kind_at}
 use Rattle.words.specs.Class as class
 use Rattle.words.specs.Ahead.{mapped_start}
 use Rattle.words.specs.Kind.{Str, NumberLiteral, BigIntLiteral, LCurly, LBrack, LParen, RParen, Dot, Question, Bang, Star, Minus, Any, Unknown, Null, Void, True, False, Asserts, NoSubstitutionTemplate, TemplateHead, Typeof, Import, Is, This}
@@ -30,23 +30,16 @@ use Rattle.rules.proofs.TokenLaws.{both_true}
 use Rattle.marks.specs.Laid.{name_run, run_in, IsNode, Shape}
 use Rattle.primaries.specs.Primary.{is_literal, close_parens, literal_choices}
 use Rattle.primaries.specs.Onward.{predicate, name_at, literal_at, StartAs}
-use Rattle.marks.specs.State.{AnyGiven, view, given_of}
+use Rattle.marks.specs.State.{AnyGiven}
 use Rattle.marks.specs.List.{here}
 use Rattle.marks.proofs.Answers.{then_then}
 use Rattle.marks.proofs.ShapeLaws.{packed_node, shows}
-use Rattle.marks.proofs.MarkLaws.{or_false, kind_inside}
+use Rattle.marks.proofs.MarkLaws.{kind_inside}
 use Rattle.primaries.proofs.RingShapes.{shape_template}
-use Rattle.marks.specs.declared.state.Given.{Given as Given₀}
 use Rattle.marks.specs.declared.state.Mark.{Mark}
 use Rattle.primaries.specs.declared.primary.Start.{Start}
 
 -- ---- Tests
-
--- A predicate begins here, by what each part of the test answers.
-module _ (text W O : List ℕ) (given : Given₀) (m : Mark) where
-  pub predicates_is : {a b c : Bool} → class.name (kind_at W m.at m.half) ≡ a → eqb (whole_kind W (m.at + 1)) Is ≡ b → same_line W (m.at + 1) 0 ≡ c
-      → predicates (given_of text W given) (view m O) ≡ (a and b and c)
-  predicates_is p q r = rw (p, q, r)
 
 never : true ≡ false → ⊥
 never z = let i : ◌≡◌ {A = ℕ} 0 1 = cc in omega arith
@@ -74,30 +67,9 @@ eq_at {k} {h} n e z = eq-eqb h n (sym e ∙ z)
 pub ne_at : {k h : ℕ} (n : ℕ) → k ≡ h → (k ≡ n → ⊥) → eqb h n ≡ false
 ne_at {k} {h} n e z = ne_eqb h n (λ y. z (e ∙ y))
 
--- Of a number and a bigint, the one that is no number.
-pub other_number : {k h : ℕ} → k ≡ h → (k ≡ NumberLiteral → ⊥) → among (NumberLiteral ∷ BigIntLiteral ∷ []) h ≡ true → h ≡ BigIntLiteral
-other_number {k} {h} e a m = eqb-true h BigIntLiteral (or_false (eqb h BigIntLiteral) ∙ sym (ap (λ (b : Bool). b or eqb h BigIntLiteral or false) (ne_at NumberLiteral e a)) ∙ m)
-
 -- Whether a keyword stands, by the kind here and the next one.
 abbrev pub keyword_by : ℕ → ℕ → Bool
 keyword_by k n = (between Any Unknown k and not (eqb n Dot)) or among (Null ∷ Void ∷ []) k
-
-module _ {k h : ℕ} (e : k ≡ h) (n : ℕ) where
-  pub keyword_null : k ≡ Null → true ≡ keyword_by h n
-  keyword_null z = rw (sym e ∙ z)
-
-  pub keyword_void : k ≡ Void → true ≡ keyword_by h n
-  keyword_void z = rw (sym e ∙ z)
-
-  module _ (a : k ≡ Null → ⊥) (b : k ≡ Void → ⊥) where
-    pub keyword_low : k < Any → false ≡ keyword_by h n
-    keyword_low l = rw (lt-leb Any h (omega arith), ne_at Null e a, ne_at Void e b)
-
-    pub keyword_high : Any ≤ k → Unknown < k → false ≡ keyword_by h n
-    keyword_high l m = rw (le-leb Any h (omega arith), lt-leb h Unknown (omega arith), ne_at Null e a, ne_at Void e b)
-
-    pub keyword_word : Any ≤ k → k ≤ Unknown → not (eqb n Dot) ≡ keyword_by h n
-    keyword_word l m = rw (le-leb Any h (omega arith), le-leb h Unknown (omega arith), ne_at Null e a, ne_at Void e b) (or_false (not (eqb n Dot)))
 
 -- Which tokens are there for sure.
 module _ (g : Given) (s : State) where
@@ -122,37 +94,8 @@ no_given = record { room = 0; records = 0; parens = false; left = 0 }
 pub start_from : {x y : Result Placed} (r : Start) (g : Given) (T : Reader) (s : State) → y ≡ x → StartAs x r g T s → StartAs y r g T s
 start_from r g T s e w = subst (λ (z : Result Placed). StartAs z r g T s) (sym e) w
 
--- A kind that is none of a list's.
-pub no_keyword : (k : ℕ) → (k ≡ 64 → ⊥) → (k ≡ 65 → ⊥) → (k ≡ 66 → ⊥) → (k ≡ 67 → ⊥) → (k ≡ 101 → ⊥) → (k ≡ 68 → ⊥) → (k ≡ 69 → ⊥) → (k ≡ 70 → ⊥) → (k ≡ 71 → ⊥) → (k ≡ 102 → ⊥) → (k ≡ 72 → ⊥) → (k ≡ 73 → ⊥) → (k ≡ 105 → ⊥)
-    → 13 ≡ position k rule.keywords
-no_keyword k a b c d e f g h i j l m n =
-    rw (
-      other a,
-      other b,
-      other c,
-      other d,
-      other e,
-      other f,
-      other g,
-      other h,
-      other i,
-      other j,
-      other l,
-      other m,
-      other n,
-    )
-  where
-    other : {x : ℕ} → (k ≡ x → ⊥) → eqb x k ≡ false
-    other {x} a = ne_eqb x k (λ e. a (sym e))
-
-pub no_literal : (k : ℕ) → (k ≡ 4 → ⊥) → (k ≡ 2 → ⊥) → (k ≡ 3 → ⊥) → (k ≡ 103 → ⊥) → (k ≡ 97 → ⊥) → false ≡ among rule.literals k
-no_literal k a b c d e = rw (ne_eqb k 4 a, ne_eqb k 2 b, ne_eqb k 3 c, ne_eqb k 103 d, ne_eqb k 97 e)
-
 pub no_mark : (k : ℕ) → (k ≡ Question → ⊥) → (k ≡ Bang → ⊥) → (k ≡ Star → ⊥) → among (Question ∷ Bang ∷ Star ∷ []) k ≡ false
 no_mark k a b c = rw (ne_eqb k Question a, ne_eqb k Bang b, ne_eqb k Star c)
-
-pub no_name : (k : ℕ) → (k ≡ Str → ⊥) → (k ≡ NumberLiteral → ⊥) → (k ≡ BigIntLiteral → ⊥) → 15 ≡ literal_choices k
-no_name k a b c = rw (ne_eqb k Str a, ne_eqb k NumberLiteral b, ne_eqb k BigIntLiteral c)
 
 module _ (g : Given) (T : Reader) (s : State) where
   -- ---- Primary
@@ -315,9 +258,6 @@ module _ (g : Given) (T : Reader) (s : State) where
 module _ (g : Given) (b : ℕ) (t : Placed) (s : State) (e : stands g RParen s ≡ true) where
   pub parens_kept : g.parens ≡ true → close_parens g b t s ≡ make g [] (node.parens b (end g (next s)) t) (next s)
   parens_kept p = rw (e, p)
-
-  pub parens_dropped : g.parens ≡ false → close_parens g b t s ≡ read t (next s)
-  parens_dropped p = rw (e, p)
 
 -- ---- Shapes
 

@@ -53,20 +53,3 @@ same_mark e =
 
 pub same_kids : {k l : Kids} → k ≡ l → SameKids k l
 same_kids e = record { first = ap (λ (x : Kids). x.first) e; count = ap (λ (x : Kids). x.count) e; high = ap (λ (x : Kids). x.high) e }
-
-pub same_answer : {a b : Answer} → a ≡ b → SameAnswer a b
-same_answer e = record { why = ap (λ (x : Answer). x.why) e; high = ap (λ (x : Answer). x.high) e; mark = same_mark (ap (λ (x : Answer). x.m) e) }
-
-pub same_listed : {a b : Listed} → a ≡ b → SameListed a b
-same_listed e =
-    record { why = ap (λ (x : Listed). x.why) e; kids = same_kids (ap (λ (x : Listed). x.kids) e); mark = same_mark (ap (λ (x : Listed). x.m) e) }
-
-pub same_params : {a b : Params} → a ≡ b → SameParams a b
-same_params e =
-    record {
-      why = ap (λ (x : Params). x.why) e;
-      count = ap (λ (x : Params). x.count) e;
-      bits = ap (λ (x : Params). x.this.bits) e;
-      kids = same_kids (ap (λ (x : Params). x.kids) e);
-      mark = same_mark (ap (λ (x : Params). x.m) e);
-    }

@@ -6,7 +6,7 @@ use Rattle.keys.specs.Placed.{Placed}
 use Rattle.keys.specs.Store.{Run}
 use Rattle.rules.specs.State.{Result}
 use Rattle.marks.specs.State.{Moved}
-use Rattle.marks.specs.Laid.{Was, was, was_at, Laid, BuiltAt}
+use Rattle.marks.specs.Laid.{Was, was, was_at, BuiltAt}
 use Rattle.marks.specs.Says.{Says}
 use Rattle.marks.proofs.StepLaws.{built_at}
 use Rattle.marks.specs.declared.state.Mark.{Mark}
@@ -24,12 +24,6 @@ was_moved {len} {m} {q} h N M O =
 pub says_moved : {len c : ℕ} {m q : Mark} (N M O : List ℕ) {x : Result Placed} {a : Answer} {N' M' O' : List ℕ} → Moved len m q
     → Says c (was q N M O) x a N' M' O' → Says c (was m N M O) x a N' M' O'
 says_moved {len} {c} {m} {q} N M O {x} {a} {N'} {M'} {O'} h w = subst (λ (B : Was). Says c B x a N' M' O') (was_moved h N M O) w
-
--- What is laid since the one mark is laid since the other.
-pub laid_moved : {len : ℕ} {m q : Mark} (N M O : List ℕ) {t : Run} {used named noted : ℕ} {N' M' O' : List ℕ} → Moved len m q
-    → Laid (was q N M O) t used named noted N' M' O' → Laid (was m N M O) t used named noted N' M' O'
-laid_moved {len} {m} {q} N M O {t} {used} {named} {noted} {N'} {M'} {O'} h d =
-    subst (λ (B : Was). Laid B t used named noted N' M' O') (was_moved h N M O) d
 
 -- What is built up to the one mark is built up to the other.
 pub built_moved : {len : ℕ} {m q : Mark} {B : Was} {t : Run} {k : Kids} {N M O : List ℕ} → Moved len m q → BuiltAt B t k m N M O → BuiltAt B t k q N M O

@@ -11,16 +11,14 @@ use Rattle.keys.specs.Bits.{unit}
 use Rattle.keys.specs.Placed.{Placed, Opt, absent, present}
 use Rattle.keys.specs.Store.{Run, done, ◌⊕◌}
 use Rattle.keys.proofs.StoreLaws.{join_done}
-use Rattle.rules.specs.Refusal.{unexpected}
 use Rattle.rules.specs.State as rule
 use Rattle.rules.specs.State.{Result, Reader, refuse, optional, turns}
 use Rattle.rules.specs.Function.{ThisParameter, Parameters, parameters_of, parameters_from, this_first, parameters}
-use Rattle.marks.specs.State.{view, next_mark, Moved, Under}
+use Rattle.marks.specs.State.{view, next_mark, Moved}
 use Rattle.marks.specs.Laid.{run_opt, opt_bit, Was, was, Built, BuiltAt}
 use Rattle.marks.specs.Says.{SaysOption}
 use Rattle.marks.specs.List.{Separates}
 use Rattle.functions.specs.Function.{type_bits, this_run, IsThis, ThisIs, SaysParams, Opens, freed_mark, before_this, behind_this, freed_used}
-use Rattle.functions.specs.Function as opens
 use Rattle.readers.specs.Ring.{SaysRest}
 use Rattle.marks.proofs.LaidLaws.{laid_back}
 use Rattle.marks.proofs.BuiltLaws.{built_none}
@@ -53,17 +51,6 @@ freed_high false a b c h i = i
 pub bit_low : (b : Bool) → unit b ≤ 1
 bit_low true = omega arith
 bit_low false = omega arith
-
--- The children after a `this` keep below the nodes in use.
-pub under_this : (n : Bool) (used used' : ℕ) (k k' : Kids) → Under used k → Under used' k' → Under (freed_used n used used') (behind_this n k k')
-under_this true used used' k k' a b = a
-under_this false used used' k k' a b = b
-
--- Behind its bracket a list of parameters is a token further on.
-pub opens_past : {W : List ℕ} {m : Mark} {h : Head} → Opens W m h → h.why ≡ 0 → m.at + 1 ≤ h.m.at
-opens_past (opens.stops i e) z = absurd (let n : unexpected ≡ 0 = sym (ap (λ (x : Head). x.why) e) ∙ z in omega arith)
-opens_past {m = m} {h = h} (opens.plain i j e) z = let n : h.m.at ≡ m.at + 1 = ap (λ (x : Head). x.m.at) e in omega (arith, n)
-opens_past {m = m} {h = h} (opens.this i j e) z = let n : h.m.at ≡ m.at + 1 + 1 = ap (λ (x : Head). x.m.at) e in omega (arith, n)
 
 -- ---- Answers
 

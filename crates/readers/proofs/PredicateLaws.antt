@@ -18,19 +18,11 @@ use Rattle.rules.specs.Function.{subject, predicates}
 use Rattle.marks.specs.State.{view, given_of, next_mark}
 use Rattle.marks.specs.List.{here}
 use Rattle.primaries.specs.Onward.{subject_at, subject_mark, predicate}
-use Rattle.primaries.specs.Primary.{predicate_choices}
 use Rattle.marks.proofs.MarkLaws.{kind_inside}
 use Rattle.parts.proofs.RingLaws.{predicate_is}
 use Rattle.primaries.proofs.RingShapes.{is_this}
 use Rattle.marks.specs.declared.state.Given.{Given}
 use Rattle.marks.specs.declared.state.Mark.{Mark}
-
--- The choices of a predicate are small.
-pub predicate_small : (asserts is_this : Bool) → predicate_choices asserts is_this ≤ 208
-predicate_small true true = omega arith
-predicate_small true false = omega arith
-predicate_small false true = omega arith
-predicate_small false false = omega arith
 
 -- Behind the subject.
 subject_view : (asserts : Bool) (m q : Mark) (O : List ℕ) → q.at ≡ m.at + unit asserts + 1 → q.half ≡ 0 → q.used ≡ m.used → q.noted ≡ m.noted

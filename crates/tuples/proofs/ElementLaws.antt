@@ -81,16 +81,6 @@ module _ (tag first end : ℕ) (p : Placed) (h : T (allowed 0 tag p)) where
   same_three : run_in 3 (tree tag first end p) ≡ run_in 0 (tree tag first end p)
   same_three = ap as_run (rows_same type under_rest never never never never tag outside)
 
--- A type stands alike as an element, under a rest and under a name.
-pub as_element_lem : {t : Placed} → IsNode 0 t → run_in 1 t ≡ run_in 0 t
-as_element_lem (is_node {tag = tag} {first = f} {end = e} {p = p} a) = same_one tag f e p a.0
-
-pub as_rest : {t : Placed} → IsNode 0 t → run_in 2 t ≡ run_in 0 t
-as_rest (is_node {tag = tag} {first = f} {end = e} {p = p} a) = same_two tag f e p a.0
-
-pub as_named : {t : Placed} → IsNode 0 t → run_in 3 t ≡ run_in 0 t
-as_named (is_node {tag = tag} {first = f} {end = e} {p = p} a) = same_three tag f e p a.0
-
 -- What a type is as an element stands alike under a name.
 pub element_named : {t : Placed} → IsNode 0 t → run_in 3 (as_element t) ≡ run_in 1 (as_element t)
 element_named (is_node {tag = tag} {first = f} {end = e} {p = p} a) = by (eqb tag 24)
@@ -336,11 +326,5 @@ member_shape x asked (is_node {tag = tag} {first = f} {end = e} {p = p} a) =
 -- ---- Whether a record's word says optional, by what its tests answer
 
 module _ (w : ℕ) where
-  pub optional_tag : w % tags ≡ 20 → true ≡ optional_word w
-  optional_tag e = ap (λ (b : Bool). b or (eqb (w % tags) 22 and eqb (w / tags % 2) 1)) (sym (eq-eqb (w % tags) 20 e))
-
   pub optional_not : (w % tags ≡ 20 → ⊥) → (w % tags ≡ 22 → ⊥) → false ≡ optional_word w
   optional_not n k = ap₂ (λ (b c : Bool). b or (c and eqb (w / tags % 2) 1)) (sym (ne_eqb (w % tags) 20 n)) (sym (ne_eqb (w % tags) 22 k))
-
-  pub optional_bit : (w % tags ≡ 20 → ⊥) → w % tags ≡ 22 → eqb (w / tags % 2) 1 ≡ optional_word w
-  optional_bit n e = ap₂ (λ (b c : Bool). b or (c and eqb (w / tags % 2) 1)) (sym (ne_eqb (w % tags) 20 n)) (sym (eq-eqb (w % tags) 22 e))

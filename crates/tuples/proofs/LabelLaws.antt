@@ -2,11 +2,10 @@
 use mathlib.Core.Path.{◌≡◌, refl, sym, ap, ap₂, ◌∙◌, subst}
 use mathlib.Core.Bool.{Bool, true, false}
 use mathlib.Core.List.{List, [], ◌∷◌}
-use Prim.Native.Nat.{ℕ, ◌+◌, ◌≤◌, ◌<◌}
+use Prim.Native.Nat.{ℕ, ◌+◌}
 use native.Mathlib.Omega.{arith}
-use borrow.Author.Tests.{eq-eqb, ne_eqb}
+use borrow.Author.Tests.{ne_eqb}
 use lib.Dec.{eqb}
-use lib.ListN.{length}
 use Rattle.words.specs.Kind.{Question, Colon, Dot3}
 use Rattle.words.specs.Class as class
 use Rattle.words.specs.Test.{◌and◌, ◌or◌, test}
@@ -17,16 +16,13 @@ use Rattle.rules.specs.Notes.{note, rest_after_label, asked_after_label, optiona
 use Rattle.rules.specs.State as rule
 use Rattle.rules.specs.State.{State, Result, Reader, read, refuse, then, next, stands, first, end, spelling, past, make, report_if}
 use Rattle.rules.specs.Tuple as tuple
-use Rattle.rules.proofs.TokenLaws.{both_true}
-use Rattle.marks.specs.State.{view, given_of, next_mark, past_mark, named_mark, Spelt, Moved, Along}
+use Rattle.marks.specs.State.{view, given_of, next_mark, past_mark, named_mark, Spelt}
 use Rattle.marks.specs.Laid.{Spoken}
 use Rattle.marks.specs.List.{here}
 use Rattle.marks.specs.Names.{Speaks}
 use Rattle.marks.proofs.BuiltLaws.{spoken_none, spoken_from, spoken_to}
 use Rattle.tuples.specs.Tuple.{LabelIs, labelled_at, colon_mark, label_at, element_start, label_names, element_after, member_after, rest_after}
-use Rattle.tuples.proofs.TupleLaws.{label_colon}
 use Rattle.marks.proofs.StepLaws.{view_past}
-use Rattle.marks.proofs.MarkLaws.{kind_inside}
 use Rattle.marks.specs.declared.state.Given.{Given}
 use Rattle.marks.specs.declared.state.Mark.{Mark}
 use Rattle.marks.specs.declared.state.Begin.{Begin}
@@ -154,25 +150,6 @@ label_none W m q b rest e n r =
       type_dots = λ z. absurd (let i : ◌≡◌ {A = ℕ} 0 1 = cc in omega arith);
     }
 
--- ---- Within the list
-
--- A label and its colon are tokens of the list.
-pub label_inside : (W : List ℕ) (m : Mark) → labelled_at W m ≡ true → m.at < length W
-label_inside W m e = kind_inside class.name W m.at m.half refl (both_true (class.name (kind_at W m.at m.half)) _ e).0
-
-pub colon_inside : (W : List ℕ) (m : Mark) → labelled_at W m ≡ true → (past_mark W Question (named_mark m)).at < length W
-colon_inside W m e =
-    let g : rule.Given = record { text = []; words = W; parens = false; room = 0; records = 0 } in
-    let s : State = past g Question (next (view m [])) in
-    let c : stands g Colon s ≡ true = label_colon g (view m []) e in
-    let same : (past_mark W Question (named_mark m)).at ≡ s.at = by (here W Question (named_mark m)) in
-    let inside : s.at < length W = kind_inside (λ k. eqb k Colon) W s.at s.half refl c in
-    omega arith
-  where
-    by : (b : Bool) → (test b (λ _. next_mark (named_mark m)) (λ _. named_mark m)).at ≡ (test b (λ _. next (next (view m []))) (λ _. next (view m []))).at
-    by true = refl
-    by false = refl
-
 -- ---- What an element comes to once its type was read
 
 then_same : {A B : Type 0} (x : Result A) {f h : A → State → Result B} → ((a : A) (s : State) → f a s ≡ h a s) → then x f ≡ then x h
@@ -257,54 +234,10 @@ module _ (W : List ℕ) (m : Mark) where
   abbrev label_by : (name colon question : Bool) → Bool
   label_by name colon question = name and (colon or (question and eqb (whole_kind W (m.at + 2)) Colon))
 
-  pub label_no : class.name (kind_at W m.at m.half) ≡ false → false ≡ labelled_at W m
-  label_no e = ap (λ (b : Bool). label_by b (eqb (whole_kind W (m.at + 1)) Colon) (eqb (whole_kind W (m.at + 1)) Question)) (sym e)
-
   module _ (y : class.name (kind_at W m.at m.half) ≡ true) where
-    pub label_yes : whole_kind W (m.at + 1) ≡ Colon → true ≡ labelled_at W m
-    label_yes e = ap₂ (λ (a b : Bool). label_by a b (eqb (whole_kind W (m.at + 1)) Question)) (sym y) (sym (eq-eqb (whole_kind W (m.at + 1)) Colon e))
-
     module _ (n : whole_kind W (m.at + 1) ≡ Colon → ⊥) where
       two : (c : Bool) → label_by true false c ≡ label_by (class.name (kind_at W m.at m.half)) (eqb (whole_kind W (m.at + 1)) Colon) c
       two c = ap₂ (λ (a b : Bool). label_by a b c) (sym y) (sym (ne_eqb (whole_kind W (m.at + 1)) Colon n))
-
-      pub label_other : (whole_kind W (m.at + 1) ≡ Question → ⊥) → false ≡ labelled_at W m
-      label_other e = two false ∙ ap (λ (c : Bool). label_by (class.name (kind_at W m.at m.half)) (eqb (whole_kind W (m.at + 1)) Colon) c) (sym (ne_eqb (whole_kind W (m.at + 1)) Question e))
-
-      pub label_asks : whole_kind W (m.at + 1) ≡ Question → eqb (whole_kind W (m.at + 2)) Colon ≡ labelled_at W m
-      label_asks e = two true ∙ ap (λ (c : Bool). label_by (class.name (kind_at W m.at m.half)) (eqb (whole_kind W (m.at + 1)) Colon) c) (sym (eq-eqb (whole_kind W (m.at + 1)) Question e))
-
--- The label as the code makes it, step by step.
-pub label_made : (W : List ℕ) (b : Begin) (rest : Bool) (m p r q t : Mark) (first asked typed dots : ℕ) → p ≡ named_mark m → r ≡ past_mark W Question p → q ≡ next_mark r → t ≡ past_mark W Dot3 q
-    → first ≡ first_byte W m.at m.half → asked ≡ kind_at W p.at p.half → typed ≡ first_byte W q.at q.half → dots ≡ kind_at W q.at q.half
-    → ◌≡◌ {A = Label} (record { b = b; rest = rest; labelled = true; first = first; asked = eqb asked Question; typed = typed; dots = eqb dots Dot3; m = t }) (label_at W b rest m)
-label_made W b rest m p r q t first asked typed dots ep er eq et ef ea ey ed = rw (ef, ea, ey, ed, et, eq, er, ep)
-
--- ---- Only the cursor and the names moved
-
--- From before a label to behind it.
-pub along_label : (len : ℕ) (m p r q t : Mark) → p ≡ named_mark m → Moved len p r → q ≡ next_mark r → Moved len q t → m.half ≤ 1 → Along len m t
-along_label len m p r q t ep a eq b h =
-    let p-at : p.at ≡ m.at + 1 = ap (λ (x : Mark). x.at) ep in
-    let p-half : p.half ≡ 0 = ap (λ (x : Mark). x.half) ep in
-    let p-used : p.used ≡ m.used = ap (λ (x : Mark). x.used) ep in
-    let p-named : p.named ≡ m.named + 1 = ap (λ (x : Mark). x.named) ep in
-    let p-noted : p.noted ≡ m.noted = ap (λ (x : Mark). x.noted) ep in
-    let q-at : q.at ≡ r.at + 1 = ap (λ (x : Mark). x.at) eq in
-    let q-half : q.half ≡ 0 = ap (λ (x : Mark). x.half) eq in
-    let q-used : q.used ≡ r.used = ap (λ (x : Mark). x.used) eq in
-    let q-named : q.named ≡ r.named = ap (λ (x : Mark). x.named) eq in
-    let q-noted : q.noted ≡ r.noted = ap (λ (x : Mark). x.noted) eq in
-    record {
-      onward = omega arith;
-      ahead = omega arith;
-      inside = b.inside;
-      half = b.half;
-      used_is = b.used_is ∙ q-used ∙ a.used_is ∙ p-used;
-      noted_is = b.noted_is ∙ q-noted ∙ a.noted_is ∙ p-noted;
-      names = omega arith;
-      few = omega arith;
-    }
 
 -- ---- The whole of what stands before an element's type
 

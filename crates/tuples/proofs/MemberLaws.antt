@@ -21,10 +21,10 @@ use Rattle.rules.specs.Refusal.{too_long}
 use Rattle.rules.specs.State as rule
 use Rattle.rules.specs.State.{State, Result, Reader, read, refuse, refused, then, end, overlong, make, report_if}
 use Rattle.rules.specs.Tuple as tuple
-use Rattle.marks.specs.State.{view, given_of, Spelt, Fine, Reached, place_of}
+use Rattle.marks.specs.State.{view, given_of, Spelt}
 use Rattle.marks.specs.Laid.{heights, run_in, names_run, IsNode, Was, was, Laid, Stands}
 use Rattle.marks.specs.Says.{Says}
-use Rattle.marks.specs.Notes.{Reports, silent, noted, full, Noted}
+use Rattle.marks.specs.Notes.{Reports, silent, noted, full}
 use Rattle.marks.specs.Node.{Makes}
 use Rattle.marks.proofs.LaidLaws.{laid_noted, laid_on, notes_before}
 use Rattle.marks.proofs.BuiltLaws.{built_one, laid_spoken}
@@ -34,7 +34,6 @@ use Rattle.tuples.specs.Tuple.{LabelIs, label_names, element_after, member_choic
 use Rattle.tuples.proofs.TupleLaws.{element_is}
 use Rattle.tuples.proofs.LabelLaws.{HeadSays}
 use Rattle.tuples.proofs.ElementLaws.{element_node, element_high, element_tag, element_place, element_optional, rest_shape, rest_member, member_shape}
-use Rattle.marks.proofs.MarkLaws.{fine_noted}
 use Rattle.marks.specs.declared.state.Given.{Given}
 use Rattle.marks.specs.declared.state.Mark.{Mark}
 use Rattle.marks.specs.declared.state.Begin.{Begin}
@@ -296,12 +295,6 @@ module _ (given : Given) (latest : Latest) (m : Mark) (N O : List ℕ) (h : m.us
           ap₂ (λ (b c : Bool). reported text W e (not b and not c) (node.first_of e) (node.end_of e) (node.first_of o) (node.end_of o)) opt r
           ∙ ap₂ (λ (x y : ℕ). reported text W e true x y (node.first_of o) (node.end_of o)) (sym (f ∙ p.0)) (sym (l ∙ p.1))
           ∙ ap₂ (λ (x y : ℕ). reported text W e true place.first place.end x y) (sym i.1) (sym i.2)
-
--- ---- Numbers
-
--- The answer of a report reaches the mark.
-pub reached_noted : {len : ℕ} {given : Given} {m : Mark} {a : Answer} → Fine len given m → Noted given m a → a.high ≡ 0 → Reached len given (place_of m) m.used a.high a.why a.m
-reached_noted f n h = record { past = omega arith; more = omega arith; low = omega arith; fine = fine_noted f n }
 
 -- ---- An element from its start on
 
