@@ -10,6 +10,7 @@ use keys::store;
 use marks::notes::Noting;
 use marks::state::{Given, Mark};
 use readers::ring::ty;
+use words::cursor::Cursor;
 use words::kind::class_words;
 use words::limits::OpenRules;
 use words::refusal::Refusal;
@@ -46,7 +47,10 @@ fn read_noting(
     match ty(text, tokens, classes, nodes, names, noting, given, true, m) {
         Ok(a) => finish(text, noting, nodes, names, notes, key, a.m),
         Err(stop) => {
-            let place = stop.m.cursor();
+            let place = Cursor {
+                at: stop.m.at,
+                half: stop.m.half,
+            };
             let r = Refused {
                 why: stop.why,
                 token: place.at,

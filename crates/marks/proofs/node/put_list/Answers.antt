@@ -10,4 +10,4 @@ returns-then-k-gt-LONGEST-clause-makes_list c =
 
 pub returns-clause-makes_list : goal.returns-clause-makes_list
 returns-clause-makes_list c =
-    makes_short c.args.words.now c.args.given c.args.b c.args.tag c.args.k c.args.m c.args.nodes.now (omega arith) (rw c.number.ensures.value at c.put.ensures.makes)
+    makes_short c.args.words.now c.args.given c.args.b c.args.tag c.args.k c.args.m c.args.nodes.now (omega arith) c.put.ensures.makes
