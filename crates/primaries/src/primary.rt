@@ -1,6 +1,5 @@
 // Primary: what begins here, and what holds no type.
 ghost use Rattle.std.specs.Prelude.{◌≡◌, List, ℕ, ◌+◌, ◌-◌, ◌*◌, ◌≤◌, ◌<◌, ◌^◌, length};
-ghost use Rattle.words.specs.Class.{class_words};
 ghost use Rattle.words.specs.Kind as kind;
 ghost use Rattle.words.specs.Cursor.{kind_at};
 ghost use Rattle.words.specs.Test.{among};
@@ -49,11 +48,11 @@ pub enum Start {
 }
 
 // Whether the return type begins as a predicate: some name, and `is` on its line.
-pub fn predicates(words: &[u64], classes: &[u16; 256], m: Mark) -> bool
-    requires { (classes.now ≡ class_words) × (m.at < 2 ^ 63) }
+pub fn predicates(words: &[u64], m: Mark) -> bool
+    requires { m.at < 2 ^ 63 }
     ensures { (text O : List ℕ) (given : AnyGiven) → result ≡ function.predicates (given_of text words.now given) (view m O) }
 {
-    in_class(classes, kind_at(words, m), Class::Name)
+    in_class(kind_at(words, m), Class::Name)
         && kind_after(words, m, 1) == Kind::IS
         && next_on_line(words, m)
 }
@@ -93,18 +92,18 @@ fn is_negative(words: &[u64], m: Mark) -> bool
 }
 
 // Whether asserts stands here with its subject on the same line.
-fn is_assertion(words: &[u64], classes: &[u16; 256], m: Mark) -> bool
-    requires { (classes.now ≡ class_words) × (m.at < 2 ^ 63) }
+fn is_assertion(words: &[u64], m: Mark) -> bool
+    requires { m.at < 2 ^ 63 }
     ensures { (text O : List ℕ) (given : AnyGiven) → result ≡ rule.is_assertion (given_of text words.now given) (view m O) }
 {
     kind_at(words, m) == Kind::ASSERTS
-        && in_class(classes, kind_after(words, m, 1), Class::Name)
+        && in_class(kind_after(words, m, 1), Class::Name)
         && next_on_line(words, m)
 }
 
 // Keywords, this and literals; if none stands here, the others.
-pub fn primary_start(words: &[u64], classes: &[u16; 256], m: Mark) -> Start
-    requires { (classes.now ≡ class_words) × Sound words.now × Inside (length words.now) m }
+pub fn primary_start(words: &[u64], m: Mark) -> Start
+    requires { Sound words.now × Inside (length words.now) m }
     ensures by_index { (text O : List ℕ) (given : AnyGiven) (T : Reader) → StartIs result (given_of text words.now given) T (view m O) }
     ensures start_has { StartHas result words.now m }
 {
@@ -112,7 +111,7 @@ pub fn primary_start(words: &[u64], classes: &[u16; 256], m: Mark) -> Start
         return Start::Keyword;
     }
     if kind_at(words, m) == Kind::THIS {
-        return this_start(words, classes, m);
+        return this_start(words, m);
     }
     if is_literal(kind_at(words, m)) {
         return Start::Literal;
@@ -120,16 +119,16 @@ pub fn primary_start(words: &[u64], classes: &[u16; 256], m: Mark) -> Start
     if is_negative(words, m) {
         return Start::Literal;
     }
-    worded(words, classes, m)
+    worded(words, m)
 }
 
 // A `this`, by what follows it.
-fn this_start(words: &[u64], classes: &[u16; 256], m: Mark) -> Start
-    requires { (classes.now ≡ class_words) × (m.at < length words.now) × (m.at < 2 ^ 63) × (kind_at words.now m.at m.half ≡ kind.This) }
+fn this_start(words: &[u64], m: Mark) -> Start
+    requires { (m.at < length words.now) × (m.at < 2 ^ 63) × (kind_at words.now m.at m.half ≡ kind.This) }
     ensures starts_as { StartsAs rule.this words.now m result }
     ensures start_has { StartHas result words.now m }
 {
-    if predicates(words, classes, m) {
+    if predicates(words, m) {
         Start::This
     } else {
         Start::Keyword
@@ -137,44 +136,44 @@ fn this_start(words: &[u64], classes: &[u16; 256], m: Mark) -> Start
 }
 
 // What asserts, typeof or import begins; if none does, what is enclosed.
-fn worded(words: &[u64], classes: &[u16; 256], m: Mark) -> Start
-    requires { (classes.now ≡ class_words) × (m.at < 2 ^ 63) }
+fn worded(words: &[u64], m: Mark) -> Start
+    requires { m.at < 2 ^ 63 }
     ensures starts_as { StartsAs rule.worded words.now m result }
     ensures start_has { StartHas result words.now m }
 {
-    if is_assertion(words, classes, m) {
+    if is_assertion(words, m) {
         return Start::Asserts;
     }
     let kind = kind_at(words, m);
     if kind == Kind::TYPEOF || kind == Kind::IMPORT {
         return Start::Name;
     }
-    enclosed(words, classes, kind, m)
+    enclosed(words, kind, m)
 }
 
 // What a mark or a template opens; if none does, a reference.
-fn enclosed(words: &[u64], classes: &[u16; 256], kind: usize, m: Mark) -> Start
-    requires { (classes.now ≡ class_words) × (m.at < 2 ^ 63) × (kind ≡ kind_at words.now m.at m.half) × (kind ≤ 255 * (length words.now - m.at)) }
+fn enclosed(words: &[u64], kind: usize, m: Mark) -> Start
+    requires { (m.at < 2 ^ 63) × (kind ≡ kind_at words.now m.at m.half) × (kind ≤ 255 * (length words.now - m.at)) }
     ensures starts_as { StartsAs rule.enclosed words.now m result }
     ensures start_has { StartHas result words.now m }
 {
     match kind {
-        Kind::L_CURLY => curly(words, classes, m),
+        Kind::L_CURLY => curly(words, m),
         Kind::L_BRACK => Start::Tuple,
         Kind::L_PAREN => Start::Parens,
         Kind::NO_SUBSTITUTION_TEMPLATE => Start::Literal,
         Kind::TEMPLATE_HEAD => Start::Template,
-        _ => other_start(classes, kind),
+        _ => other_start(kind),
     }
 }
 
 // A `{` opens a mapped type by the look-ahead of types.rs, else an object type.
-fn curly(words: &[u64], classes: &[u16; 256], m: Mark) -> Start
-    requires { (classes.now ≡ class_words) × (m.at < length words.now) × (kind_at words.now m.at m.half ≡ kind.LCurly) }
+fn curly(words: &[u64], m: Mark) -> Start
+    requires { (m.at < length words.now) × (kind_at words.now m.at m.half ≡ kind.LCurly) }
     ensures starts_as { StartsAs rule.enclosed words.now m result }
     ensures start_has { StartHas result words.now m }
 {
-    if mapped_start(words, classes, m.at) {
+    if mapped_start(words, m.at) {
         Start::Mapped
     } else {
         Start::Object
@@ -182,12 +181,12 @@ fn curly(words: &[u64], classes: &[u16; 256], m: Mark) -> Start
 }
 
 // A reference; the three prefix marks are known but refused.
-fn other_start(classes: &[u16; 256], kind: usize) -> Start
-    requires { (classes.now ≡ class_words) × (kind < 256) }
+fn other_start(kind: usize) -> Start
+    requires { kind < 256 }
     ensures reference_is { ReferenceIs kind result }
     ensures reference_has { ReferenceHas kind result }
 {
-    if in_class(classes, kind, Class::BindingWord) {
+    if in_class(kind, Class::BindingWord) {
         return Start::Name;
     }
     match kind {
