@@ -1,5 +1,5 @@
 // Primary: what begins here, and what holds no type.
-ghost use Rattle.std.specs.Prelude.{◌≡◌, List, ℕ, ◌+◌, ◌-◌, ◌*◌, ◌≤◌, ◌<◌, ◌^◌, length};
+ghost use Rattle.std.specs.Prelude.{◌≡◌, List, ℕ, Ok, ◌+◌, ◌-◌, ◌*◌, ◌≤◌, ◌<◌, ◌^◌, length};
 ghost use Rattle.words.specs.Class.{class_words};
 ghost use Rattle.words.specs.Kind as kind;
 ghost use Rattle.words.specs.Cursor.{kind_at};
@@ -28,7 +28,7 @@ use words::kind::{Class, Kind, in_class};
 use words::refusal::Refusal;
 
 // What a primary type begins as.
-#[derive(Clone, Copy)]
+#[derive(Clone, Copy, Debug, PartialEq, Eq)]
 pub enum Start {
     // a keyword, `this` alone
     Keyword,
@@ -44,8 +44,6 @@ pub enum Start {
     Tuple,
     Parens,
     Template,
-    // why nothing does
-    Nothing(Refusal),
 }
 
 // Whether the return type begins as a predicate: some name, and `is` on its line.
@@ -103,22 +101,22 @@ fn is_assertion(words: &[u64], classes: &[u16; 256], m: Mark) -> bool
 }
 
 // Keywords, this and literals; if none stands here, the others.
-pub fn primary_start(words: &[u64], classes: &[u16; 256], m: Mark) -> Start
+pub fn primary_start(words: &[u64], classes: &[u16; 256], m: Mark) -> Result<Start, Refusal>
     requires { (classes.now ≡ class_words) × Sound words.now × Inside (length words.now) m }
     ensures by_index { (text O : List ℕ) (given : AnyGiven) (T : Reader) → StartIs result (given_of text words.now given) T (view m O) }
     ensures start_has { StartHas result words.now m }
 {
     if is_keyword(words, m) {
-        return Start::Keyword;
+        return Ok(Start::Keyword);
     }
     if kind_at(words, m) == Kind::THIS {
-        return this_start(words, classes, m);
+        return Ok(this_start(words, classes, m));
     }
     if is_literal(kind_at(words, m)) {
-        return Start::Literal;
+        return Ok(Start::Literal);
     }
     if is_negative(words, m) {
-        return Start::Literal;
+        return Ok(Start::Literal);
     }
     worded(words, classes, m)
 }
@@ -126,8 +124,8 @@ pub fn primary_start(words: &[u64], classes: &[u16; 256], m: Mark) -> Start
 // A `this`, by what follows it.
 fn this_start(words: &[u64], classes: &[u16; 256], m: Mark) -> Start
     requires { (classes.now ≡ class_words) × (m.at < length words.now) × (m.at < 2 ^ 63) × (kind_at words.now m.at m.half ≡ kind.This) }
-    ensures starts_as { StartsAs rule.this words.now m result }
-    ensures start_has { StartHas result words.now m }
+    ensures starts_as { StartsAs rule.this words.now m (Ok result) }
+    ensures start_has { StartHas (Ok result) words.now m }
 {
     if predicates(words, classes, m) {
         Start::This
@@ -137,33 +135,33 @@ fn this_start(words: &[u64], classes: &[u16; 256], m: Mark) -> Start
 }
 
 // What asserts, typeof or import begins; if none does, what is enclosed.
-fn worded(words: &[u64], classes: &[u16; 256], m: Mark) -> Start
+fn worded(words: &[u64], classes: &[u16; 256], m: Mark) -> Result<Start, Refusal>
     requires { (classes.now ≡ class_words) × (m.at < 2 ^ 63) }
     ensures starts_as { StartsAs rule.worded words.now m result }
     ensures start_has { StartHas result words.now m }
 {
     if is_assertion(words, classes, m) {
-        return Start::Asserts;
+        return Ok(Start::Asserts);
     }
     let kind = kind_at(words, m);
     if kind == Kind::TYPEOF || kind == Kind::IMPORT {
-        return Start::Name;
+        return Ok(Start::Name);
     }
     enclosed(words, classes, kind, m)
 }
 
 // What a mark or a template opens; if none does, a reference.
-fn enclosed(words: &[u64], classes: &[u16; 256], kind: usize, m: Mark) -> Start
+fn enclosed(words: &[u64], classes: &[u16; 256], kind: usize, m: Mark) -> Result<Start, Refusal>
     requires { (classes.now ≡ class_words) × (m.at < 2 ^ 63) × (kind ≡ kind_at words.now m.at m.half) × (kind ≤ 255 * (length words.now - m.at)) }
     ensures starts_as { StartsAs rule.enclosed words.now m result }
     ensures start_has { StartHas result words.now m }
 {
     match kind {
-        Kind::L_CURLY => curly(words, classes, m),
-        Kind::L_BRACK => Start::Tuple,
-        Kind::L_PAREN => Start::Parens,
-        Kind::NO_SUBSTITUTION_TEMPLATE => Start::Literal,
-        Kind::TEMPLATE_HEAD => Start::Template,
+        Kind::L_CURLY => Ok(curly(words, classes, m)),
+        Kind::L_BRACK => Ok(Start::Tuple),
+        Kind::L_PAREN => Ok(Start::Parens),
+        Kind::NO_SUBSTITUTION_TEMPLATE => Ok(Start::Literal),
+        Kind::TEMPLATE_HEAD => Ok(Start::Template),
         _ => other_start(classes, kind),
     }
 }
@@ -171,8 +169,8 @@ fn enclosed(words: &[u64], classes: &[u16; 256], kind: usize, m: Mark) -> Start
 // A `{` opens a mapped type by the look-ahead of types.rs, else an object type.
 fn curly(words: &[u64], classes: &[u16; 256], m: Mark) -> Start
     requires { (classes.now ≡ class_words) × (m.at < length words.now) × (kind_at words.now m.at m.half ≡ kind.LCurly) }
-    ensures starts_as { StartsAs rule.enclosed words.now m result }
-    ensures start_has { StartHas result words.now m }
+    ensures starts_as { StartsAs rule.enclosed words.now m (Ok result) }
+    ensures start_has { StartHas (Ok result) words.now m }
 {
     if mapped_start(words, classes, m.at) {
         Start::Mapped
@@ -182,19 +180,17 @@ fn curly(words: &[u64], classes: &[u16; 256], m: Mark) -> Start
 }
 
 // A reference; the three prefix marks are known but refused.
-fn other_start(classes: &[u16; 256], kind: usize) -> Start
+fn other_start(classes: &[u16; 256], kind: usize) -> Result<Start, Refusal>
     requires { (classes.now ≡ class_words) × (kind < 256) }
     ensures reference_is { ReferenceIs kind result }
     ensures reference_has { ReferenceHas kind result }
 {
     if in_class(classes, kind, Class::BindingWord) {
-        return Start::Name;
+        return Ok(Start::Name);
     }
     match kind {
-        Kind::QUESTION => Start::Nothing(Refusal::PrefixMark),
-        Kind::BANG => Start::Nothing(Refusal::PrefixMark),
-        Kind::STAR => Start::Nothing(Refusal::PrefixMark),
-        _ => Start::Nothing(Refusal::Unexpected),
+        Kind::QUESTION | Kind::BANG | Kind::STAR => Err(Refusal::PrefixMark),
+        _ => Err(Refusal::Unexpected),
     }
 }
 

@@ -825,19 +825,18 @@ fn primary(
     ensures within { Within words given (told result) }
     ensures onward { Onward m (told result) }
 {
-    let o = primary_start(words, classes, m);
-    match o {
-        Start::Keyword => return keyword(words, nodes, given, m),
-        Start::Literal => return literal(words, nodes, names, given, m),
-        Start::This => return pred(text, words, classes, nodes, names, notes, given, false, m),
-        Start::Asserts => return pred(text, words, classes, nodes, names, notes, given, true, m),
-        Start::Name => return named(text, words, classes, nodes, names, notes, given, m),
-        Start::Mapped => return mapped(text, words, classes, nodes, names, notes, given, m),
-        Start::Object => return object(text, words, classes, nodes, names, notes, given, m),
-        Start::Tuple => return tuple(text, words, classes, nodes, names, notes, given, m),
-        Start::Parens => return parens(text, words, classes, nodes, names, notes, given, m),
-        Start::Template => return template(text, words, classes, nodes, names, notes, given, m),
-        Start::Nothing(why) => return Err(Stop { why, m }),
+    match primary_start(words, classes, m) {
+        Ok(Start::Keyword) => keyword(words, nodes, given, m),
+        Ok(Start::Literal) => literal(words, nodes, names, given, m),
+        Ok(Start::This) => pred(text, words, classes, nodes, names, notes, given, false, m),
+        Ok(Start::Asserts) => pred(text, words, classes, nodes, names, notes, given, true, m),
+        Ok(Start::Name) => named(text, words, classes, nodes, names, notes, given, m),
+        Ok(Start::Mapped) => mapped(text, words, classes, nodes, names, notes, given, m),
+        Ok(Start::Object) => object(text, words, classes, nodes, names, notes, given, m),
+        Ok(Start::Tuple) => tuple(text, words, classes, nodes, names, notes, given, m),
+        Ok(Start::Parens) => parens(text, words, classes, nodes, names, notes, given, m),
+        Ok(Start::Template) => template(text, words, classes, nodes, names, notes, given, m),
+        Err(why) => Err(Stop { why, m }),
     }
 }
 

@@ -47,7 +47,7 @@ use Rattle.readers.proofs.SuffixLaws.{suffixed_inside, postfix_is, marks_begin, 
 use Rattle.primaries.specs.Onward.{subject_at}
 use Rattle.primaries.specs.Primary.{predicate_choices}
 use Rattle.readers.proofs.PredicateLaws.{predicate_starts, subject_this, predicates_inside}
-use Rattle.readers.proofs.StartLaws.{start_is, start_has}
+use Rattle.readers.proofs.StartLaws.{start_is}
 use Rattle.members.specs.Object.{signature_names}
 use borrow.Author.Tests.{not-true, not-false}
 use Rattle.marks.proofs.LeafLaws.{stands_on}
@@ -555,72 +555,65 @@ pub pred-returns-clause-reads : goal.pred-returns-clause-reads
 pred-returns-clause-reads t c =
     let begins = predicate_starts _ _ c.args.asserts c.args.m c.subject-h.result.m c.args.notes.now c.subject-h.ensures.at_value in let x = (c.in_ok-a.ensures.option _ _ (built_spoken c.none.ensures (c.subject-h.ensures.speaks_subject c.args.text.now c.args.notes.now c.args.given c.requires.0.spelt))).done refl in let about = function.subject (given_of c.args.text.now c.args.words.now c.args.given) (subject_at c.args.asserts (view c.args.m c.args.notes.now)) in let this_is = subject_this c.args.text.now c.args.words.now c.args.given c.args.asserts c.args.m c.args.notes.now in says_same (begins ∙ then_read_lem _ x.is ∙ make_first _ _ _ _ _ c.at.ensures.first_value.0) (c.put.ensures.makes c.args.text.now 0 _ _ 16 _ _ _ x.built c.at.ensures.first_value.1 (shape_as (omega (arith, ap (predicate_choices c.args.asserts) this_is, c.subject-h.ensures.at_value, (c.from.ensures ∙ bit_is c.in_ok-a.a.there), x.there_is)) (shape_predicate c.args.asserts about x.tree x.is_opt)))
 
-pub primary-returns-in-Keyword-clause-reads : goal.primary-returns-in-Keyword-clause-reads
-primary-returns-in-Keyword-clause-reads t c =
-    says_same (start_is c.args.words.now c.args.m c.in-Keyword.is c.primary_start-o.ensures.by_index c.args.text.now c.args.notes.now
+pub primary-returns-in-Ok-Keyword-clause-reads : goal.primary-returns-in-Ok-Keyword-clause-reads
+primary-returns-in-Ok-Keyword-clause-reads t c =
+    says_same (start_is c.args.words.now c.args.m c.in-Ok-Keyword.is c.in-Ok-Keyword.field-0-is c.primary_start.ensures.by_index c.args.text.now c.args.notes.now
     c.args.given _)
     (c.keyword.ensures.by_index c.args.text.now _ _)
 
-pub primary-returns-in-Literal-clause-reads : goal.primary-returns-in-Literal-clause-reads
-primary-returns-in-Literal-clause-reads t c =
-    let is = start_is c.args.words.now c.args.m c.in-Literal.is c.primary_start-o.ensures.by_index c.args.text.now c.args.notes.now
+pub primary-returns-in-Ok-Literal-clause-reads : goal.primary-returns-in-Ok-Literal-clause-reads
+primary-returns-in-Ok-Literal-clause-reads t c =
+    let is = start_is c.args.words.now c.args.m c.in-Ok-Literal.is c.in-Ok-Literal.field-0-is c.primary_start.ensures.by_index c.args.text.now c.args.notes.now
     c.args.given _ in
     says_same is.0 (c.literal.ensures.says_literal c.args.text.now _ c.requires.spelt is.1)
 
-pub primary-returns-in-This-clause-reads : goal.primary-returns-in-This-clause-reads
-primary-returns-in-This-clause-reads t c =
-    says_same (start_is c.args.words.now c.args.m c.in-This.is c.primary_start-o.ensures.by_index c.args.text.now c.args.notes.now
+pub primary-returns-in-Ok-This-clause-reads : goal.primary-returns-in-Ok-This-clause-reads
+primary-returns-in-Ok-This-clause-reads t c =
+    says_same (start_is c.args.words.now c.args.m c.in-Ok-This.is c.in-Ok-This.field-0-is c.primary_start.ensures.by_index c.args.text.now c.args.notes.now
     c.args.given _)
     c.pred.ensures.reads
 
-pub primary-returns-in-Asserts-clause-reads : goal.primary-returns-in-Asserts-clause-reads
-primary-returns-in-Asserts-clause-reads t c =
-    says_same (start_is c.args.words.now c.args.m c.in-Asserts.is c.primary_start-o.ensures.by_index c.args.text.now c.args.notes.now
+pub primary-returns-in-Ok-Asserts-clause-reads : goal.primary-returns-in-Ok-Asserts-clause-reads
+primary-returns-in-Ok-Asserts-clause-reads t c =
+    says_same (start_is c.args.words.now c.args.m c.in-Ok-Asserts.is c.in-Ok-Asserts.field-0-is c.primary_start.ensures.by_index c.args.text.now c.args.notes.now
     c.args.given _)
-    c.pred-in-Asserts.ensures.reads
+    c.pred-in-Ok-Asserts.ensures.reads
 
-pub primary-returns-in-Name-clause-reads : goal.primary-returns-in-Name-clause-reads
-primary-returns-in-Name-clause-reads t c =
-    says_same (start_is c.args.words.now c.args.m c.in-Name.is c.primary_start-o.ensures.by_index c.args.text.now c.args.notes.now
+pub primary-returns-in-Ok-Name-clause-reads : goal.primary-returns-in-Ok-Name-clause-reads
+primary-returns-in-Ok-Name-clause-reads t c =
+    says_same (start_is c.args.words.now c.args.m c.in-Ok-Name.is c.in-Ok-Name.field-0-is c.primary_start.ensures.by_index c.args.text.now c.args.notes.now
     c.args.given _)
     c.named.ensures.reads
 
-pub primary-returns-in-Mapped-clause-reads : goal.primary-returns-in-Mapped-clause-reads
-primary-returns-in-Mapped-clause-reads t c =
-    let is = start_is c.args.words.now c.args.m c.in-Mapped.is c.primary_start-o.ensures.by_index c.args.text.now c.args.notes.now
+pub primary-returns-in-Ok-Mapped-clause-reads : goal.primary-returns-in-Ok-Mapped-clause-reads
+primary-returns-in-Ok-Mapped-clause-reads t c =
+    let is = start_is c.args.words.now c.args.m c.in-Ok-Mapped.is c.in-Ok-Mapped.field-0-is c.primary_start.ensures.by_index c.args.text.now c.args.notes.now
     c.args.given _ in
     says_same is.0 (c.mapped.ensures.reads is.1)
 
-pub primary-returns-in-Object-clause-reads : goal.primary-returns-in-Object-clause-reads
-primary-returns-in-Object-clause-reads t c =
-    let is = start_is c.args.words.now c.args.m c.in-Object.is c.primary_start-o.ensures.by_index c.args.text.now c.args.notes.now
+pub primary-returns-in-Ok-Object-clause-reads : goal.primary-returns-in-Ok-Object-clause-reads
+primary-returns-in-Ok-Object-clause-reads t c =
+    let is = start_is c.args.words.now c.args.m c.in-Ok-Object.is c.in-Ok-Object.field-0-is c.primary_start.ensures.by_index c.args.text.now c.args.notes.now
     c.args.given _ in
     says_same is.0 (c.object.ensures.reads is.1)
 
-pub primary-returns-in-Tuple-clause-reads : goal.primary-returns-in-Tuple-clause-reads
-primary-returns-in-Tuple-clause-reads t c =
-    let is = start_is c.args.words.now c.args.m c.in-Tuple.is c.primary_start-o.ensures.by_index c.args.text.now c.args.notes.now
+pub primary-returns-in-Ok-Tuple-clause-reads : goal.primary-returns-in-Ok-Tuple-clause-reads
+primary-returns-in-Ok-Tuple-clause-reads t c =
+    let is = start_is c.args.words.now c.args.m c.in-Ok-Tuple.is c.in-Ok-Tuple.field-0-is c.primary_start.ensures.by_index c.args.text.now c.args.notes.now
     c.args.given _ in
     says_same is.0 (c.tuple.ensures.reads is.1)
 
-pub primary-returns-in-Parens-clause-reads : goal.primary-returns-in-Parens-clause-reads
-primary-returns-in-Parens-clause-reads t c =
-    says_same (start_is c.args.words.now c.args.m c.in-Parens.is c.primary_start-o.ensures.by_index c.args.text.now c.args.notes.now
+pub primary-returns-in-Ok-Parens-clause-reads : goal.primary-returns-in-Ok-Parens-clause-reads
+primary-returns-in-Ok-Parens-clause-reads t c =
+    says_same (start_is c.args.words.now c.args.m c.in-Ok-Parens.is c.in-Ok-Parens.field-0-is c.primary_start.ensures.by_index c.args.text.now c.args.notes.now
     c.args.given _)
     c.parens.ensures.reads
 
-pub primary-returns-in-Template-clause-reads : goal.primary-returns-in-Template-clause-reads
-primary-returns-in-Template-clause-reads t c =
-    let is = start_is c.args.words.now c.args.m c.in-Template.is c.primary_start-o.ensures.by_index c.args.text.now c.args.notes.now
+pub primary-returns-in-Ok-Template-clause-reads : goal.primary-returns-in-Ok-Template-clause-reads
+primary-returns-in-Ok-Template-clause-reads t c =
+    let is = start_is c.args.words.now c.args.m c.in-Ok-Template.is c.in-Ok-Template.field-0-is c.primary_start.ensures.by_index c.args.text.now c.args.notes.now
     c.args.given _ in
     says_same is.0 (c.template.ensures.reads is.1)
-
-pub primary-returns-in-Nothing-clause-reads : goal.primary-returns-in-Nothing-clause-reads
-primary-returns-in-Nothing-clause-reads t c =
-    let has = start_has c.args.words.now c.args.m c.in-Nothing.is c.primary_start-o.ensures.start_has in
-    says_as refl
-    (says_stop (λ z. omega arith) (start_is c.args.words.now c.args.m c.in-Nothing.is c.primary_start-o.ensures.by_index c.args.text.now c.args.notes.now
-    c.args.given _))
 
 pub ret-returns-then-predicates-clause-reads : goal.ret-returns-then-predicates-clause-reads
 ret-returns-then-predicates-clause-reads t c =
