@@ -1046,27 +1046,29 @@ fn memb(
     let b = Begin::at(words, m);
     let head = h.choices;
     let p = h.m;
-    if h.sort == Sort::INDEX {
-        return index(text, words, classes, nodes, names, notes, given, b, head, p);
+    match h.sort {
+        Sort::Property => {
+            let t = opt(
+                text,
+                words,
+                classes,
+                nodes,
+                names,
+                notes,
+                given,
+                Kind::COLON,
+                true,
+                Kids::none(),
+                p,
+            )?;
+            let all = property_choices(head, t.there);
+            member_node(words, nodes, given, b, all, t.kids, t.m)
+        }
+        Sort::Index => index(text, words, classes, nodes, names, notes, given, b, head, p),
+        Sort::Method | Sort::Call | Sort::Construct => {
+            sign(text, words, classes, nodes, names, notes, given, b, head, p)
+        }
     }
-    if h.sort != Sort::PROPERTY {
-        return sign(text, words, classes, nodes, names, notes, given, b, head, p);
-    }
-    let t = opt(
-        text,
-        words,
-        classes,
-        nodes,
-        names,
-        notes,
-        given,
-        Kind::COLON,
-        true,
-        Kids::none(),
-        p,
-    )?;
-    let all = property_choices(head, t.there);
-    member_node(words, nodes, given, b, all, t.kids, t.m)
 }
 
 // Signature: type parameters, parameters and the return type of a member that begins at b; diagnostic 3 stands before that.
@@ -1090,7 +1092,7 @@ fn sign(
 {
     let t = tparams(text, words, classes, nodes, names, notes, given, true, m)?;
     let k = t.kids;
-    let is_new = head == Sort::CONSTRUCT;
+    let is_new = head == Sort::Construct as usize;
     let p = params(
         text, words, classes, nodes, names, notes, given, is_new, k, t.m,
     )?;

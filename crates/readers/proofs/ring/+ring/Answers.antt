@@ -23,7 +23,8 @@ use mathlib.Core.Bool.{not, true}
 use lib.Dec.{eqb}
 use Rattle.members.specs.declared.object.IndexParams.{IndexParams}
 use Rattle.readers.proofs.ParamsLaws.{freed_low, freed_high, bit_low, params_refused, this_none, params_plain, params_this_refused, params_this_stops, params_this}
-use Rattle.readers.proofs.MemberLaws.{built_stepped, member_index, member_signature, member_property, property_content, property_typed, property_refused, property_shaped, construct_is, params_as, sign_is, behind_types, behind_params, behind_note, sign_plain, sign_returns, sign_stops, sign_untyped, sign_typed}
+use Rattle.members.specs.Told.{sort_number}
+use Rattle.readers.proofs.MemberLaws.{signature_sort, built_stepped, member_index, member_signature, member_property, property_content, property_typed, property_refused, property_shaped, construct_is, params_as, sign_is, behind_types, behind_params, behind_note, sign_plain, sign_returns, sign_stops, sign_untyped, sign_typed}
 use Rattle.readers.proofs.IndexTurns.{index_is, behind_index, index_begins, index_ended, index_unnamed, index_untyped, index_stops, index_again, under_type, index_content, index_shaped}
 use Rattle.operators.proofs.InferLaws.{infer_refused}
 use Rattle.readers.proofs.TrialLaws.{bare_put, trial_many, trial_refused, trial_put}
@@ -276,22 +277,22 @@ memb-returns-in_err-h-clause-reads t c =
     rw (handed_on c.from_residual.ensures.1)
     ((says_stop (refusal_some c.in_err-h.field-0.0.why) ((c.in_err-h.ensures.starts_member c.args.notes.now c.args.given).refused (refusal_some c.in_err-h.field-0.0.why) _)))
 
-pub memb-returns-then-h-eq-INDEX-clause-reads : goal.memb-returns-then-h-eq-INDEX-clause-reads
-memb-returns-then-h-eq-INDEX-clause-reads t c =
-    member_index c.args.text.now c.args.words.now c.args.given _ ((c.in_ok-h.ensures.starts_member c.args.notes.now c.args.given).done refl) c.at-b.ensures.first_value.0 c.if-h-eq-INDEX.true (λ readonly laid choices. c.index.ensures.reads_index _ readonly laid c.at-b.ensures.first_value.1 choices)
+pub memb-returns-in-Index-clause-reads : goal.memb-returns-in-Index-clause-reads
+memb-returns-in-Index-clause-reads t c =
+    member_index c.args.text.now c.args.words.now c.args.given _ ((c.in_ok-h.ensures.starts_member c.args.notes.now c.args.given).done refl) c.at-b.ensures.first_value.0 (ap sort_number c.in-Index.is) (λ readonly laid choices. c.index.ensures.reads_index _ readonly laid c.at-b.ensures.first_value.1 choices)
 
-pub memb-returns-then-h-ne-PROPERTY-clause-reads : goal.memb-returns-then-h-ne-PROPERTY-clause-reads
-memb-returns-then-h-ne-PROPERTY-clause-reads t c =
-    member_signature c.args.text.now c.args.words.now c.args.given _ ((c.in_ok-h.ensures.starts_member c.args.notes.now c.args.given).done refl) c.at-b.ensures.first_value.0 c.if-h-eq-INDEX.false c.if-h-ne-PROPERTY.true (λ x laid choices. c.sign.ensures.reads_signature _ x laid c.at-b.ensures.first_value.1 choices)
+pub memb-returns-in-Method-clause-reads : goal.memb-returns-in-Method-clause-reads
+memb-returns-in-Method-clause-reads t c =
+    member_signature c.args.text.now c.args.words.now c.args.given _ ((c.in_ok-h.ensures.starts_member c.args.notes.now c.args.given).done refl) c.at-b.ensures.first_value.0 (signature_sort _ c.in-Method.is).0 (signature_sort _ c.in-Method.is).1 (λ x laid choices. c.sign.ensures.reads_signature _ x laid c.at-b.ensures.first_value.1 choices)
 
-pub memb-returns-in_err-t-clause-reads : goal.memb-returns-in_err-t-clause-reads
-memb-returns-in_err-t-clause-reads t c =
-    rw (handed_on c.from_residual-in_err-t.ensures.1)
-    (member_property c.args.text.now c.args.words.now c.args.given _ ((c.in_ok-h.ensures.starts_member c.args.notes.now c.args.given).done refl) c.at-b.ensures.first_value.0 c.if-h-ne-PROPERTY.false (λ readonly k question laid choices. (says_stop (refusal_some c.in_err-t.field-0.0.why) (property_refused _ _ _ readonly k question _ ((c.in_err-t.ensures.option _ _ (built_as c.none.ensures (built_names (k.spelling ∷ []) laid))).refused (refusal_some c.in_err-t.field-0.0.why))))))
+pub memb-returns-in_err-t-in-Property-clause-reads : goal.memb-returns-in_err-t-in-Property-clause-reads
+memb-returns-in_err-t-in-Property-clause-reads t c =
+    rw (handed_on c.from_residual-in_err-t-in-Property.ensures.1)
+    (member_property c.args.text.now c.args.words.now c.args.given _ ((c.in_ok-h.ensures.starts_member c.args.notes.now c.args.given).done refl) c.at-b.ensures.first_value.0 (ap sort_number c.in-Property.is) (λ readonly k question laid choices. (says_stop (refusal_some c.in_err-t-in-Property.field-0.0.why) (property_refused _ _ _ readonly k question _ ((c.in_err-t-in-Property.ensures.option _ _ (built_as c.none.ensures (built_names (k.spelling ∷ []) laid))).refused (refusal_some c.in_err-t-in-Property.field-0.0.why))))))
 
-pub memb-returns-clause-reads : goal.memb-returns-clause-reads
-memb-returns-clause-reads t c =
-    member_property c.args.text.now c.args.words.now c.args.given _ ((c.in_ok-h.ensures.starts_member c.args.notes.now c.args.given).done refl) c.at-b.ensures.first_value.0 c.if-h-ne-PROPERTY.false (λ readonly k question laid choices. let o = (c.in_ok-t.ensures.option _ _ (built_as c.none.ensures (built_names (k.spelling ∷ []) laid))).done refl in says_same (property_typed _ _ _ readonly k question _ o.is) (c.member_node.ensures.makes_member c.args.text.now _ _ 0 (property_content readonly k question o.tree) _ _ o.built c.at-b.ensures.first_value.1 (property_shaped readonly k question o.tree c.in_ok-t.t.there o.is_opt choices c.property_choices-all.ensures o.there_is)))
+pub memb-returns-in_ok-t-in-Property-clause-reads : goal.memb-returns-in_ok-t-in-Property-clause-reads
+memb-returns-in_ok-t-in-Property-clause-reads t c =
+    member_property c.args.text.now c.args.words.now c.args.given _ ((c.in_ok-h.ensures.starts_member c.args.notes.now c.args.given).done refl) c.at-b.ensures.first_value.0 (ap sort_number c.in-Property.is) (λ readonly k question laid choices. let o = (c.in_ok-t-in-Property.ensures.option _ _ (built_as c.none.ensures (built_names (k.spelling ∷ []) laid))).done refl in says_same (property_typed _ _ _ readonly k question _ o.is) (c.member_node.ensures.makes_member c.args.text.now _ _ 0 (property_content readonly k question o.tree) _ _ o.built c.at-b.ensures.first_value.1 (property_shaped readonly k question o.tree c.in_ok-t-in-Property.t.there o.is_opt choices c.property_choices-all.ensures o.there_is)))
 
 pub named-returns-in_err-n-clause-reads : goal.named-returns-in_err-n-clause-reads
 named-returns-in_err-n-clause-reads t c =
