@@ -27,21 +27,18 @@ use words::ahead::{accessor_start, index_start, modifier_start, property_key, re
 use words::kind::{Class, Kind};
 use words::refusal::Refusal;
 
-// Holds nothing: the sorts of members in the node table are its constants.
-#[derive(Clone, Copy)]
-pub struct Sort {}
+// The sorts of members in the node table.
+#[derive(Clone, Copy, Debug, PartialEq, Eq)]
+pub enum Sort {
+    Property = 0,
+    Method = 1,
+    Call = 2,
+    Construct = 3,
+    Index = 4,
+}
 
 impl Sort {
-    pub const PROPERTY: usize = 0;
-
-    pub const METHOD: usize = 1;
-
-    pub const CALL: usize = 2;
-
-    pub const CONSTRUCT: usize = 3;
-
-    pub const INDEX: usize = 4;
-    // how many sorts three bits have: a member's own choices begin above
+    // How many sorts three bits have: a member's own choices begin above.
     pub const ALL: usize = 8;
 }
 
@@ -50,7 +47,7 @@ impl Sort {
 // A member up to its first type: its sort, its choices so far, and where reading stands then.
 #[derive(Clone, Copy)]
 pub struct MemberHead {
-    pub sort: usize,
+    pub sort: Sort,
     pub choices: usize,
     pub m: Mark,
 }
@@ -99,15 +96,15 @@ pub fn member_head(
 {
     if signs(kind_at(words, m)) {
         return Ok(MemberHead {
-            sort: Sort::CALL,
-            choices: Sort::CALL,
+            sort: Sort::Call,
+            choices: Sort::Call as usize,
             m,
         });
     }
     if constructs(words, m) {
         return Ok(MemberHead {
-            sort: Sort::CONSTRUCT,
-            choices: Sort::CONSTRUCT,
+            sort: Sort::Construct,
+            choices: Sort::Construct as usize,
             m: next(m),
         });
     }
@@ -140,8 +137,8 @@ fn behind_readonly(
     }
     if index_start(words, m.at) {
         return Ok(MemberHead {
-            sort: Sort::INDEX,
-            choices: Sort::INDEX + Sort::ALL * usize::from(readonly),
+            sort: Sort::Index,
+            choices: Sort::Index as usize + Sort::ALL * usize::from(readonly),
             m,
         });
     }
@@ -169,13 +166,13 @@ fn with_key(words: &[u64], names: &mut [u64], readonly: bool, m: Mark) -> Result
     let q = past(words, Kind::QUESTION, p);
     if signs(kind_at(words, q)) {
         return Ok(MemberHead {
-            sort: Sort::METHOD,
-            choices: Sort::METHOD + Sort::ALL * key,
+            sort: Sort::Method,
+            choices: Sort::Method as usize + Sort::ALL * key,
             m: q,
         });
     }
     Ok(MemberHead {
-        sort: Sort::PROPERTY,
+        sort: Sort::Property,
         choices: Sort::ALL * (usize::from(readonly) + 2 * key),
         m: q,
     })
@@ -280,10 +277,10 @@ fn signature_choices(
     ensures { result ≡ signature_choices head there count this params typed }
 {
     let rest = params + COUNTS * usize::from(typed);
-    if head == Sort::CONSTRUCT {
+    if head == Sort::Construct as usize {
         return head + Sort::ALL * new_choices(there, count, rest);
     }
-    if head == Sort::CALL {
+    if head == Sort::Call as usize {
         return head + Sort::ALL * call_choices(there, count, this, rest);
     }
     // a method's head has its key and its `?` too

@@ -1,5 +1,5 @@
 // Primary: what begins here, and what holds no type.
-ghost use Rattle.std.specs.Prelude.{◌≡◌, List, ℕ, ◌+◌, ◌-◌, ◌*◌, ◌≤◌, ◌<◌, ◌^◌, length};
+ghost use Rattle.std.specs.Prelude.{◌≡◌, List, ℕ, Ok, ◌+◌, ◌-◌, ◌*◌, ◌≤◌, ◌<◌, ◌^◌, length};
 ghost use Rattle.words.specs.Kind as kind;
 ghost use Rattle.words.specs.Cursor.{kind_at};
 ghost use Rattle.words.specs.Test.{among};
@@ -27,7 +27,7 @@ use words::kind::{Class, Kind, in_class};
 use words::refusal::Refusal;
 
 // What a primary type begins as.
-#[derive(Clone, Copy)]
+#[derive(Clone, Copy, Debug, PartialEq, Eq)]
 pub enum Start {
     // a keyword, `this` alone
     Keyword,
@@ -43,8 +43,6 @@ pub enum Start {
     Tuple,
     Parens,
     Template,
-    // why nothing does
-    Nothing(Refusal),
 }
 
 // Whether the return type begins as a predicate: some name, and `is` on its line.
@@ -102,22 +100,22 @@ fn is_assertion(words: &[u64], m: Mark) -> bool
 }
 
 // Keywords, this and literals; if none stands here, the others.
-pub fn primary_start(words: &[u64], m: Mark) -> Start
+pub fn primary_start(words: &[u64], m: Mark) -> Result<Start, Refusal>
     requires { Sound words.now × Inside (length words.now) m }
     ensures by_index { (text O : List ℕ) (given : AnyGiven) (T : Reader) → StartIs result (given_of text words.now given) T (view m O) }
     ensures start_has { StartHas result words.now m }
 {
     if is_keyword(words, m) {
-        return Start::Keyword;
+        return Ok(Start::Keyword);
     }
     if kind_at(words, m) == Kind::THIS {
-        return this_start(words, m);
+        return Ok(this_start(words, m));
     }
     if is_literal(kind_at(words, m)) {
-        return Start::Literal;
+        return Ok(Start::Literal);
     }
     if is_negative(words, m) {
-        return Start::Literal;
+        return Ok(Start::Literal);
     }
     worded(words, m)
 }
@@ -125,8 +123,8 @@ pub fn primary_start(words: &[u64], m: Mark) -> Start
 // A `this`, by what follows it.
 fn this_start(words: &[u64], m: Mark) -> Start
     requires { (m.at < length words.now) × (m.at < 2 ^ 63) × (kind_at words.now m.at m.half ≡ kind.This) }
-    ensures starts_as { StartsAs rule.this words.now m result }
-    ensures start_has { StartHas result words.now m }
+    ensures starts_as { StartsAs rule.this words.now m (Ok result) }
+    ensures start_has { StartHas (Ok result) words.now m }
 {
     if predicates(words, m) {
         Start::This
@@ -136,33 +134,33 @@ fn this_start(words: &[u64], m: Mark) -> Start
 }
 
 // What asserts, typeof or import begins; if none does, what is enclosed.
-fn worded(words: &[u64], m: Mark) -> Start
+fn worded(words: &[u64], m: Mark) -> Result<Start, Refusal>
     requires { m.at < 2 ^ 63 }
     ensures starts_as { StartsAs rule.worded words.now m result }
     ensures start_has { StartHas result words.now m }
 {
     if is_assertion(words, m) {
-        return Start::Asserts;
+        return Ok(Start::Asserts);
     }
     let kind = kind_at(words, m);
     if kind == Kind::TYPEOF || kind == Kind::IMPORT {
-        return Start::Name;
+        return Ok(Start::Name);
     }
     enclosed(words, kind, m)
 }
 
 // What a mark or a template opens; if none does, a reference.
-fn enclosed(words: &[u64], kind: usize, m: Mark) -> Start
+fn enclosed(words: &[u64], kind: usize, m: Mark) -> Result<Start, Refusal>
     requires { (m.at < 2 ^ 63) × (kind ≡ kind_at words.now m.at m.half) × (kind ≤ 255 * (length words.now - m.at)) }
     ensures starts_as { StartsAs rule.enclosed words.now m result }
     ensures start_has { StartHas result words.now m }
 {
     match kind {
-        Kind::L_CURLY => curly(words, m),
-        Kind::L_BRACK => Start::Tuple,
-        Kind::L_PAREN => Start::Parens,
-        Kind::NO_SUBSTITUTION_TEMPLATE => Start::Literal,
-        Kind::TEMPLATE_HEAD => Start::Template,
+        Kind::L_CURLY => Ok(curly(words, m)),
+        Kind::L_BRACK => Ok(Start::Tuple),
+        Kind::L_PAREN => Ok(Start::Parens),
+        Kind::NO_SUBSTITUTION_TEMPLATE => Ok(Start::Literal),
+        Kind::TEMPLATE_HEAD => Ok(Start::Template),
         _ => other_start(kind),
     }
 }
@@ -170,8 +168,8 @@ fn enclosed(words: &[u64], kind: usize, m: Mark) -> Start
 // A `{` opens a mapped type by the look-ahead of types.rs, else an object type.
 fn curly(words: &[u64], m: Mark) -> Start
     requires { (m.at < length words.now) × (kind_at words.now m.at m.half ≡ kind.LCurly) }
-    ensures starts_as { StartsAs rule.enclosed words.now m result }
-    ensures start_has { StartHas result words.now m }
+    ensures starts_as { StartsAs rule.enclosed words.now m (Ok result) }
+    ensures start_has { StartHas (Ok result) words.now m }
 {
     if mapped_start(words, m.at) {
         Start::Mapped
@@ -181,19 +179,17 @@ fn curly(words: &[u64], m: Mark) -> Start
 }
 
 // A reference; the three prefix marks are known but refused.
-fn other_start(kind: usize) -> Start
+fn other_start(kind: usize) -> Result<Start, Refusal>
     requires { kind < 256 }
     ensures reference_is { ReferenceIs kind result }
     ensures reference_has { ReferenceHas kind result }
 {
     if in_class(kind, Class::BindingWord) {
-        return Start::Name;
+        return Ok(Start::Name);
     }
     match kind {
-        Kind::QUESTION => Start::Nothing(Refusal::PrefixMark),
-        Kind::BANG => Start::Nothing(Refusal::PrefixMark),
-        Kind::STAR => Start::Nothing(Refusal::PrefixMark),
-        _ => Start::Nothing(Refusal::Unexpected),
+        Kind::QUESTION | Kind::BANG | Kind::STAR => Err(Refusal::PrefixMark),
+        _ => Err(Refusal::Unexpected),
     }
 }
 

@@ -797,19 +797,18 @@ fn primary(
     ensures within { Within words given (told result) }
     ensures onward { Onward m (told result) }
 {
-    let o = primary_start(words, m);
-    match o {
-        Start::Keyword => return keyword(words, nodes, given, m),
-        Start::Literal => return literal(words, nodes, names, given, m),
-        Start::This => return pred(text, words, nodes, names, notes, given, false, m),
-        Start::Asserts => return pred(text, words, nodes, names, notes, given, true, m),
-        Start::Name => return named(text, words, nodes, names, notes, given, m),
-        Start::Mapped => return mapped(text, words, nodes, names, notes, given, m),
-        Start::Object => return object(text, words, nodes, names, notes, given, m),
-        Start::Tuple => return tuple(text, words, nodes, names, notes, given, m),
-        Start::Parens => return parens(text, words, nodes, names, notes, given, m),
-        Start::Template => return template(text, words, nodes, names, notes, given, m),
-        Start::Nothing(why) => return Err(Stop { why, m }),
+    match primary_start(words, m) {
+        Ok(Start::Keyword) => keyword(words, nodes, given, m),
+        Ok(Start::Literal) => literal(words, nodes, names, given, m),
+        Ok(Start::This) => pred(text, words, nodes, names, notes, given, false, m),
+        Ok(Start::Asserts) => pred(text, words, nodes, names, notes, given, true, m),
+        Ok(Start::Name) => named(text, words, nodes, names, notes, given, m),
+        Ok(Start::Mapped) => mapped(text, words, nodes, names, notes, given, m),
+        Ok(Start::Object) => object(text, words, nodes, names, notes, given, m),
+        Ok(Start::Tuple) => tuple(text, words, nodes, names, notes, given, m),
+        Ok(Start::Parens) => parens(text, words, nodes, names, notes, given, m),
+        Ok(Start::Template) => template(text, words, nodes, names, notes, given, m),
+        Err(why) => Err(Stop { why, m }),
     }
 }
 
@@ -1010,26 +1009,28 @@ fn memb(
     let b = Begin::at(words, m);
     let head = h.choices;
     let p = h.m;
-    if h.sort == Sort::INDEX {
-        return index(text, words, nodes, names, notes, given, b, head, p);
+    match h.sort {
+        Sort::Property => {
+            let t = opt(
+                text,
+                words,
+                nodes,
+                names,
+                notes,
+                given,
+                Kind::COLON,
+                true,
+                Kids::none(),
+                p,
+            )?;
+            let all = property_choices(head, t.there);
+            member_node(words, nodes, given, b, all, t.kids, t.m)
+        }
+        Sort::Index => index(text, words, nodes, names, notes, given, b, head, p),
+        Sort::Method | Sort::Call | Sort::Construct => {
+            sign(text, words, nodes, names, notes, given, b, head, p)
+        }
     }
-    if h.sort != Sort::PROPERTY {
-        return sign(text, words, nodes, names, notes, given, b, head, p);
-    }
-    let t = opt(
-        text,
-        words,
-        nodes,
-        names,
-        notes,
-        given,
-        Kind::COLON,
-        true,
-        Kids::none(),
-        p,
-    )?;
-    let all = property_choices(head, t.there);
-    member_node(words, nodes, given, b, all, t.kids, t.m)
 }
 
 // Signature: type parameters, parameters and the return type of a member that begins at b; diagnostic 3 stands before that.
@@ -1052,7 +1053,7 @@ fn sign(
 {
     let t = tparams(text, words, nodes, names, notes, given, true, m)?;
     let k = t.kids;
-    let is_new = head == Sort::CONSTRUCT;
+    let is_new = head == Sort::Construct as usize;
     let p = params(text, words, nodes, names, notes, given, is_new, k, t.m)?;
     let s = note_this(notes, given, is_new, p.this, p.m)?;
     if kind_at(words, s) != Kind::COLON {
