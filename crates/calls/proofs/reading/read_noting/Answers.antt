@@ -21,7 +21,7 @@ ty-requires c =
 
 pub returns-in-Err : goal.returns-in-Err
 returns-in-Err c =
-    reads_refused c.args.text.now c.args.tokens.now c.args.start c.args.preserve_parens (lend (length c.args.nodes.now) (length c.args.names.now) (length c.args.notes.now) (length c.args.key.now)) c.requires.0 (reading_from _ _ c.args.noting.now c.requires.1 (refl, refl) ∙ c.in-Err.ensures.reads.refused (refusal_some c.in-Err.stop.why)) c.first_byte.ensures c.refuse.ensures (same_lent c.ty.auto.nodes c.ty.auto.names)
+    reads_refused c.args.text.now c.args.tokens.now c.args.start c.args.preserve_parens (lend (length c.args.nodes.now) (length c.args.names.now) (length c.args.notes.now) (length c.args.key.now)) c.requires.0 (reading_from _ _ c.args.noting.now c.requires.1 (refl, refl) ∙ c.in-Err.ensures.reads.refused (refusal_some c.in-Err.stop.why)) (rw c.cursor-place.ensures at c.first_byte.ensures) (rw c.cursor-place.ensures at c.refuse.ensures) (same_lent c.ty.auto.nodes c.ty.auto.names)
 
 pub finish-requires : goal.finish-requires
 finish-requires c =
