@@ -82,6 +82,7 @@ compile() { # FILE TARGET FLAGS..
 }
 
 if [ $proved = yes ]; then proved_module; else unproved_module; fi
+mv "$work/module.ll" "$work/wide.ll"; python3 "$root/tools/flat.py" "$work/wide.ll" "$work/module.ll"
 printf 'check_ir: '; python3 "$root/tools/check_ir.py" "$work/module.ll"
 mv "$work/module.ll" "$work/written.ll"; python3 "$root/tools/constants.py" "$work/written.ll" "$work/module.ll"
 
