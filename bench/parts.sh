@@ -24,7 +24,6 @@ use marks::notes::copy_notes;
 use marks::state::Given;
 use marks::state::Mark;
 use readers::ring::ty;
-use words::kind::class_words;
 use words::limits::OpenRules;
 use words::limits::Tree;
 
@@ -50,7 +49,7 @@ fn part_read(text: &[u8], tokens: &[u64], nodes: &mut [u64], names: &mut [u64], 
         left: OpenRules::MOST,
     };
     let m = Mark { at: 0, half: 0, used: 0, named: 0, noted: 0 };
-    match ty(text, tokens, class_words(), nodes, names, &mut noting, given, true, m) {
+    match ty(text, tokens, nodes, names, &mut noting, given, true, m) {
         Err(stop) => *answer = [stop.why.number() as u64, 0, 0, 0, 0, 0, 0, 0],
         Ok(a) => {
             let q = a.m;

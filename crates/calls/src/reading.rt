@@ -10,8 +10,6 @@ use keys::store;
 use marks::notes::Noting;
 use marks::state::{Given, Mark};
 use readers::ring::ty;
-use words::cursor::Cursor;
-use words::kind::class_words;
 use words::limits::OpenRules;
 use words::refusal::Refusal;
 
@@ -30,7 +28,6 @@ fn read_noting(
     requires { (checkOf text.now tokens.now start ≡ sound) × Untallied noting.old }
     ensures { Reads nodes names notes key text tokens start preserve_parens result }
 {
-    let classes = class_words();
     let given = Given {
         room: nodes.len() / store::RECORD,
         records: notes.len() / Noting::RECORD,
@@ -44,13 +41,10 @@ fn read_noting(
         named: 0,
         noted: 0,
     };
-    match ty(text, tokens, classes, nodes, names, noting, given, true, m) {
+    match ty(text, tokens, nodes, names, noting, given, true, m) {
         Ok(a) => finish(text, noting, nodes, names, notes, key, a.m),
         Err(stop) => {
-            let place = Cursor {
-                at: stop.m.at,
-                half: stop.m.half,
-            };
+            let place = stop.m.cursor();
             let r = Refused {
                 why: stop.why,
                 token: place.at,

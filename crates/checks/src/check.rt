@@ -4,7 +4,7 @@ ghost use Rattle.words.specs.Check as check;
 ghost use Rattle.checks.specs.Verdict.{verdict};
 
 use crate::spelling::spelled_right;
-use words::kind::{Class, Kind, class_words, in_class};
+use words::kind::{Class, Kind, in_class};
 use words::limits::{Text, Tokens};
 use words::token;
 
@@ -43,7 +43,7 @@ fn good_word(text: &[u8], word: u64, before: usize, last: bool) -> bool
     let kind = token::kind(word);
     let n = token::length(word);
     let from = token::start(word);
-    if in_class(class_words(), kind, Class::Good)
+    if in_class(kind, Class::Good)
         && token::zeros(word) == 0
         && placed(text.len(), before, from, n)
         && ends_well(kind, n, last)

@@ -4,7 +4,7 @@ ghost use Rattle.words.specs.Test.{among, same};
 ghost use Rattle.words.specs.Spelling.{fixed_guesses, fixed_letters, fixed_places, guess_place_of, backslash, spelled_as_any, spelled_right, spelling};
 
 use crate::tables::{GUESSES, LETTERS, PLACES};
-use words::kind::{Class, Kind, class_words, in_class};
+use words::kind::{Class, Kind, in_class};
 
 pub fn spelling_places() -> &'static [u16; 128]
     ensures { result.now ≡ fixed_places }
@@ -74,10 +74,9 @@ pub fn spelled_right(bytes: &[u8], kind: usize) -> bool
     requires { (1 ≤ length bytes.now) × (kind < 256) }
     ensures { result ≡ spelled_right kind bytes.now }
 {
-    let classes = class_words();
-    if in_class(classes, kind, Class::Fixed) {
+    if in_class(kind, Class::Fixed) {
         spelled(bytes, kind)
-    } else if in_class(classes, kind, Class::Other) {
+    } else if in_class(kind, Class::Other) {
         !spelled_as_any(bytes) && (kind != Kind::WORD || !has_backslash(bytes))
     } else {
         true

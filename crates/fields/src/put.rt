@@ -54,6 +54,7 @@ fn put_parts(key: &mut [u8], bit: usize, width: usize, number: u32)
 {
     let mut at = bit;
     let mut left = width;
+    // no `for`: the parts differ in width
     while 0 < left {
         let size = first_of(at, left);
         let part = u64::from(number) >> (left - size);

@@ -1,6 +1,5 @@
 // Function types, without the types in them.
 ghost use Rattle.std.specs.Prelude.{◌≡◌, List, true, ℕ, ◌+◌, ◌*◌, ◌≤◌, ◌<◌, ◌^◌, ltb, length};
-ghost use Rattle.words.specs.Class.{class_words};
 ghost use Rattle.words.specs.Test.{◌and◌, ◌or◌};
 ghost use Rattle.words.specs.Limits.{longest, tallest};
 ghost use Rattle.words.specs.Kind as kind;
@@ -33,14 +32,11 @@ use words::limits;
 use words::refusal::Refusal;
 
 // Function start: one of its cases holds.
-pub fn begins(words: &[u64], classes: &[u16; 256], m: Mark) -> bool
-    requires { (classes.now ≡ class_words) × (m.at < 2 ^ 61) }
+pub fn begins(words: &[u64], m: Mark) -> bool
+    requires { m.at < 2 ^ 61 }
     ensures { result ≡ type.begins (function_start words.now m.at m.half) }
 {
-    !matches!(
-        function_start(words, classes, m.cursor()),
-        FunctionStart::Nothing
-    )
+    !matches!(function_start(words, m.cursor()), FunctionStart::Nothing)
 }
 
 // A function type up to its type parameters: where it begins, whether abstract and new stood there, where they ended.
@@ -127,13 +123,13 @@ impl Params {
 }
 
 // Whether no type parameter can begin here: const, in, or out before a binding word.
-pub fn varies(words: &[u64], classes: &[u16; 256], m: Mark) -> bool
-    requires { (classes.now ≡ class_words) × (m.at < 2 ^ 63) }
+pub fn varies(words: &[u64], m: Mark) -> bool
+    requires { m.at < 2 ^ 63 }
     ensures { (text O : List ℕ) (given : AnyGiven) → result ≡ types.varies (given_of text words.now given) (view m O) }
 {
     match kind_at(words, m) {
         Kind::CONST | Kind::IN => true,
-        Kind::OUT => in_class(classes, kind_after(words, m, 1), Class::BindingWord),
+        Kind::OUT => in_class(kind_after(words, m, 1), Class::BindingWord),
         _ => false,
     }
 }
@@ -141,33 +137,27 @@ pub fn varies(words: &[u64], classes: &[u16; 256], m: Mark) -> bool
 // A type parameter up to its constraint.
 pub fn type_param_head(
     words: &[u64],
-    classes: &[u16; 256],
     names: &mut [u64],
     notes: &mut [u64; Noting::WORDS],
     given: Given,
     m: Mark,
 ) -> Result<Mark, Stop>
-    requires { MayBind classes.now words.now given m }
+    requires { MayBind words.now given m }
     ensures starts_bound { StartsBound type_parameter_head words.now given m names.old notes.old (told_mark result) names.new notes.new }
     ensures stepped { Stepped (length words.now) given m (told_mark result) × (m.at < (told_mark result).m.at + (told_mark result).why) }
 {
-    if varies(words, classes, m) {
+    if varies(words, m) {
         return Err(Stop {
             why: Refusal::TypeParameterModifier,
             m,
         });
     }
-    bound(words, classes, names, notes, given, m)
+    bound(words, names, notes, given, m)
 }
 
 // A parameter up to its type: optional `...`, its name, optional `?`.
-pub fn param_head(
-    words: &[u64],
-    classes: &[u16; 256],
-    names: &mut [u64],
-    m: Mark,
-) -> Result<Head, Stop>
-    requires { MayName classes.now words.now m }
+pub fn param_head(words: &[u64], names: &mut [u64], m: Mark) -> Result<Head, Stop>
+    requires { MayName words.now m }
     ensures starts_parameter { StartsParameter words.now m names.old (told_head result) names.new }
     ensures along { Along (length words.now) m (told_head result).m × ((told_head result).choices ≤ 3) × (m.at < (told_head result).m.at + (told_head result).why) }
 {
@@ -179,7 +169,7 @@ pub fn param_head(
             m: p,
         });
     }
-    let q = name(words, classes, names, Class::BindingWord, p)?;
+    let q = name(words, names, Class::BindingWord, p)?;
     let asked = kind_at(words, q) == Kind::QUESTION;
     Ok(Head {
         choices: usize::from(rest) + 2 * usize::from(asked),
@@ -195,11 +185,11 @@ fn this_after(words: &[u64], rest: bool, m: Mark) -> bool
 }
 
 // Why no parameter can begin here, if something is against it: a modifier word, or a `this` that is not first.
-pub fn no_param(words: &[u64], classes: &[u16; 256], m: Mark) -> Option<Refusal>
-    requires { (classes.now ≡ class_words) × (m.at < 2 ^ 62) }
+pub fn no_param(words: &[u64], m: Mark) -> Option<Refusal>
+    requires { m.at < 2 ^ 62 }
     ensures { (text O : List ℕ) (given : AnyGiven) → told_why result ≡ why_none (rule.modified (given_of text words.now given) (view m O)) (here words.now kind.This m) }
 {
-    if modifies(words, classes, m.at) {
+    if modifies(words, m.at) {
         return Some(Refusal::ParameterModifier);
     }
     if kind_at(words, m) == Kind::THIS {

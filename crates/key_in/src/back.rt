@@ -15,6 +15,7 @@ use node_table::forms::{Row, TABLE};
 use words::limits::{Key, Tree};
 
 // What a key is taken back into.
+// Forms and key stay plain `&`s beside it: a `&` field can't be lent again.
 #[derive(Drop)]
 struct Outputs<'a> {
     nodes: &'a mut [u64],

@@ -1,6 +1,4 @@
 // Where taking a key back is: in the key and its outputs, and inside a node.
-ghost use Rattle.std.specs.Prelude.{◌≡◌, ◌<◌};
-ghost use Rattle.node_table.specs.Forms.{table_most};
 
 // Where taking is: the bit; the nodes left; the nodes, names and bytes of text used.
 #[derive(Clone, Copy)]
@@ -23,11 +21,4 @@ pub struct Fill {
     pub child: usize,
     pub form: usize,
     pub n: usize,
-}
-
-// The number of a field, to count with.
-pub fn slim(x: u32) -> usize
-    ensures { (result ≡ x) × (result < table_most) }
-{
-    x as usize
 }

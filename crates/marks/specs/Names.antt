@@ -1,7 +1,7 @@
 -- What reading names comes to.
 use Rattle.std.specs.Prelude.{◌≡◌, List, [], ◌∷◌, ◌++◌, ℕ, ◌≤◌, length}
 use Rattle.words.specs.Test.{test}
-use Rattle.words.specs.Class.{in_class, class_words}
+use Rattle.words.specs.Class.{in_class}
 use Rattle.words.specs.Word.{start}
 use Rattle.words.specs.Check.{spelled}
 use Rattle.words.specs.Cursor.{word_at}
@@ -14,13 +14,13 @@ use Rattle.marks.specs.Laid.{Spoken}
 use Rattle.marks.specs.declared.state.Mark.{Mark}
 use Rattle.marks.specs.Told.{Answer}
 
--- Names may be read from a mark on: the classes of the table, a sound list, the mark within it, and no more names than tokens before it.
-abbrev pub MayName : (classes W : List ℕ) (m : Mark) → Type 0
-MayName classes W m = (classes ≡ class_words) × Sound W × Inside (length W) m × (m.named ≤ m.at)
+-- Names may be read from a mark on: a sound list, the mark within it, and no more names than tokens before it.
+abbrev pub MayName : (W : List ℕ) (m : Mark) → Type 0
+MayName W m = Sound W × Inside (length W) m × (m.named ≤ m.at)
 
 -- A name may be bound from a mark on: the same, and the mark within what there is.
-abbrev pub MayBind : (classes W : List ℕ) (given : AnyGiven) (m : Mark) → Type 0
-MayBind classes W given m = (classes ≡ class_words) × Sound W × Fine (length W) given m
+abbrev pub MayBind : (W : List ℕ) (given : AnyGiven) (m : Mark) → Type 0
+MayBind W given m = Sound W × Fine (length W) given m
 
 -- The token at a mark is one name more.
 abbrev pub Speaks : (W : List ℕ) (m : Mark) (M M' : List ℕ) → Type 0

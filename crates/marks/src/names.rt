@@ -1,6 +1,6 @@
 // Names, names that are bound, and names with dots between.
 ghost use Rattle.std.specs.Prelude.{◌≡◌, ◌+◌, ◌≤◌, ◌<◌, length};
-ghost use Rattle.words.specs.Class.{bit_of, class_words};
+ghost use Rattle.words.specs.Class.{bit_of};
 ghost use Rattle.rules.specs.Names as rule;
 ghost use Rattle.marks.specs.State.{Sound, Inside, Along, Stepped, named_mark};
 ghost use Rattle.marks.specs.Told.{told_mark};
@@ -31,18 +31,12 @@ pub fn spell(words: &[u64], names: &mut [u64], m: Mark) -> Mark
 }
 
 // One name, of a class.
-pub fn name(
-    words: &[u64],
-    classes: &[u16; 256],
-    names: &mut [u64],
-    class: Class,
-    m: Mark,
-) -> Result<Mark, Stop>
-    requires { (classes.now ≡ class_words) × Sound words.now × Inside (length words.now) m × (m.named ≤ m.at) × (bit_of class ≤ 1) }
+pub fn name(words: &[u64], names: &mut [u64], class: Class, m: Mark) -> Result<Mark, Stop>
+    requires { Sound words.now × Inside (length words.now) m × (m.named ≤ m.at) × (bit_of class ≤ 1) }
     ensures starts_names { StartsNames one Any (one_name (bit_of class)) words.now m names.old (told_mark result).why (told_mark result).m names.new }
     ensures along { Along (length words.now) m (told_mark result).m × (m.at < (told_mark result).m.at + (told_mark result).why) }
 {
-    if !in_class(classes, kind_at(words, m), class) {
+    if !in_class(kind_at(words, m), class) {
         return Err(Stop {
             why: Refusal::Unexpected,
             m,
@@ -61,17 +55,16 @@ fn reserved(kind: usize) -> bool
 // One binding word that is bound to a type; diagnostic 13 if it is reserved.
 pub fn bound(
     words: &[u64],
-    classes: &[u16; 256],
     names: &mut [u64],
     notes: &mut [u64; Noting::WORDS],
     given: Given,
     m: Mark,
 ) -> Result<Mark, Stop>
-    requires { MayBind classes.now words.now given m }
+    requires { MayBind words.now given m }
     ensures starts_bound { StartsBound rule.bound words.now given m names.old notes.old (told_mark result) names.new notes.new }
     ensures stepped { Stepped (length words.now) given m (told_mark result) × (m.at < (told_mark result).m.at + (told_mark result).why) }
 {
-    let q = name(words, classes, names, Class::BindingWord, m)?;
+    let q = name(words, names, Class::BindingWord, m)?;
     report_if(
         reserved(kind_at(words, m)),
         notes,
@@ -84,29 +77,24 @@ pub fn bound(
 }
 
 // As many dots as follow, each with a name.
-pub fn dots(words: &[u64], classes: &[u16; 256], names: &mut [u64], m: Mark) -> Result<Mark, Stop>
-    requires { MayName classes.now words.now m }
+pub fn dots(words: &[u64], names: &mut [u64], m: Mark) -> Result<Mark, Stop>
+    requires { MayName words.now m }
     ensures starts_dots { StartsDots words.now m names.old (told_mark result) names.new }
     ensures along { Along (length words.now) m (told_mark result).m }
 {
     let mut p = m;
     while kind_at(words, p) == Kind::DOT {
-        p = name(words, classes, names, Class::Name, next(p))?;
+        p = name(words, names, Class::Name, next(p))?;
     }
     Ok(p)
 }
 
 // Names with dots between.
-pub fn dotted_name(
-    words: &[u64],
-    classes: &[u16; 256],
-    names: &mut [u64],
-    m: Mark,
-) -> Result<Mark, Stop>
-    requires { MayName classes.now words.now m }
+pub fn dotted_name(words: &[u64], names: &mut [u64], m: Mark) -> Result<Mark, Stop>
+    requires { MayName words.now m }
     ensures starts_names { StartsNames (λ k. k) Any rule.dotted words.now m names.old (told_mark result).why (told_mark result).m names.new }
     ensures along { Along (length words.now) m (told_mark result).m × (m.at < (told_mark result).m.at + (told_mark result).why) }
 {
-    let q = name(words, classes, names, Class::Name, m)?;
-    dots(words, classes, names, q)
+    let q = name(words, names, Class::Name, m)?;
+    dots(words, names, q)
 }

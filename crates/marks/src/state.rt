@@ -109,6 +109,7 @@ impl Kids {
 // What a list comes to: whether it was there, its entries, and where reading stands then.
 #[derive(Clone, Copy)]
 pub struct Entries {
+    // no Option of the entries: the children so far stand beside it either way
     pub there: bool,
     pub kids: Kids,
     pub m: Mark,

@@ -82,8 +82,8 @@ start_choices (a_signature x) = signature_head x
 start_choices (an_index readonly) = index_head readonly
 
 -- Names may be read from a mark on, in the text that spells the tokens.
-abbrev pub MayHead : (text classes W : List ℕ) (m : Mark) → Type 0
-MayHead text classes W m = MayName classes W m × Spelt text W
+abbrev pub MayHead : (text W : List ℕ) (m : Mark) → Type 0
+MayHead text W m = MayName W m × Spelt text W
 
 -- The numbers of a head: a token stands at its mark unless it is a property's, which is past its key; its choices are few.
 pub record HeadHas (len : ℕ) (m : Mark) (h : MemberHead) : Type 0 where

@@ -1,6 +1,5 @@
 // Members of object types, without the types in them.
 ghost use Rattle.std.specs.Prelude.{◌≡◌, List, ℕ, ◌+◌, ◌*◌, ◌≤◌, ◌<◌, ◌^◌, length};
-ghost use Rattle.words.specs.Class.{class_words};
 ghost use Rattle.words.specs.Limits.{longest};
 ghost use Rattle.keys.specs.Limits.{record_words};
 ghost use Rattle.keys.specs.Holds.{word_at};
@@ -28,21 +27,18 @@ use words::ahead::{accessor_start, index_start, modifier_start, property_key, re
 use words::kind::{Class, Kind};
 use words::refusal::Refusal;
 
-// Holds nothing: the sorts of members in the node table are its constants.
-#[derive(Clone, Copy)]
-pub struct Sort {}
+// The sorts of members in the node table.
+#[derive(Clone, Copy, Debug, PartialEq, Eq)]
+pub enum Sort {
+    Property = 0,
+    Method = 1,
+    Call = 2,
+    Construct = 3,
+    Index = 4,
+}
 
 impl Sort {
-    pub const PROPERTY: usize = 0;
-
-    pub const METHOD: usize = 1;
-
-    pub const CALL: usize = 2;
-
-    pub const CONSTRUCT: usize = 3;
-
-    pub const INDEX: usize = 4;
-    // how many sorts three bits have: a member's own choices begin above
+    // How many sorts three bits have: a member's own choices begin above.
     pub const ALL: usize = 8;
 }
 
@@ -51,7 +47,7 @@ impl Sort {
 // A member up to its first type: its sort, its choices so far, and where reading stands then.
 #[derive(Clone, Copy)]
 pub struct MemberHead {
-    pub sort: usize,
+    pub sort: Sort,
     pub choices: usize,
     pub m: Mark,
 }
@@ -72,79 +68,77 @@ fn constructs(words: &[u64], m: Mark) -> bool
 }
 
 // Whether readonly stands here as a modifier.
-fn is_readonly(words: &[u64], classes: &[u16; 256], m: Mark) -> bool
-    requires { (classes.now ≡ class_words) × (m.at < 2 ^ 63) }
+fn is_readonly(words: &[u64], m: Mark) -> bool
+    requires { m.at < 2 ^ 63 }
     ensures { (text O : List ℕ) (given : AnyGiven) → result ≡ rule.is_readonly (given_of text words.now given) (view m O) }
 {
-    readonly_start(words, classes, m.cursor())
+    readonly_start(words, m.cursor())
 }
 
 // Whether another modifier word stands here, or get or set as one.
-fn unsupported_here(text: &[u8], words: &[u64], classes: &[u16; 256], m: Mark) -> bool
-    requires { (classes.now ≡ class_words) × (m.at < 2 ^ 63) × Spelt text.now words.now }
+fn unsupported_here(text: &[u8], words: &[u64], m: Mark) -> bool
+    requires { (m.at < 2 ^ 63) × Spelt text.now words.now }
     ensures { (O : List ℕ) (given : AnyGiven) → result ≡ rule.unsupported_here (given_of text.now words.now given) (view m O) }
 {
-    modifier_start(words, classes, m.cursor()) || accessor_start(text, words, classes, m.cursor())
+    modifier_start(words, m.cursor()) || accessor_start(text, words, m.cursor())
 }
 
 // A member up to its first type: by what it begins with.
 pub fn member_head(
     text: &[u8],
     words: &[u64],
-    classes: &[u16; 256],
     names: &mut [u64],
     m: Mark,
 ) -> Result<MemberHead, Stop>
-    requires { MayHead text.now classes.now words.now m }
+    requires { MayHead text.now words.now m }
     ensures starts_member { StartsMember text.now words.now m names.old (told_member result) names.new }
     ensures along { Along (length words.now) m (told_member result).m × HeadHas (length words.now) m (told_member result) }
 {
     if signs(kind_at(words, m)) {
         return Ok(MemberHead {
-            sort: Sort::CALL,
-            choices: Sort::CALL,
+            sort: Sort::Call,
+            choices: Sort::Call as usize,
             m,
         });
     }
     if constructs(words, m) {
         return Ok(MemberHead {
-            sort: Sort::CONSTRUCT,
-            choices: Sort::CONSTRUCT,
+            sort: Sort::Construct,
+            choices: Sort::Construct as usize,
             m: next(m),
         });
     }
-    if is_readonly(words, classes, m) {
-        return behind_readonly(text, words, classes, names, true, next(m));
+    if is_readonly(words, m) {
+        return behind_readonly(text, words, names, true, next(m));
     }
-    behind_readonly(text, words, classes, names, false, m)
+    behind_readonly(text, words, names, false, m)
 }
 
 // Behind a readonly if there is one; computed names, accessors and other modifiers are refused.
 fn behind_readonly(
     text: &[u8],
     words: &[u64],
-    classes: &[u16; 256],
     names: &mut [u64],
     readonly: bool,
     m: Mark,
 ) -> Result<MemberHead, Stop>
-    requires { MayHead text.now classes.now words.now m }
+    requires { MayHead text.now words.now m }
     ensures says_member { SaysMember (λ g T b. rule.behind_readonly g T b readonly) text.now words.now m names.old (told_member result) names.new }
     ensures along { Along (length words.now) m (told_member result).m × HeadHas (length words.now) m (told_member result) }
 {
-    if unsupported_here(text, words, classes, m) {
+    if unsupported_here(text, words, m) {
         return Err(Stop {
             why: Refusal::MemberForm,
             m,
         });
     }
     if kind_at(words, m) != Kind::L_BRACK {
-        return with_key(words, classes, names, readonly, m);
+        return with_key(words, names, readonly, m);
     }
-    if index_start(words, classes, m.at) {
+    if index_start(words, m.at) {
         return Ok(MemberHead {
-            sort: Sort::INDEX,
-            choices: Sort::INDEX + Sort::ALL * usize::from(readonly),
+            sort: Sort::Index,
+            choices: Sort::Index as usize + Sort::ALL * usize::from(readonly),
             m,
         });
     }
@@ -155,19 +149,13 @@ fn behind_readonly(
 }
 
 // A key and its `?`: a method's if a signature follows, else a property's.
-fn with_key(
-    words: &[u64],
-    classes: &[u16; 256],
-    names: &mut [u64],
-    readonly: bool,
-    m: Mark,
-) -> Result<MemberHead, Stop>
-    requires { MayName classes.now words.now m }
+fn with_key(words: &[u64], names: &mut [u64], readonly: bool, m: Mark) -> Result<MemberHead, Stop>
+    requires { MayName words.now m }
     ensures starts_key { StartsKey readonly words.now m names.old (told_member result) names.new }
     ensures along { Along (length words.now) m (told_member result).m × HeadHas (length words.now) m (told_member result) }
 {
     let kind = kind_at(words, m);
-    if !property_key(classes, kind) {
+    if !property_key(kind) {
         return Err(Stop {
             why: Refusal::Unexpected,
             m,
@@ -178,13 +166,13 @@ fn with_key(
     let q = past(words, Kind::QUESTION, p);
     if signs(kind_at(words, q)) {
         return Ok(MemberHead {
-            sort: Sort::METHOD,
-            choices: Sort::METHOD + Sort::ALL * key,
+            sort: Sort::Method,
+            choices: Sort::Method as usize + Sort::ALL * key,
             m: q,
         });
     }
     Ok(MemberHead {
-        sort: Sort::PROPERTY,
+        sort: Sort::Property,
         choices: Sort::ALL * (usize::from(readonly) + 2 * key),
         m: q,
     })
@@ -289,10 +277,10 @@ fn signature_choices(
     ensures { result ≡ signature_choices head there count this params typed }
 {
     let rest = params + COUNTS * usize::from(typed);
-    if head == Sort::CONSTRUCT {
+    if head == Sort::Construct as usize {
         return head + Sort::ALL * new_choices(there, count, rest);
     }
-    if head == Sort::CALL {
+    if head == Sort::Call as usize {
         return head + Sort::ALL * call_choices(there, count, this, rest);
     }
     // a method's head has its key and its `?` too
@@ -367,17 +355,16 @@ impl IndexParams {
 // An index parameter up to its type: its name, diagnostic 8 for a `?`, the `:`.
 pub fn index_head(
     words: &[u64],
-    classes: &[u16; 256],
     names: &mut [u64],
     notes: &mut [u64; Noting::WORDS],
     given: Given,
     m: Mark,
 ) -> Result<Mark, Stop>
-    requires { MayBind classes.now words.now given m }
+    requires { MayBind words.now given m }
     ensures starts_bound { StartsBound index_start words.now given m names.old notes.old (told_mark result) names.new notes.new }
     ensures stepped { Stepped (length words.now) given m (told_mark result) × (m.at < (told_mark result).m.at + (told_mark result).why) }
 {
-    let p = name(words, classes, names, Class::BindingWord, m)?;
+    let p = name(words, names, Class::BindingWord, m)?;
     let a = report_if(
         kind_at(words, p) == Kind::QUESTION,
         notes,

@@ -20,17 +20,16 @@ use words::limits::Trials;
 // Past infer and the name that is bound.
 pub fn infer_head(
     words: &[u64],
-    classes: &[u16; 256],
     names: &mut [u64],
     notes: &mut [u64; Noting::WORDS],
     given: Given,
     m: Mark,
 ) -> Result<Mark, Stop>
-    requires { MayBind classes.now words.now given m × (m.at < length words.now) }
+    requires { MayBind words.now given m × (m.at < length words.now) }
     ensures starts_infer { StartsInfer words.now given m names.old notes.old (told_mark result) names.new notes.new }
     ensures stepped { Stepped (length words.now) given (next_mark m) (told_mark result) }
 {
-    bound(words, classes, names, notes, given, next(m))
+    bound(words, names, notes, given, next(m))
 }
 
 // Whether a constraint would be one trial too many: it is a trial only where a conditional may stand.

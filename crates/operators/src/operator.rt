@@ -59,10 +59,8 @@ pub fn put_operators(
     ensures makes_operators { MakesOperators words.now given name from to (told (Ok a)) nodes.old (told result) nodes.new }
     ensures put_all { PutAll given a.m (told result) }
 {
-    let mut i = to;
     let mut r = a;
-    while from < i {
-        i -= 1;
+    for i in (from..to).rev() {
         let b = Begin {
             first: token::start(word_at(words, i)),
             name,

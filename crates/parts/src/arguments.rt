@@ -1,6 +1,5 @@
 // Type arguments, and the references that have them, without the types in them.
 ghost use Rattle.std.specs.Prelude.{◌≡◌, true, List, ℕ, ◌+◌, ◌≤◌, ◌<◌, length};
-ghost use Rattle.words.specs.Class.{class_words};
 ghost use Rattle.rules.specs.Arguments as rule;
 ghost use Rattle.marks.specs.State.{AnyGiven, view, given_of, Sound, Inside, Along};
 ghost use Rattle.marks.specs.Says.{Any, one, StartsNames};
@@ -53,57 +52,40 @@ pub struct Named {
 }
 
 // By the word that begins it.
-pub fn named_head(
-    words: &[u64],
-    classes: &[u16; 256],
-    names: &mut [u64],
-    m: Mark,
-) -> Result<Named, Stop>
-    requires { MayName classes.now words.now m }
+pub fn named_head(words: &[u64], names: &mut [u64], m: Mark) -> Result<Named, Stop>
+    requires { MayName words.now m }
     ensures starts_names { StartsNames names_of (NamingIs (told_named result)) naming_head words.now m names.old (told_named result).why (told_named result).m names.new }
     ensures along { Along (length words.now) m (told_named result).m × NamedSmall (length words.now) (told_named result) × (m.at < (told_named result).m.at + (told_named result).why) }
 {
     let kind = kind_at(words, m);
     if kind == Kind::TYPEOF {
-        return query(words, classes, names, next(m));
+        return query(words, names, next(m));
     }
     if kind == Kind::IMPORT {
-        return import(words, classes, names, Tag::Import as usize, next(m));
+        return import(words, names, Tag::Import as usize, next(m));
     }
-    reference(words, classes, names, Tag::Reference as usize, m)
+    reference(words, names, Tag::Reference as usize, m)
 }
 
 // Behind typeof: a name or an import.
-fn query(words: &[u64], classes: &[u16; 256], names: &mut [u64], m: Mark) -> Result<Named, Stop>
-    requires { MayName classes.now words.now m }
+fn query(words: &[u64], names: &mut [u64], m: Mark) -> Result<Named, Stop>
+    requires { MayName words.now m }
     ensures starts_names { StartsNames names_of (NamingIs (told_named result)) query_head words.now m names.old (told_named result).why (told_named result).m names.new }
     ensures along { Along (length words.now) m (told_named result).m × NamedSmall (length words.now) (told_named result) × (m.at < (told_named result).m.at + (told_named result).why) }
 {
     if kind_at(words, m) == Kind::IMPORT {
-        return import(
-            words,
-            classes,
-            names,
-            Tag::Import as usize + Tag::ALL,
-            next(m),
-        );
+        return import(words, names, Tag::Import as usize + Tag::ALL, next(m));
     }
-    reference(words, classes, names, Tag::Typeof as usize, m)
+    reference(words, names, Tag::Typeof as usize, m)
 }
 
 // A name with its dots.
-fn reference(
-    words: &[u64],
-    classes: &[u16; 256],
-    names: &mut [u64],
-    choices: usize,
-    m: Mark,
-) -> Result<Named, Stop>
-    requires { (classes.now ≡ class_words) × Sound words.now × Inside (length words.now) m × (m.named ≤ m.at) × (choices ≤ 128) }
+fn reference(words: &[u64], names: &mut [u64], choices: usize, m: Mark) -> Result<Named, Stop>
+    requires { Sound words.now × Inside (length words.now) m × (m.named ≤ m.at) × (choices ≤ 128) }
     ensures starts_dotted { StartsDotted words.now choices m names.old (told_named result) names.new }
     ensures along { Along (length words.now) m (told_named result).m × NamedSmall (length words.now) (told_named result) × (m.at < (told_named result).m.at + (told_named result).why) }
 {
-    let q = dotted_name(words, classes, names, m)?;
+    let q = dotted_name(words, names, m)?;
     Ok(Named {
         choices,
         scale: Tag::ALL,
@@ -148,19 +130,13 @@ fn import_source(words: &[u64], names: &mut [u64], m: Mark) -> Result<Mark, Stop
 }
 
 // An import after its word: its source and its names.
-fn import(
-    words: &[u64],
-    classes: &[u16; 256],
-    names: &mut [u64],
-    choices: usize,
-    m: Mark,
-) -> Result<Named, Stop>
-    requires { (classes.now ≡ class_words) × Sound words.now × Inside (length words.now) m × (m.named ≤ m.at) × (choices ≤ 128) }
+fn import(words: &[u64], names: &mut [u64], choices: usize, m: Mark) -> Result<Named, Stop>
+    requires { Sound words.now × Inside (length words.now) m × (m.named ≤ m.at) × (choices ≤ 128) }
     ensures starts_import { StartsImport words.now choices m names.old (told_named result) names.new }
     ensures along { Along (length words.now) m (told_named result).m × NamedSmall (length words.now) (told_named result) × (m.at < (told_named result).m.at + (told_named result).why) }
 {
     let p = import_source(words, names, m)?;
-    let q = dots(words, classes, names, p)?;
+    let q = dots(words, names, p)?;
     Ok(Named {
         choices,
         scale: 2 * Tag::ALL,

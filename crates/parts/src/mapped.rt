@@ -1,6 +1,5 @@
 // Mapped types, without the types in them.
 ghost use Rattle.std.specs.Prelude.{◌≡◌, List, ℕ, ◌+◌, ◌≤◌, ◌<◌, length};
-ghost use Rattle.words.specs.Class.{class_words};
 ghost use Rattle.rules.specs.State.{expect, read};
 ghost use Rattle.rules.specs.Mapped as rule;
 ghost use Rattle.marks.specs.State.{AnyGiven, view, given_of, next_mark, Sound, Inside, Moved, Along, Reached, place_of};
@@ -56,13 +55,8 @@ fn signed(words: &[u64], kind: usize, choices: usize, m: Mark) -> Result<Head, S
 }
 
 // From the `{` to the constraint: readonly, and the key.
-pub fn mapped_head(
-    words: &[u64],
-    classes: &[u16; 256],
-    names: &mut [u64],
-    m: Mark,
-) -> Result<Head, Stop>
-    requires { (classes.now ≡ class_words) × Sound words.now × (m.at < length words.now) × (m.named ≤ m.at) }
+pub fn mapped_head(words: &[u64], names: &mut [u64], m: Mark) -> Result<Head, Stop>
+    requires { Sound words.now × (m.at < length words.now) × (m.named ≤ m.at) }
     ensures starts_mapped { StartsMapped words.now m names.old (told_head result) names.new }
     ensures along { Along (length words.now) (next_mark m) (told_head result).m × ((told_head result).choices ≤ 3) }
 {
@@ -74,7 +68,7 @@ pub fn mapped_head(
             m: p,
         });
     }
-    let q = name(words, classes, names, Class::BindingWord, next(p))?;
+    let q = name(words, names, Class::BindingWord, next(p))?;
     if kind_at(words, q) != Kind::IN {
         return Err(Stop {
             why: Refusal::Unexpected,

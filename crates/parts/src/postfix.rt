@@ -1,6 +1,5 @@
 // Postfix marks.
 ghost use Rattle.std.specs.Prelude.{◌≡◌, List, ℕ, ◌+◌, ◌<◌, ◌^◌, length};
-ghost use Rattle.words.specs.Class.{class_words};
 ghost use Rattle.rules.specs.Postfix as rule;
 ghost use Rattle.marks.specs.State.{AnyGiven, view, given_of, Reached, place_of};
 ghost use Rattle.marks.specs.Told.{told};
@@ -15,8 +14,8 @@ use words::kind::Kind;
 use words::refusal::Refusal;
 
 // Whether a mark follows on the line; a `?` that a type could follow is none.
-pub fn suffixed(words: &[u64], classes: &[u16; 256], m: Mark) -> bool
-    requires { (classes.now ≡ class_words) × (m.at < 2 ^ 62) }
+pub fn suffixed(words: &[u64], m: Mark) -> bool
+    requires { m.at < 2 ^ 62 }
     ensures { (text O : List ℕ) (given : AnyGiven) → result ≡ rule.suffixed (given_of text words.now given) (view m O) }
 {
     if !on_line(words, m) {
@@ -24,7 +23,7 @@ pub fn suffixed(words: &[u64], classes: &[u16; 256], m: Mark) -> bool
     }
     match kind_at(words, m) {
         Kind::BANG | Kind::L_BRACK => true,
-        Kind::QUESTION => !starter(words, classes, m.at + 1),
+        Kind::QUESTION => !starter(words, m.at + 1),
         _ => false,
     }
 }

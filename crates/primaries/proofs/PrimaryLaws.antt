@@ -2,6 +2,7 @@
 use mathlib.Core.Path.{◌≡◌, refl, sym, ap, ◌∙◌, subst}
 use mathlib.Core.Bool.{Bool, true, false, not}
 use mathlib.Core.List.{List, [], ◌∷◌}
+use mathlib.Core.Logic.{◌⊎◌, inl, inr}
 use Prim.Native.Nat.{ℕ, ◌+◌, ◌*◌, ◌<◌}
 use native.Mathlib.Omega.{arith}
 use lib.ListN.{length}
@@ -37,6 +38,8 @@ use Rattle.marks.proofs.ShapeLaws.{packed_node, shows}
 use Rattle.marks.proofs.MarkLaws.{kind_inside}
 use Rattle.primaries.proofs.RingShapes.{shape_template}
 use Rattle.marks.specs.declared.state.Mark.{Mark}
+use Rattle.std.specs.Prelude as std
+use Rattle.words.specs.declared.refusal.Refusal.{Refusal}
 use Rattle.primaries.specs.declared.primary.Start.{Start}
 
 -- ---- Tests
@@ -91,8 +94,13 @@ abbrev pub no_given : AnyGiven
 no_given = record { room = 0; records = 0; parens = false; left = 0 }
 
 -- What begins here under one rule begins so under a rule that comes to the same.
-pub start_from : {x y : Result Placed} (r : Start) (g : Given) (T : Reader) (s : State) → y ≡ x → StartAs x r g T s → StartAs y r g T s
+pub start_from : {x y : Result Placed} (r : std.Result Start Refusal) (g : Given) (T : Reader) (s : State) → y ≡ x → StartAs x r g T s → StartAs y r g T s
 start_from r g T s e w = subst (λ (z : Result Placed). StartAs z r g T s) (sym e) w
+
+pub some_mark : (k : ℕ) → (k ≡ Question) ⊎ ((k ≡ Bang) ⊎ (k ≡ Star)) → among (Question ∷ Bang ∷ Star ∷ []) k ≡ true
+some_mark k (inl e) = rw e
+some_mark k (inr (inl e)) = rw e
+some_mark k (inr (inr e)) = rw e
 
 pub no_mark : (k : ℕ) → (k ≡ Question → ⊥) → (k ≡ Bang → ⊥) → (k ≡ Star → ⊥) → among (Question ∷ Bang ∷ Star ∷ []) k ≡ false
 no_mark k a b c = rw (ne_eqb k Question a, ne_eqb k Bang b, ne_eqb k Star c)

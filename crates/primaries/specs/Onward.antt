@@ -1,6 +1,6 @@
 -- What the rules still read from a point on, under names that the functions' contracts cite; each is a part of its rule's text.
-use Rattle.std.specs.Prelude.{Bool, true, false, List, [], ◌∷◌, ◌≡◌, ℕ, ◌+◌, ◌<◌, length}
-use Rattle.words.specs.Refusal.{number_of}
+use Rattle.std.specs.Prelude as std
+use Rattle.std.specs.Prelude.{Ok, Err, Bool, true, false, List, [], ◌∷◌, ◌≡◌, ℕ, ◌+◌, ◌<◌, length}
 use Rattle.words.specs.Test.{test}
 use Rattle.words.specs.Cursor.{kind_at}
 use Rattle.words.specs.Kind.{LCurly, LBrack, RBrack, RCurly, Question, Colon, Semicolon, Arrow, Minus, NoSubstitutionTemplate, TemplateHead, Typeof, Import, Is, As}
@@ -22,7 +22,9 @@ use Rattle.primaries.specs.Primary.{is_literal}
 use Rattle.marks.specs.declared.state.Mark.{Mark}
 use Rattle.marks.specs.Told.{Answer}
 use Rattle.primaries.specs.declared.primary.Start.{Start}
-use Rattle.primaries.specs.declared.primary.Start.TheVariants.{Keyword, Literal, This, Asserts, Name, Mapped, Object, Tuple, Parens, Template, Nothing}
+use Rattle.primaries.specs.declared.primary.Start.TheVariants.{Keyword, Literal, This, Asserts, Name, Mapped, Object, Tuple, Parens, Template}
+use Rattle.words.specs.Refusal.{number_of}
+use Rattle.words.specs.declared.refusal.Refusal.{Refusal}
 
 -- what asserts stands before
 abbrev pub subject_at : Bool → State → State
@@ -86,40 +88,40 @@ SaysLiteral W given m N M a N' M' =
     → Says 0 (was m N M O) (literal_at (given_of text W given) (view m O)) a N' M' O
 
 -- What a primary type begins as is what x, a rule's reading there, comes to.
-abbrev pub StartAs : Result Placed → Start → Given → Reader → State → Type 0
-StartAs x Keyword g T s = x ≡ primary.keyword g s
-StartAs x Literal g T s = (x ≡ literal_at g s) × (is_literal g s ≡ true)
-StartAs x This g T s = x ≡ predicate g T false s
-StartAs x Asserts g T s = x ≡ predicate g T true s
-StartAs x Name g T s = x ≡ name_at g T s
-StartAs x Mapped g T s = (x ≡ mapped g T s) × (kind g s ≡ LCurly)
-StartAs x Object g T s = (x ≡ object g T s) × (kind g s ≡ LCurly)
-StartAs x Tuple g T s = (x ≡ tuple g T s) × (kind g s ≡ LBrack)
-StartAs x Parens g T s = x ≡ primary.brackets g T s
-StartAs x Template g T s = (x ≡ template g T s) × (kind g s ≡ TemplateHead)
-StartAs x (Nothing why) g T s = x ≡ refused (number_of why) s
+abbrev pub StartAs : Result Placed → std.Result Start Refusal → Given → Reader → State → Type 0
+StartAs x (Ok Keyword) g T s = x ≡ primary.keyword g s
+StartAs x (Ok Literal) g T s = (x ≡ literal_at g s) × (is_literal g s ≡ true)
+StartAs x (Ok This) g T s = x ≡ predicate g T false s
+StartAs x (Ok Asserts) g T s = x ≡ predicate g T true s
+StartAs x (Ok Name) g T s = x ≡ name_at g T s
+StartAs x (Ok Mapped) g T s = (x ≡ mapped g T s) × (kind g s ≡ LCurly)
+StartAs x (Ok Object) g T s = (x ≡ object g T s) × (kind g s ≡ LCurly)
+StartAs x (Ok Tuple) g T s = (x ≡ tuple g T s) × (kind g s ≡ LBrack)
+StartAs x (Ok Parens) g T s = x ≡ primary.brackets g T s
+StartAs x (Ok Template) g T s = (x ≡ template g T s) × (kind g s ≡ TemplateHead)
+StartAs x (Err why) g T s = x ≡ refused (number_of why) s
 
 -- The same of the whole rule.
-abbrev pub StartIs : Start → Given → Reader → State → Type 0
+abbrev pub StartIs : std.Result Start Refusal → Given → Reader → State → Type 0
 StartIs r g T s = StartAs (primary.primary g T s) r g T s
 
 -- The same of a rule that begins at a mark.
-abbrev pub StartsAs : (rule : Given → Reader → State → Result Placed) (W : List ℕ) (m : Mark) (r : Start) → Type 0
+abbrev pub StartsAs : (rule : Given → Reader → State → Result Placed) (W : List ℕ) (m : Mark) (r : std.Result Start Refusal) → Type 0
 StartsAs rule W m r = (text O : List ℕ) (given : AnyGiven) (T : Reader) → StartAs (rule (given_of text W given) T (view m O)) r (given_of text W given) T (view m O)
 
 -- What a primary type begins as, by how many tokens stand there for sure.
-abbrev pub StartHas : Start → List ℕ → Mark → Type 0
-StartHas Keyword W m = m.at < length W
-StartHas Literal W m = (m.at < length W) × (here W Minus m ≡ true → m.at + 1 < length W)
-StartHas This W m = m.at < length W
-StartHas Asserts W m = m.at + 1 < length W
-StartHas Name W m = m.at < length W
-StartHas Mapped W m = m.at < length W
-StartHas Object W m = m.at < length W
-StartHas Tuple W m = m.at < length W
-StartHas Parens W m = m.at < length W
-StartHas Template W m = m.at < length W
-StartHas (Nothing why) W m = 0 < number_of why
+abbrev pub StartHas : std.Result Start Refusal → List ℕ → Mark → Type 0
+StartHas (Ok Keyword) W m = m.at < length W
+StartHas (Ok Literal) W m = (m.at < length W) × (here W Minus m ≡ true → m.at + 1 < length W)
+StartHas (Ok This) W m = m.at < length W
+StartHas (Ok Asserts) W m = m.at + 1 < length W
+StartHas (Ok Name) W m = m.at < length W
+StartHas (Ok Mapped) W m = m.at < length W
+StartHas (Ok Object) W m = m.at < length W
+StartHas (Ok Tuple) W m = m.at < length W
+StartHas (Ok Parens) W m = m.at < length W
+StartHas (Ok Template) W m = m.at < length W
+StartHas (Err why) W m = 0 < number_of why
 
 -- The mark of a predicate's subject.
 abbrev pub subject_mark : Bool → Mark → Mark
@@ -127,8 +129,8 @@ subject_mark true m = next_mark m
 subject_mark false m = m
 
 -- What a reference begins as, wherever a kind stands.
-abbrev pub ReferenceIs : ℕ → Start → Type 0
+abbrev pub ReferenceIs : ℕ → std.Result Start Refusal → Type 0
 ReferenceIs k r = (g : Given) (T : Reader) (s : State) → kind g s ≡ k → StartAs (primary.reference g T s) r g T s
 
-abbrev pub ReferenceHas : ℕ → Start → Type 0
+abbrev pub ReferenceHas : ℕ → std.Result Start Refusal → Type 0
 ReferenceHas k r = (W : List ℕ) (m : Mark) → kind_at W m.at m.half ≡ k → StartHas r W m

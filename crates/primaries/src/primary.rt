@@ -1,6 +1,5 @@
 // Primary: what begins here, and what holds no type.
-ghost use Rattle.std.specs.Prelude.{◌≡◌, List, ℕ, ◌+◌, ◌-◌, ◌*◌, ◌≤◌, ◌<◌, ◌^◌, length};
-ghost use Rattle.words.specs.Class.{class_words};
+ghost use Rattle.std.specs.Prelude.{◌≡◌, List, ℕ, Ok, ◌+◌, ◌-◌, ◌*◌, ◌≤◌, ◌<◌, ◌^◌, length};
 ghost use Rattle.words.specs.Kind as kind;
 ghost use Rattle.words.specs.Cursor.{kind_at};
 ghost use Rattle.words.specs.Test.{among};
@@ -28,7 +27,7 @@ use words::kind::{Class, Kind, in_class};
 use words::refusal::Refusal;
 
 // What a primary type begins as.
-#[derive(Clone, Copy)]
+#[derive(Clone, Copy, Debug, PartialEq, Eq)]
 pub enum Start {
     // a keyword, `this` alone
     Keyword,
@@ -44,16 +43,14 @@ pub enum Start {
     Tuple,
     Parens,
     Template,
-    // why nothing does
-    Nothing(Refusal),
 }
 
 // Whether the return type begins as a predicate: some name, and `is` on its line.
-pub fn predicates(words: &[u64], classes: &[u16; 256], m: Mark) -> bool
-    requires { (classes.now ≡ class_words) × (m.at < 2 ^ 63) }
+pub fn predicates(words: &[u64], m: Mark) -> bool
+    requires { m.at < 2 ^ 63 }
     ensures { (text O : List ℕ) (given : AnyGiven) → result ≡ function.predicates (given_of text words.now given) (view m O) }
 {
-    in_class(classes, kind_at(words, m), Class::Name)
+    in_class(kind_at(words, m), Class::Name)
         && kind_after(words, m, 1) == Kind::IS
         && next_on_line(words, m)
 }
@@ -93,43 +90,43 @@ fn is_negative(words: &[u64], m: Mark) -> bool
 }
 
 // Whether asserts stands here with its subject on the same line.
-fn is_assertion(words: &[u64], classes: &[u16; 256], m: Mark) -> bool
-    requires { (classes.now ≡ class_words) × (m.at < 2 ^ 63) }
+fn is_assertion(words: &[u64], m: Mark) -> bool
+    requires { m.at < 2 ^ 63 }
     ensures { (text O : List ℕ) (given : AnyGiven) → result ≡ rule.is_assertion (given_of text words.now given) (view m O) }
 {
     kind_at(words, m) == Kind::ASSERTS
-        && in_class(classes, kind_after(words, m, 1), Class::Name)
+        && in_class(kind_after(words, m, 1), Class::Name)
         && next_on_line(words, m)
 }
 
 // Keywords, this and literals; if none stands here, the others.
-pub fn primary_start(words: &[u64], classes: &[u16; 256], m: Mark) -> Start
-    requires { (classes.now ≡ class_words) × Sound words.now × Inside (length words.now) m }
+pub fn primary_start(words: &[u64], m: Mark) -> Result<Start, Refusal>
+    requires { Sound words.now × Inside (length words.now) m }
     ensures by_index { (text O : List ℕ) (given : AnyGiven) (T : Reader) → StartIs result (given_of text words.now given) T (view m O) }
     ensures start_has { StartHas result words.now m }
 {
     if is_keyword(words, m) {
-        return Start::Keyword;
+        return Ok(Start::Keyword);
     }
     if kind_at(words, m) == Kind::THIS {
-        return this_start(words, classes, m);
+        return Ok(this_start(words, m));
     }
     if is_literal(kind_at(words, m)) {
-        return Start::Literal;
+        return Ok(Start::Literal);
     }
     if is_negative(words, m) {
-        return Start::Literal;
+        return Ok(Start::Literal);
     }
-    worded(words, classes, m)
+    worded(words, m)
 }
 
 // A `this`, by what follows it.
-fn this_start(words: &[u64], classes: &[u16; 256], m: Mark) -> Start
-    requires { (classes.now ≡ class_words) × (m.at < length words.now) × (m.at < 2 ^ 63) × (kind_at words.now m.at m.half ≡ kind.This) }
-    ensures starts_as { StartsAs rule.this words.now m result }
-    ensures start_has { StartHas result words.now m }
+fn this_start(words: &[u64], m: Mark) -> Start
+    requires { (m.at < length words.now) × (m.at < 2 ^ 63) × (kind_at words.now m.at m.half ≡ kind.This) }
+    ensures starts_as { StartsAs rule.this words.now m (Ok result) }
+    ensures start_has { StartHas (Ok result) words.now m }
 {
-    if predicates(words, classes, m) {
+    if predicates(words, m) {
         Start::This
     } else {
         Start::Keyword
@@ -137,44 +134,44 @@ fn this_start(words: &[u64], classes: &[u16; 256], m: Mark) -> Start
 }
 
 // What asserts, typeof or import begins; if none does, what is enclosed.
-fn worded(words: &[u64], classes: &[u16; 256], m: Mark) -> Start
-    requires { (classes.now ≡ class_words) × (m.at < 2 ^ 63) }
+fn worded(words: &[u64], m: Mark) -> Result<Start, Refusal>
+    requires { m.at < 2 ^ 63 }
     ensures starts_as { StartsAs rule.worded words.now m result }
     ensures start_has { StartHas result words.now m }
 {
-    if is_assertion(words, classes, m) {
-        return Start::Asserts;
+    if is_assertion(words, m) {
+        return Ok(Start::Asserts);
     }
     let kind = kind_at(words, m);
     if kind == Kind::TYPEOF || kind == Kind::IMPORT {
-        return Start::Name;
+        return Ok(Start::Name);
     }
-    enclosed(words, classes, kind, m)
+    enclosed(words, kind, m)
 }
 
 // What a mark or a template opens; if none does, a reference.
-fn enclosed(words: &[u64], classes: &[u16; 256], kind: usize, m: Mark) -> Start
-    requires { (classes.now ≡ class_words) × (m.at < 2 ^ 63) × (kind ≡ kind_at words.now m.at m.half) × (kind ≤ 255 * (length words.now - m.at)) }
+fn enclosed(words: &[u64], kind: usize, m: Mark) -> Result<Start, Refusal>
+    requires { (m.at < 2 ^ 63) × (kind ≡ kind_at words.now m.at m.half) × (kind ≤ 255 * (length words.now - m.at)) }
     ensures starts_as { StartsAs rule.enclosed words.now m result }
     ensures start_has { StartHas result words.now m }
 {
     match kind {
-        Kind::L_CURLY => curly(words, classes, m),
-        Kind::L_BRACK => Start::Tuple,
-        Kind::L_PAREN => Start::Parens,
-        Kind::NO_SUBSTITUTION_TEMPLATE => Start::Literal,
-        Kind::TEMPLATE_HEAD => Start::Template,
-        _ => other_start(classes, kind),
+        Kind::L_CURLY => Ok(curly(words, m)),
+        Kind::L_BRACK => Ok(Start::Tuple),
+        Kind::L_PAREN => Ok(Start::Parens),
+        Kind::NO_SUBSTITUTION_TEMPLATE => Ok(Start::Literal),
+        Kind::TEMPLATE_HEAD => Ok(Start::Template),
+        _ => other_start(kind),
     }
 }
 
 // A `{` opens a mapped type by the look-ahead of types.rs, else an object type.
-fn curly(words: &[u64], classes: &[u16; 256], m: Mark) -> Start
-    requires { (classes.now ≡ class_words) × (m.at < length words.now) × (kind_at words.now m.at m.half ≡ kind.LCurly) }
-    ensures starts_as { StartsAs rule.enclosed words.now m result }
-    ensures start_has { StartHas result words.now m }
+fn curly(words: &[u64], m: Mark) -> Start
+    requires { (m.at < length words.now) × (kind_at words.now m.at m.half ≡ kind.LCurly) }
+    ensures starts_as { StartsAs rule.enclosed words.now m (Ok result) }
+    ensures start_has { StartHas (Ok result) words.now m }
 {
-    if mapped_start(words, classes, m.at) {
+    if mapped_start(words, m.at) {
         Start::Mapped
     } else {
         Start::Object
@@ -182,19 +179,17 @@ fn curly(words: &[u64], classes: &[u16; 256], m: Mark) -> Start
 }
 
 // A reference; the three prefix marks are known but refused.
-fn other_start(classes: &[u16; 256], kind: usize) -> Start
-    requires { (classes.now ≡ class_words) × (kind < 256) }
+fn other_start(kind: usize) -> Result<Start, Refusal>
+    requires { kind < 256 }
     ensures reference_is { ReferenceIs kind result }
     ensures reference_has { ReferenceHas kind result }
 {
-    if in_class(classes, kind, Class::BindingWord) {
-        return Start::Name;
+    if in_class(kind, Class::BindingWord) {
+        return Ok(Start::Name);
     }
     match kind {
-        Kind::QUESTION => Start::Nothing(Refusal::PrefixMark),
-        Kind::BANG => Start::Nothing(Refusal::PrefixMark),
-        Kind::STAR => Start::Nothing(Refusal::PrefixMark),
-        _ => Start::Nothing(Refusal::Unexpected),
+        Kind::QUESTION | Kind::BANG | Kind::STAR => Err(Refusal::PrefixMark),
+        _ => Err(Refusal::Unexpected),
     }
 }
 

@@ -2,6 +2,7 @@
 use mathlib.Core.Path.{◌≡◌, refl, sym, ap, ◌∙◌, subst}
 use mathlib.Core.Bool.{Bool, true, false}
 use mathlib.Core.List.{List, [], ◌∷◌}
+use mathlib.Core.Logic.{◌⊎◌, inl, inr}
 use Prim.Native.Nat.{ℕ, ◌+◌, ◌*◌}
 use native.Mathlib.Omega.{arith}
 use borrow.Author.Tests.{eq-eqb, ne_eqb}
@@ -37,7 +38,9 @@ use Rattle.marks.specs.declared.state.Kids.{Kids}
 use Rattle.marks.specs.Told.{Answer}
 use Rattle.functions.specs.declared.function.This.{This as ThisCode}
 use Rattle.functions.specs.Told.{Params}
-use Rattle.members.specs.Told.{MemberHead}
+use Rattle.members.specs.Told.{MemberHead, sort_number}
+use Rattle.members.specs.declared.object.Sort.{Sort}
+use Rattle.members.specs.declared.object.Sort.TheVariants.{Method, Call, Construct}
 use Rattle.readers.proofs.SignatureLaws.{return_linked}
 
 -- ---- Steps
@@ -48,6 +51,12 @@ pub built_stepped : {A : Type 0} {step : (State → Result A) → Result A} {m :
 built_stepped {B = B} {t = t} {N = N} {M = M} s z b = record { laid = s.kept z B t N M b.laid; first_is = b.first_is; high_is = b.high_is }
 
 -- ---- Heads
+
+-- A signature's sort is neither an index signature's nor a property's.
+pub signature_sort : (x : Sort) → (x ≡ Method) ⊎ ((x ≡ Call) ⊎ (x ≡ Construct)) → (sort_number x ≡ 4 → ⊥) × (sort_number x ≡ 0 → ⊥)
+signature_sort x (inl e) = ((λ z. omega (arith, z, ap sort_number e)), λ z. omega (arith, z, ap sort_number e))
+signature_sort x (inr (inl e)) = ((λ z. omega (arith, z, ap sort_number e)), λ z. omega (arith, z, ap sort_number e))
+signature_sort x (inr (inr e)) = ((λ z. omega (arith, z, ap sort_number e)), λ z. omega (arith, z, ap sort_number e))
 
 module _ (text W : List ℕ) (given : Given) (T : Reader) {m : Mark} {h : MemberHead} {b : ℕ} {M M' O : List ℕ}
     (got : GotMember (λ T. object.member (given_of text W given) T (view m O)) (given_of text W given) (first_byte W m.at m.half) m h M M' O)

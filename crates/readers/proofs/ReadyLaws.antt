@@ -7,7 +7,7 @@ use Rattle.marks.specs.declared.state.Given.{Given}
 use Rattle.marks.specs.declared.state.Mark.{Mark}
 use Rattle.readers.specs.Ring.{Ready}
 
--- The tokens, their text and the classes stay as they are.
-pub ready : {text words classes N N' : List ℕ} {given given' : Given} {m q : Mark} → Ready text words classes N given m
-    → Room (length N') given' → Fine (length words) given' q → Ready text words classes N' given' q
-ready r a b = record { classes_are = r.classes_are; sound = r.sound; spelt = r.spelt; room = a; fine = b }
+-- The tokens and their text stay as they are.
+pub ready : {text words N N' : List ℕ} {given given' : Given} {m q : Mark} → Ready text words N given m
+    → Room (length N') given' → Fine (length words) given' q → Ready text words N' given' q
+ready r a b = record { sound = r.sound; spelt = r.spelt; room = a; fine = b }

@@ -3,7 +3,6 @@ use Rattle.std.specs.Prelude.{◌≡◌, Bool, true, List, [], ℕ, ◌+◌, ◌
 use Rattle.std.specs.Borrow.{Bor, MutBor}
 use denote.Triple.Both.{Both}
 use Rattle.words.specs.Limits.{most_tokens, tallest}
-use Rattle.words.specs.Class.{class_words}
 use Rattle.keys.specs.Placed.{Placed, Spelling, Opt}
 use Rattle.keys.specs.Store.{Run, done, ◌⊕◌}
 use Rattle.rules.specs.State as rule
@@ -62,9 +61,8 @@ pub record SaysRest (B : Was) (t : Run) (th : Opt ThisParameter) (x : Result Par
 
 -- ---- What is asked
 
--- The table of classes, a sound list that the text spells, room as told, and a mark within what there is.
-pub record Ready (text words classes nodes : List ℕ) (given : Given) (m : Mark) : Type 0 where
-  pub classes_are : classes ≡ class_words
+-- A sound list that the text spells, room as told, and a mark within what there is.
+pub record Ready (text words nodes : List ℕ) (given : Given) (m : Mark) : Type 0 where
   pub sound : Sound words
   pub spelt : Spelt text words
   pub room : Room (length nodes) given

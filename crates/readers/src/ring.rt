@@ -62,7 +62,6 @@ use words::refusal::Refusal;
 pub fn ty(
     text: &[u8],
     words: &[u64],
-    classes: &[u16; 256],
     nodes: &mut [u64],
     names: &mut [u64],
     notes: &mut [u64; Noting::WORDS],
@@ -70,7 +69,7 @@ pub fn ty(
     on: bool,
     m: Mark,
 ) -> Result<Read, Stop>
-    requires { Ready text.now words.now classes.now nodes.old given m }
+    requires { Ready text.now words.now nodes.old given m }
     ensures reads { Reads 0 (λ g. read_type g given.left on) text words given m nodes names notes (told result) }
     ensures within { Within words given (told result) }
     ensures onward { Onward m (told result) }
@@ -86,10 +85,10 @@ pub fn ty(
         ..given
     };
     enter(notes);
-    if begins(words, classes, m) {
-        return function(text, words, classes, nodes, names, notes, below, on, m);
+    if begins(words, m) {
+        return function(text, words, nodes, names, notes, below, on, m);
     }
-    let a = union(text, words, classes, nodes, names, notes, below, on, m)?;
+    let a = union(text, words, nodes, names, notes, below, on, m)?;
     if !on {
         return Ok(a);
     }
@@ -101,9 +100,7 @@ pub fn ty(
         return Ok(a);
     }
     let b = Begin::at(words, m);
-    extends(
-        text, words, classes, nodes, names, notes, below, b, a.high, q,
-    )
+    extends(text, words, nodes, names, notes, below, b, a.high, q)
 }
 
 // Type: at the `extends` of a conditional; what is extended is read with conditionals off, both arms with them on.
@@ -111,7 +108,6 @@ pub fn ty(
 fn extends(
     text: &[u8],
     words: &[u64],
-    classes: &[u16; 256],
     nodes: &mut [u64],
     names: &mut [u64],
     notes: &mut [u64; Noting::WORDS],
@@ -120,7 +116,7 @@ fn extends(
     high: usize,
     m: Mark,
 ) -> Result<Read, Stop>
-    requires { Ready text.now words.now classes.now nodes.old given m × (m.at < length words.now) × (1 ≤ m.used) × (high ≤ tallest) × Begun b }
+    requires { Ready text.now words.now nodes.old given m × (m.at < length words.now) × (1 ≤ m.used) × (high ≤ tallest) × Begun b }
     ensures behind { Behind (λ u g. type.conditional g (below given g) b.first u) text words given b high m nodes names notes (told result) }
     ensures within { Within words given (told result) }
     ensures onward { Onward m (told result) }
@@ -133,7 +129,6 @@ fn extends(
     let x = child(
         text,
         words,
-        classes,
         nodes,
         names,
         notes,
@@ -154,9 +149,7 @@ fn extends(
         half: 0,
         ..q
     };
-    let y = child(
-        text, words, classes, nodes, names, notes, given, true, x.kids, p,
-    )?;
+    let y = child(text, words, nodes, names, notes, given, true, x.kids, p)?;
     let r = y.m;
     if kind_at(words, r) != Kind::COLON {
         return Err(Stop {
@@ -169,9 +162,7 @@ fn extends(
         half: 0,
         ..r
     };
-    let z = child(
-        text, words, classes, nodes, names, notes, given, true, y.kids, t,
-    )?;
+    let z = child(text, words, nodes, names, notes, given, true, y.kids, t)?;
     put(
         words,
         nodes,
@@ -188,7 +179,6 @@ fn extends(
 fn child(
     text: &[u8],
     words: &[u64],
-    classes: &[u16; 256],
     nodes: &mut [u64],
     names: &mut [u64],
     notes: &mut [u64; Noting::WORDS],
@@ -197,12 +187,12 @@ fn child(
     kids: Kids,
     m: Mark,
 ) -> Result<Entries, Stop>
-    requires { Ready text.now words.now classes.now nodes.old given m × Under m.used kids }
+    requires { Ready text.now words.now nodes.old given m × Under m.used kids }
     ensures child { Child (λ g. below given g on) text words given kids m nodes names notes (told_list result) }
     ensures within_list { WithinList words given (told_list result) }
     ensures onward_child { OnwardChild kids m (told_list result) }
 {
-    let a = ty(text, words, classes, nodes, names, notes, given, on, m)?;
+    let a = ty(text, words, nodes, names, notes, given, on, m)?;
     let q = a.m;
     let k = link(nodes, kids, m.used, q.used, a.high);
     Ok(Entries {
@@ -217,7 +207,6 @@ fn child(
 fn opt(
     text: &[u8],
     words: &[u64],
-    classes: &[u16; 256],
     nodes: &mut [u64],
     names: &mut [u64],
     notes: &mut [u64; Noting::WORDS],
@@ -227,7 +216,7 @@ fn opt(
     kids: Kids,
     m: Mark,
 ) -> Result<Entries, Stop>
-    requires { Ready text.now words.now classes.now nodes.old given m × (0 < mark) × Under m.used kids }
+    requires { Ready text.now words.now nodes.old given m × (0 < mark) × Under m.used kids }
     ensures option { Option (λ g. optional g mark (below given g on)) text words given kids m nodes names notes (told_list result) }
     ensures within_list { WithinList words given (told_list result) }
     ensures past { (told_list result).why ≡ 0 → Past (place_of m) m.used (told_list result).m }
@@ -244,9 +233,7 @@ fn opt(
         half: 0,
         ..m
     };
-    child(
-        text, words, classes, nodes, names, notes, given, on, kids, s,
-    )
+    child(text, words, nodes, names, notes, given, on, kids, s)
 }
 
 // Function: type parameters are handed the flag, the others are read with conditionals on.
@@ -254,7 +241,6 @@ fn opt(
 fn function(
     text: &[u8],
     words: &[u64],
-    classes: &[u16; 256],
     nodes: &mut [u64],
     names: &mut [u64],
     notes: &mut [u64; Noting::WORDS],
@@ -262,17 +248,15 @@ fn function(
     on: bool,
     m: Mark,
 ) -> Result<Read, Stop>
-    requires { Ready text.now words.now classes.now nodes.old given m }
+    requires { Ready text.now words.now nodes.old given m }
     ensures reads { Reads 0 (λ g. function.function g (below given g) on) text words given m nodes names notes (told result) }
     ensures within { Within words given (told result) }
     ensures onward { Onward m (told result) }
 {
     let h = function_head(words, m);
-    let t = tparams(text, words, classes, nodes, names, notes, given, on, h.m)?;
+    let t = tparams(text, words, nodes, names, notes, given, on, h.m)?;
     let k = t.kids;
-    let p = params(
-        text, words, classes, nodes, names, notes, given, h.is_new, k, t.m,
-    )?;
+    let p = params(text, words, nodes, names, notes, given, h.is_new, k, t.m)?;
     let s = p.m;
     if kind_at(words, s) != Kind::ARROW {
         return Err(Stop {
@@ -285,7 +269,7 @@ fn function(
         half: 0,
         ..s
     };
-    let r = ret(text, words, classes, nodes, names, notes, given, q)?;
+    let r = ret(text, words, nodes, names, notes, given, q)?;
     let f = p.with(nodes, q, r);
     function_node(words, nodes, notes, given, h, t.there, k.count, f)
 }
@@ -295,7 +279,6 @@ fn function(
 fn tparams(
     text: &[u8],
     words: &[u64],
-    classes: &[u16; 256],
     nodes: &mut [u64],
     names: &mut [u64],
     notes: &mut [u64; Noting::WORDS],
@@ -303,7 +286,7 @@ fn tparams(
     on: bool,
     m: Mark,
 ) -> Result<Entries, Stop>
-    requires { Ready text.now words.now classes.now nodes.old given m }
+    requires { Ready text.now words.now nodes.old given m }
     ensures reads_list { ReadsList 4 (λ g. types.type_parameters g (below given g) on) text words given m nodes names notes (told_list result) }
     ensures within_list { WithinList words given (told_list result) }
     ensures past { (told_list result).why ≡ 0 → Past (place_of m) m.used (told_list result).m }
@@ -318,7 +301,7 @@ fn tparams(
     };
     let mut k = Kids::none();
     while kind_at(words, p) != Kind::R_ANGLE {
-        let a = tparam(text, words, classes, nodes, names, notes, given, on, p)?;
+        let a = tparam(text, words, nodes, names, notes, given, on, p)?;
         let q = a.m;
         k = link(nodes, k, p.used, q.used, a.high);
         p = past_comma(words, Kind::R_ANGLE, q)?;
@@ -332,7 +315,6 @@ fn tparams(
 fn tparam(
     text: &[u8],
     words: &[u64],
-    classes: &[u16; 256],
     nodes: &mut [u64],
     names: &mut [u64],
     notes: &mut [u64; Noting::WORDS],
@@ -340,17 +322,16 @@ fn tparam(
     on: bool,
     m: Mark,
 ) -> Result<Read, Stop>
-    requires { Ready text.now words.now classes.now nodes.old given m }
+    requires { Ready text.now words.now nodes.old given m }
     ensures reads { Reads 4 (λ g. types.type_parameter g (below given g) on) text words given m nodes names notes (told result) }
     ensures within { Within words given (told result) }
     ensures onward { Onward m (told result) }
 {
-    let q = type_param_head(words, classes, names, notes, given, m)?;
+    let q = type_param_head(words, names, notes, given, m)?;
     let k = Kids::none();
     let x = opt(
         text,
         words,
-        classes,
         nodes,
         names,
         notes,
@@ -363,7 +344,6 @@ fn tparam(
     let d = opt(
         text,
         words,
-        classes,
         nodes,
         names,
         notes,
@@ -390,7 +370,6 @@ fn tparam(
 fn params(
     text: &[u8],
     words: &[u64],
-    classes: &[u16; 256],
     nodes: &mut [u64],
     names: &mut [u64],
     notes: &mut [u64; Noting::WORDS],
@@ -399,7 +378,7 @@ fn params(
     kids: Kids,
     m: Mark,
 ) -> Result<Params, Stop>
-    requires { Ready text.now words.now classes.now nodes.old given m × Under m.used kids }
+    requires { Ready text.now words.now nodes.old given m × Under m.used kids }
     ensures reads_params { ReadsParams text words given is_new kids m nodes names notes (told_params result) }
     ensures within_params { WithinParams words given (told_params result) }
     ensures past { (told_params result).why ≡ 0 → Past (m.at * 2 + 2) m.used (told_params result).m }
@@ -407,14 +386,11 @@ fn params(
     let h = params_head(words, m)?;
     if h.choices == 0 {
         let none = This::none();
-        return plist(
-            text, words, classes, nodes, names, notes, given, none, kids, h.m,
-        );
+        return plist(text, words, nodes, names, notes, given, none, kids, h.m);
     }
     let a = opt(
         text,
         words,
-        classes,
         nodes,
         names,
         notes,
@@ -427,7 +403,7 @@ fn params(
     let p = separated(words, false, freed(is_new, m, a.m))?;
     let t = this_of(words, m, a);
     let k = this_kids(is_new, kids, a.kids);
-    plist(text, words, classes, nodes, names, notes, given, t, k, p)
+    plist(text, words, nodes, names, notes, given, t, k, p)
 }
 
 // Function: the parameters from here to the `)`; no modifier words, and no `this` any more.
@@ -435,7 +411,6 @@ fn params(
 fn plist(
     text: &[u8],
     words: &[u64],
-    classes: &[u16; 256],
     nodes: &mut [u64],
     names: &mut [u64],
     notes: &mut [u64; Noting::WORDS],
@@ -444,7 +419,7 @@ fn plist(
     kids: Kids,
     m: Mark,
 ) -> Result<Params, Stop>
-    requires { Ready text.now words.now classes.now nodes.old given m × Under m.used kids × (this.bits ≤ 3) }
+    requires { Ready text.now words.now nodes.old given m × Under m.used kids × (this.bits ≤ 3) }
     ensures reads_others { ReadsOthers text words given this kids m nodes names notes (told_params result) }
     ensures within_params { WithinParams words given (told_params result) }
     ensures past { (told_params result).why ≡ 0 → Past (place_of m + 1) m.used (told_params result).m }
@@ -453,10 +428,10 @@ fn plist(
     let mut k = kids;
     let mut count: usize = 0;
     while kind_at(words, p) != Kind::R_PAREN {
-        if let Some(why) = no_param(words, classes, p) {
+        if let Some(why) = no_param(words, p) {
             return Err(Stop { why, m: p });
         }
-        let a = param(text, words, classes, nodes, names, notes, given, p)?;
+        let a = param(text, words, nodes, names, notes, given, p)?;
         let q = a.m;
         k = link(nodes, k, p.used, q.used, a.high);
         count += 1;
@@ -470,24 +445,22 @@ fn plist(
 fn param(
     text: &[u8],
     words: &[u64],
-    classes: &[u16; 256],
     nodes: &mut [u64],
     names: &mut [u64],
     notes: &mut [u64; Noting::WORDS],
     given: Given,
     m: Mark,
 ) -> Result<Read, Stop>
-    requires { Ready text.now words.now classes.now nodes.old given m }
+    requires { Ready text.now words.now nodes.old given m }
     ensures reads { Reads 5 (λ g. function.parameter g (below given g)) text words given m nodes names notes (told result) }
     ensures within { Within words given (told result) }
     ensures onward { Onward m (told result) }
 {
-    let h = param_head(words, classes, names, m)?;
+    let h = param_head(words, names, m)?;
     let colon = Kind::COLON;
     let a = opt(
         text,
         words,
-        classes,
         nodes,
         names,
         notes,
@@ -514,23 +487,22 @@ fn param(
 fn ret(
     text: &[u8],
     words: &[u64],
-    classes: &[u16; 256],
     nodes: &mut [u64],
     names: &mut [u64],
     notes: &mut [u64; Noting::WORDS],
     given: Given,
     m: Mark,
 ) -> Result<Read, Stop>
-    requires { Ready text.now words.now classes.now nodes.old given m }
+    requires { Ready text.now words.now nodes.old given m }
     ensures reads { Reads 0 (λ g. function.return_type g (below given g)) text words given m nodes names notes (told result) }
     ensures within { Within words given (told result) }
     ensures onward { Onward m (told result) }
 {
-    if predicates(words, classes, m) {
-        return pred(text, words, classes, nodes, names, notes, given, false, m);
+    if predicates(words, m) {
+        return pred(text, words, nodes, names, notes, given, false, m);
     }
     let on = true;
-    ty(text, words, classes, nodes, names, notes, given, on, m)
+    ty(text, words, nodes, names, notes, given, on, m)
 }
 
 // A predicate about a name or this, with or without asserts before it; its type follows `is`.
@@ -538,7 +510,6 @@ fn ret(
 fn pred(
     text: &[u8],
     words: &[u64],
-    classes: &[u16; 256],
     nodes: &mut [u64],
     names: &mut [u64],
     notes: &mut [u64; Noting::WORDS],
@@ -546,7 +517,7 @@ fn pred(
     asserts: bool,
     m: Mark,
 ) -> Result<Read, Stop>
-    requires { Ready text.now words.now classes.now nodes.old given m × (m.at + unit asserts < length words.now) }
+    requires { Ready text.now words.now nodes.old given m × (m.at + unit asserts < length words.now) }
     ensures reads { Reads 0 (λ g. onward.predicate g (below given g) asserts) text words given m nodes names notes (told result) }
     ensures within { Within words given (told result) }
     ensures onward { Onward m (told result) }
@@ -555,7 +526,6 @@ fn pred(
     let a = opt(
         text,
         words,
-        classes,
         nodes,
         names,
         notes,
@@ -582,7 +552,6 @@ fn pred(
 fn union(
     text: &[u8],
     words: &[u64],
-    classes: &[u16; 256],
     nodes: &mut [u64],
     names: &mut [u64],
     notes: &mut [u64; Noting::WORDS],
@@ -590,7 +559,7 @@ fn union(
     on: bool,
     m: Mark,
 ) -> Result<Read, Stop>
-    requires { Ready text.now words.now classes.now nodes.old given m }
+    requires { Ready text.now words.now nodes.old given m }
     ensures reads { Reads 0 (λ g. union.union g (below given g) on) text words given m nodes names notes (told result) }
     ensures within { Within words given (told result) }
     ensures onward { Onward m (told result) }
@@ -598,7 +567,7 @@ fn union(
     let mut p = past(words, Kind::PIPE, m);
     let mut k = Kids::none();
     loop {
-        let a = inter(text, words, classes, nodes, names, notes, given, on, p)?;
+        let a = inter(text, words, nodes, names, notes, given, on, p)?;
         let q = a.m;
         if kind_at(words, q) != Kind::PIPE {
             return joined(
@@ -627,7 +596,6 @@ fn union(
 fn inter(
     text: &[u8],
     words: &[u64],
-    classes: &[u16; 256],
     nodes: &mut [u64],
     names: &mut [u64],
     notes: &mut [u64; Noting::WORDS],
@@ -635,7 +603,7 @@ fn inter(
     on: bool,
     m: Mark,
 ) -> Result<Read, Stop>
-    requires { Ready text.now words.now classes.now nodes.old given m }
+    requires { Ready text.now words.now nodes.old given m }
     ensures reads { Reads 0 (λ g. union.intersection g (below given g) on) text words given m nodes names notes (told result) }
     ensures within { Within words given (told result) }
     ensures onward { Onward m (told result) }
@@ -646,7 +614,7 @@ fn inter(
     let mut p = past(words, Kind::AMP, m);
     let mut k = Kids::none();
     loop {
-        let a = operator(text, words, classes, nodes, names, notes, given, on, p)?;
+        let a = operator(text, words, nodes, names, notes, given, on, p)?;
         let q = a.m;
         if kind_at(words, q) != Kind::AMP {
             return joined(
@@ -675,7 +643,6 @@ fn inter(
 fn operator(
     text: &[u8],
     words: &[u64],
-    classes: &[u16; 256],
     nodes: &mut [u64],
     names: &mut [u64],
     notes: &mut [u64; Noting::WORDS],
@@ -683,17 +650,17 @@ fn operator(
     on: bool,
     m: Mark,
 ) -> Result<Read, Stop>
-    requires { Ready text.now words.now classes.now nodes.old given m }
+    requires { Ready text.now words.now nodes.old given m }
     ensures reads { Reads 0 (λ g. operator.operator g (below given g) on) text words given m nodes names notes (told result) }
     ensures within { Within words given (told result) }
     ensures onward { Onward m (told result) }
 {
     let p = past_operators(words, m);
     if kind_at(words, p) == Kind::INFER {
-        let a = infer(text, words, classes, nodes, names, notes, given, on, p)?;
+        let a = infer(text, words, nodes, names, notes, given, on, p)?;
         return put_operators(words, nodes, given, m.named, m.at, p.at, a);
     }
-    let a = postfix(text, words, classes, nodes, names, notes, given, p)?;
+    let a = postfix(text, words, nodes, names, notes, given, p)?;
     put_operators(words, nodes, given, m.named, m.at, p.at, a)
 }
 
@@ -702,7 +669,6 @@ fn operator(
 fn infer(
     text: &[u8],
     words: &[u64],
-    classes: &[u16; 256],
     nodes: &mut [u64],
     names: &mut [u64],
     notes: &mut [u64; Noting::WORDS],
@@ -710,12 +676,12 @@ fn infer(
     on: bool,
     m: Mark,
 ) -> Result<Read, Stop>
-    requires { Ready text.now words.now classes.now nodes.old given m × (m.at < length words.now) }
+    requires { Ready text.now words.now nodes.old given m × (m.at < length words.now) }
     ensures reads { Reads 0 (λ g. infer.infer g (below given g) on) text words given m nodes names notes (told result) }
     ensures within { Within words given (told result) }
     ensures onward { Onward m (told result) }
 {
-    let p = infer_head(words, classes, names, notes, given, m)?;
+    let p = infer_head(words, names, notes, given, m)?;
     let b = Begin::at(words, m);
     if kind_at(words, p) != Kind::EXTENDS {
         return put(words, nodes, given, b, Tag::Infer as usize, Kids::none(), p);
@@ -733,7 +699,7 @@ fn infer(
         half: 0,
         ..p
     };
-    let a = ty(text, words, classes, nodes, names, notes, given, false, s)?;
+    let a = ty(text, words, nodes, names, notes, given, false, s)?;
     set_trials(notes, trials);
     let q = a.m;
     let undone = dropped(words, on, q);
@@ -745,24 +711,23 @@ fn infer(
 fn postfix(
     text: &[u8],
     words: &[u64],
-    classes: &[u16; 256],
     nodes: &mut [u64],
     names: &mut [u64],
     notes: &mut [u64; Noting::WORDS],
     given: Given,
     m: Mark,
 ) -> Result<Read, Stop>
-    requires { Ready text.now words.now classes.now nodes.old given m }
+    requires { Ready text.now words.now nodes.old given m }
     ensures reads { Reads 0 (λ g. postfix.postfix g (below given g)) text words given m nodes names notes (told result) }
     ensures within { Within words given (told result) }
     ensures onward { Onward m (told result) }
 {
-    let a = primary(text, words, classes, nodes, names, notes, given, m)?;
+    let a = primary(text, words, nodes, names, notes, given, m)?;
     let mut p = a.m;
     let mut high = a.high;
     let b = Begin::at(words, m);
-    while suffixed(words, classes, p) {
-        let c = suffix(text, words, classes, nodes, names, notes, given, b, high, p)?;
+    while suffixed(words, p) {
+        let c = suffix(text, words, nodes, names, notes, given, b, high, p)?;
         p = c.m;
         high = c.high;
     }
@@ -774,7 +739,6 @@ fn postfix(
 fn suffix(
     text: &[u8],
     words: &[u64],
-    classes: &[u16; 256],
     nodes: &mut [u64],
     names: &mut [u64],
     notes: &mut [u64; Noting::WORDS],
@@ -783,7 +747,7 @@ fn suffix(
     high: usize,
     m: Mark,
 ) -> Result<Read, Stop>
-    requires { Ready text.now words.now classes.now nodes.old given m × (m.at < length words.now) × (1 ≤ m.used) × (high ≤ tallest) × Begun b }
+    requires { Ready text.now words.now nodes.old given m × (m.at < length words.now) × (1 ≤ m.used) × (high ≤ tallest) × Begun b }
     ensures behind { Behind (λ u g. postfix.suffix g (below given g) b.first u) text words given b high m nodes names notes (told result) }
     ensures within { Within words given (told result) }
     ensures past { (told result).why ≡ 0 → Past (m.at * 2 + 2) (m.used + 1) (told result).m }
@@ -800,13 +764,12 @@ fn suffix(
     if kind == Kind::QUESTION {
         return put_about(words, nodes, given, b, Tag::Asked as usize, high, s);
     }
-    if !starter(words, classes, s.at) {
+    if !starter(words, s.at) {
         return array(words, nodes, given, b, high, s);
     }
     let a = child(
         text,
         words,
-        classes,
         nodes,
         names,
         notes,
@@ -823,31 +786,29 @@ fn suffix(
 fn primary(
     text: &[u8],
     words: &[u64],
-    classes: &[u16; 256],
     nodes: &mut [u64],
     names: &mut [u64],
     notes: &mut [u64; Noting::WORDS],
     given: Given,
     m: Mark,
 ) -> Result<Read, Stop>
-    requires { Ready text.now words.now classes.now nodes.old given m }
+    requires { Ready text.now words.now nodes.old given m }
     ensures reads { Reads 0 (λ g. primary.primary g (below given g)) text words given m nodes names notes (told result) }
     ensures within { Within words given (told result) }
     ensures onward { Onward m (told result) }
 {
-    let o = primary_start(words, classes, m);
-    match o {
-        Start::Keyword => return keyword(words, nodes, given, m),
-        Start::Literal => return literal(words, nodes, names, given, m),
-        Start::This => return pred(text, words, classes, nodes, names, notes, given, false, m),
-        Start::Asserts => return pred(text, words, classes, nodes, names, notes, given, true, m),
-        Start::Name => return named(text, words, classes, nodes, names, notes, given, m),
-        Start::Mapped => return mapped(text, words, classes, nodes, names, notes, given, m),
-        Start::Object => return object(text, words, classes, nodes, names, notes, given, m),
-        Start::Tuple => return tuple(text, words, classes, nodes, names, notes, given, m),
-        Start::Parens => return parens(text, words, classes, nodes, names, notes, given, m),
-        Start::Template => return template(text, words, classes, nodes, names, notes, given, m),
-        Start::Nothing(why) => return Err(Stop { why, m }),
+    match primary_start(words, m) {
+        Ok(Start::Keyword) => keyword(words, nodes, given, m),
+        Ok(Start::Literal) => literal(words, nodes, names, given, m),
+        Ok(Start::This) => pred(text, words, nodes, names, notes, given, false, m),
+        Ok(Start::Asserts) => pred(text, words, nodes, names, notes, given, true, m),
+        Ok(Start::Name) => named(text, words, nodes, names, notes, given, m),
+        Ok(Start::Mapped) => mapped(text, words, nodes, names, notes, given, m),
+        Ok(Start::Object) => object(text, words, nodes, names, notes, given, m),
+        Ok(Start::Tuple) => tuple(text, words, nodes, names, notes, given, m),
+        Ok(Start::Parens) => parens(text, words, nodes, names, notes, given, m),
+        Ok(Start::Template) => template(text, words, nodes, names, notes, given, m),
+        Err(why) => Err(Stop { why, m }),
     }
 }
 
@@ -856,20 +817,19 @@ fn primary(
 fn named(
     text: &[u8],
     words: &[u64],
-    classes: &[u16; 256],
     nodes: &mut [u64],
     names: &mut [u64],
     notes: &mut [u64; Noting::WORDS],
     given: Given,
     m: Mark,
 ) -> Result<Read, Stop>
-    requires { Ready text.now words.now classes.now nodes.old given m }
+    requires { Ready text.now words.now nodes.old given m }
     ensures reads { Reads 0 (λ g. onward.name_at g (below given g)) text words given m nodes names notes (told result) }
     ensures within { Within words given (told result) }
     ensures onward { Onward m (told result) }
 {
-    let n = named_head(words, classes, names, m)?;
-    let l = targs(text, words, classes, nodes, names, notes, given, n.m)?;
+    let n = named_head(words, names, m)?;
+    let l = targs(text, words, nodes, names, notes, given, n.m)?;
     named_node(words, nodes, given, Begin::at(words, m), n, l)
 }
 
@@ -878,14 +838,13 @@ fn named(
 fn targs(
     text: &[u8],
     words: &[u64],
-    classes: &[u16; 256],
     nodes: &mut [u64],
     names: &mut [u64],
     notes: &mut [u64; Noting::WORDS],
     given: Given,
     m: Mark,
 ) -> Result<Entries, Stop>
-    requires { Ready text.now words.now classes.now nodes.old given m }
+    requires { Ready text.now words.now nodes.old given m }
     ensures reads_list { ReadsList 0 (λ g. arguments.arguments g (below given g)) text words given m nodes names notes (told_list result) }
     ensures within_list { WithinList words given (told_list result) }
     ensures past { (told_list result).why ≡ 0 → Past (place_of m) m.used (told_list result).m }
@@ -896,7 +855,7 @@ fn targs(
     let mut p = opened(words, m);
     let mut k = Kids::none();
     while kind_at(words, p) != Kind::R_ANGLE {
-        let a = child(text, words, classes, nodes, names, notes, given, true, k, p)?;
+        let a = child(text, words, nodes, names, notes, given, true, k, p)?;
         k = a.kids;
         p = past_comma(words, Kind::R_ANGLE, a.m)?;
     }
@@ -909,14 +868,13 @@ fn targs(
 fn parens(
     text: &[u8],
     words: &[u64],
-    classes: &[u16; 256],
     nodes: &mut [u64],
     names: &mut [u64],
     notes: &mut [u64; Noting::WORDS],
     given: Given,
     m: Mark,
 ) -> Result<Read, Stop>
-    requires { Ready text.now words.now classes.now nodes.old given m × (m.at < length words.now) }
+    requires { Ready text.now words.now nodes.old given m × (m.at < length words.now) }
     ensures reads { Reads 0 (λ g. primary.brackets g (below given g)) text words given m nodes names notes (told result) }
     ensures within { Within words given (told result) }
     ensures onward { Onward m (told result) }
@@ -926,7 +884,7 @@ fn parens(
         half: 0,
         ..m
     };
-    let a = ty(text, words, classes, nodes, names, notes, given, true, s)?;
+    let a = ty(text, words, nodes, names, notes, given, true, s)?;
     let b = Begin::at(words, m);
     parens_node(words, nodes, given, b, a.high, a.m)
 }
@@ -936,23 +894,21 @@ fn parens(
 fn mapped(
     text: &[u8],
     words: &[u64],
-    classes: &[u16; 256],
     nodes: &mut [u64],
     names: &mut [u64],
     notes: &mut [u64; Noting::WORDS],
     given: Given,
     m: Mark,
 ) -> Result<Read, Stop>
-    requires { Ready text.now words.now classes.now nodes.old given m × (m.at < length words.now) }
+    requires { Ready text.now words.now nodes.old given m × (m.at < length words.now) }
     ensures reads { kind_at words.now m.at m.half ≡ LCurly → Reads 0 (λ g. mapped.mapped g (below given g)) text words given m nodes names notes (told result) }
     ensures within { Within words given (told result) }
     ensures onward { Onward m (told result) }
 {
-    let h = mapped_head(words, classes, names, m)?;
+    let h = mapped_head(words, names, m)?;
     let c = child(
         text,
         words,
-        classes,
         nodes,
         names,
         notes,
@@ -964,7 +920,6 @@ fn mapped(
     let n = opt(
         text,
         words,
-        classes,
         nodes,
         names,
         notes,
@@ -978,7 +933,6 @@ fn mapped(
     let t = opt(
         text,
         words,
-        classes,
         nodes,
         names,
         notes,
@@ -1003,14 +957,13 @@ fn mapped(
 fn object(
     text: &[u8],
     words: &[u64],
-    classes: &[u16; 256],
     nodes: &mut [u64],
     names: &mut [u64],
     notes: &mut [u64; Noting::WORDS],
     given: Given,
     m: Mark,
 ) -> Result<Read, Stop>
-    requires { Ready text.now words.now classes.now nodes.old given m × (m.at < length words.now) }
+    requires { Ready text.now words.now nodes.old given m × (m.at < length words.now) }
     ensures reads { kind_at words.now m.at m.half ≡ LCurly → Reads 0 (λ g. object.object g (below given g)) text words given m nodes names notes (told result) }
     ensures within { Within words given (told result) }
     ensures onward { Onward m (told result) }
@@ -1022,7 +975,7 @@ fn object(
     };
     let mut k = Kids::none();
     while kind_at(words, p) != Kind::R_CURLY {
-        let a = memb(text, words, classes, nodes, names, notes, given, p)?;
+        let a = memb(text, words, nodes, names, notes, given, p)?;
         let q = a.m;
         k = link(nodes, k, p.used, q.used, a.high);
         p = q;
@@ -1041,43 +994,43 @@ fn object(
 fn memb(
     text: &[u8],
     words: &[u64],
-    classes: &[u16; 256],
     nodes: &mut [u64],
     names: &mut [u64],
     notes: &mut [u64; Noting::WORDS],
     given: Given,
     m: Mark,
 ) -> Result<Read, Stop>
-    requires { Ready text.now words.now classes.now nodes.old given m }
+    requires { Ready text.now words.now nodes.old given m }
     ensures reads { Reads 6 (λ g. object.member g (below given g)) text words given m nodes names notes (told result) }
     ensures within { Within words given (told result) }
     ensures past { (told result).why ≡ 0 → Past (m.at * 2 + 2) (m.used + 1) (told result).m }
 {
-    let h = member_head(text, words, classes, names, m)?;
+    let h = member_head(text, words, names, m)?;
     let b = Begin::at(words, m);
     let head = h.choices;
     let p = h.m;
-    if h.sort == Sort::INDEX {
-        return index(text, words, classes, nodes, names, notes, given, b, head, p);
+    match h.sort {
+        Sort::Property => {
+            let t = opt(
+                text,
+                words,
+                nodes,
+                names,
+                notes,
+                given,
+                Kind::COLON,
+                true,
+                Kids::none(),
+                p,
+            )?;
+            let all = property_choices(head, t.there);
+            member_node(words, nodes, given, b, all, t.kids, t.m)
+        }
+        Sort::Index => index(text, words, nodes, names, notes, given, b, head, p),
+        Sort::Method | Sort::Call | Sort::Construct => {
+            sign(text, words, nodes, names, notes, given, b, head, p)
+        }
     }
-    if h.sort != Sort::PROPERTY {
-        return sign(text, words, classes, nodes, names, notes, given, b, head, p);
-    }
-    let t = opt(
-        text,
-        words,
-        classes,
-        nodes,
-        names,
-        notes,
-        given,
-        Kind::COLON,
-        true,
-        Kids::none(),
-        p,
-    )?;
-    let all = property_choices(head, t.there);
-    member_node(words, nodes, given, b, all, t.kids, t.m)
 }
 
 // Signature: type parameters, parameters and the return type of a member that begins at b; diagnostic 3 stands before that.
@@ -1085,7 +1038,6 @@ fn memb(
 fn sign(
     text: &[u8],
     words: &[u64],
-    classes: &[u16; 256],
     nodes: &mut [u64],
     names: &mut [u64],
     notes: &mut [u64; Noting::WORDS],
@@ -1094,17 +1046,15 @@ fn sign(
     head: usize,
     m: Mark,
 ) -> Result<Read, Stop>
-    requires { Ready text.now words.now classes.now nodes.old given m × Begun b × (head ≤ 127) }
+    requires { Ready text.now words.now nodes.old given m × Begun b × (head ≤ 127) }
     ensures reads_signature { ReadsSignature text words given b head m nodes names notes (told result) }
     ensures within { Within words given (told result) }
     ensures past { (told result).why ≡ 0 → Past (m.at * 2 + 2) (m.used + 1) (told result).m }
 {
-    let t = tparams(text, words, classes, nodes, names, notes, given, true, m)?;
+    let t = tparams(text, words, nodes, names, notes, given, true, m)?;
     let k = t.kids;
-    let is_new = head == Sort::CONSTRUCT;
-    let p = params(
-        text, words, classes, nodes, names, notes, given, is_new, k, t.m,
-    )?;
+    let is_new = head == Sort::Construct as usize;
+    let p = params(text, words, nodes, names, notes, given, is_new, k, t.m)?;
     let s = note_this(notes, given, is_new, p.this, p.m)?;
     if kind_at(words, s) != Kind::COLON {
         return signature_node(words, nodes, given, b, head, t.there, k.count, p, false, s);
@@ -1114,7 +1064,7 @@ fn sign(
         half: 0,
         ..s
     };
-    let r = ret(text, words, classes, nodes, names, notes, given, q)?;
+    let r = ret(text, words, nodes, names, notes, given, q)?;
     let f = p.with(nodes, q, r);
     signature_node(words, nodes, given, b, head, t.there, k.count, f, true, f.m)
 }
@@ -1124,7 +1074,6 @@ fn sign(
 fn index(
     text: &[u8],
     words: &[u64],
-    classes: &[u16; 256],
     nodes: &mut [u64],
     names: &mut [u64],
     notes: &mut [u64; Noting::WORDS],
@@ -1133,7 +1082,7 @@ fn index(
     head: usize,
     m: Mark,
 ) -> Result<Read, Stop>
-    requires { Ready text.now words.now classes.now nodes.old given m × (m.at < length words.now) × Begun b × (head ≤ 127) }
+    requires { Ready text.now words.now nodes.old given m × (m.at < length words.now) × Begun b × (head ≤ 127) }
     ensures reads_index { ReadsIndex text words given b head m nodes names notes (told result) }
     ensures within { Within words given (told result) }
     ensures past { (told result).why ≡ 0 → Past (m.at * 2 + 2) (m.used + 1) (told result).m }
@@ -1146,16 +1095,14 @@ fn index(
     let first = first_byte(words, p);
     let mut ps = IndexParams::none();
     while kind_at(words, p) != Kind::R_BRACK {
-        let h = index_head(words, classes, names, notes, given, p)?;
-        let a = ty(text, words, classes, nodes, names, notes, given, true, h)?;
+        let h = index_head(words, names, notes, given, p)?;
+        let a = ty(text, words, nodes, names, notes, given, true, h)?;
         let q = freed(ps.count != 0, p, a.m);
         ps = ps.with(words, a);
         p = index_next(words, notes, given, q)?;
     }
     let e = index_end(words, nodes, notes, given, b.first, first, ps, p)?;
-    let t = child(
-        text, words, classes, nodes, names, notes, given, true, ps.kids, e,
-    )?;
+    let t = child(text, words, nodes, names, notes, given, true, ps.kids, e)?;
     let all = index_choices(head, ps.count != 0);
     member_node(words, nodes, given, b, all, t.kids, t.m)
 }
@@ -1165,14 +1112,13 @@ fn index(
 fn tuple(
     text: &[u8],
     words: &[u64],
-    classes: &[u16; 256],
     nodes: &mut [u64],
     names: &mut [u64],
     notes: &mut [u64; Noting::WORDS],
     given: Given,
     m: Mark,
 ) -> Result<Read, Stop>
-    requires { Ready text.now words.now classes.now nodes.old given m × (m.at < length words.now) }
+    requires { Ready text.now words.now nodes.old given m × (m.at < length words.now) }
     ensures reads { kind_at words.now m.at m.half ≡ LBrack → Reads 0 (λ g. tuple.tuple g (below given g)) text words given m nodes names notes (told result) }
     ensures within { Within words given (told result) }
     ensures onward { Onward m (told result) }
@@ -1185,7 +1131,7 @@ fn tuple(
     let mut k = Kids::none();
     let mut latest = None;
     while kind_at(words, p) != Kind::R_BRACK {
-        let a = elem(text, words, classes, nodes, names, notes, given, p)?;
+        let a = elem(text, words, nodes, names, notes, given, p)?;
         let e = checked(nodes, notes, given, latest, a.m)?;
         let q = e.m;
         latest = e.latest;
@@ -1200,20 +1146,19 @@ fn tuple(
 fn elem(
     text: &[u8],
     words: &[u64],
-    classes: &[u16; 256],
     nodes: &mut [u64],
     names: &mut [u64],
     notes: &mut [u64; Noting::WORDS],
     given: Given,
     m: Mark,
 ) -> Result<Read, Stop>
-    requires { Ready text.now words.now classes.now nodes.old given m }
+    requires { Ready text.now words.now nodes.old given m }
     ensures reads { Reads 1 (λ g. tuple.element g (below given g)) text words given m nodes names notes (told result) }
     ensures within { Within words given (told result) }
     ensures onward { Onward m (told result) }
 {
-    let l = element_head(words, classes, names, m);
-    let a = ty(text, words, classes, nodes, names, notes, given, true, l.m)?;
+    let l = element_head(words, names, m);
+    let a = ty(text, words, nodes, names, notes, given, true, l.m)?;
     element_node(words, nodes, notes, given, l, a)
 }
 
@@ -1222,14 +1167,13 @@ fn elem(
 fn template(
     text: &[u8],
     words: &[u64],
-    classes: &[u16; 256],
     nodes: &mut [u64],
     names: &mut [u64],
     notes: &mut [u64; Noting::WORDS],
     given: Given,
     m: Mark,
 ) -> Result<Read, Stop>
-    requires { Ready text.now words.now classes.now nodes.old given m × (m.at < length words.now) }
+    requires { Ready text.now words.now nodes.old given m × (m.at < length words.now) }
     ensures reads { kind_at words.now m.at m.half ≡ TemplateHead → Reads 0 (λ g. template.template g (below given g)) text words given m nodes names notes (told result) }
     ensures within { Within words given (told result) }
     ensures onward { Onward m (told result) }
@@ -1237,7 +1181,7 @@ fn template(
     let mut p = spell(words, names, m);
     let mut k = Kids::none();
     loop {
-        let a = child(text, words, classes, nodes, names, notes, given, true, k, p)?;
+        let a = child(text, words, nodes, names, notes, given, true, k, p)?;
         let q = a.m;
         k = a.kids;
         let kind = kind_at(words, q);

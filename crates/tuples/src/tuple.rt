@@ -1,6 +1,5 @@
 // Tuple elements, without the types in them.
 ghost use Rattle.std.specs.Prelude.{◌≡◌, true, false, ◌*◌, ◌%◌, ◌≤◌, ◌<◌, ◌^◌, length};
-ghost use Rattle.words.specs.Class.{class_words};
 ghost use Rattle.keys.specs.Limits.{record_words};
 ghost use Rattle.marks.specs.State.{next_mark, Sound, Inside, Along, Reached, place_of};
 ghost use Rattle.marks.specs.Node.{Put, MakesList, MakesAbout};
@@ -33,11 +32,11 @@ pub struct Label {
 }
 
 // Whether a label stands at m, with its colon, or question mark and colon.
-fn is_next_token_colon_or_question_colon(words: &[u64], classes: &[u16; 256], m: Mark) -> bool
-    requires { (classes.now ≡ class_words) × (m.at < 2 ^ 63) }
+fn is_next_token_colon_or_question_colon(words: &[u64], m: Mark) -> bool
+    requires { m.at < 2 ^ 63 }
     ensures { result ≡ labelled_at words.now m }
 {
-    if !in_class(classes, kind_at(words, m), Class::Name) {
+    if !in_class(kind_at(words, m), Class::Name) {
         return false;
     }
     match kind_after(words, m, 1) {
@@ -48,8 +47,8 @@ fn is_next_token_colon_or_question_colon(words: &[u64], classes: &[u16; 256], m:
 }
 
 // An element up to its type.
-pub fn element_head(words: &[u64], classes: &[u16; 256], names: &mut [u64], m: Mark) -> Label
-    requires { MayName classes.now words.now m }
+pub fn element_head(words: &[u64], names: &mut [u64], m: Mark) -> Label
+    requires { MayName words.now m }
     ensures label_is { LabelIs words.now m result }
     ensures starts_element { StartsElement words.now m names.old result names.new }
     ensures along { Along (length words.now) m result.m × LabelSmall result }
@@ -57,7 +56,7 @@ pub fn element_head(words: &[u64], classes: &[u16; 256], names: &mut [u64], m: M
     let rest = kind_at(words, m) == Kind::DOT3;
     let p = past(words, Kind::DOT3, m);
     let b = Begin::at(words, m);
-    if is_next_token_colon_or_question_colon(words, classes, p) {
+    if is_next_token_colon_or_question_colon(words, p) {
         return labelled(words, names, b, rest, p);
     }
     Label {

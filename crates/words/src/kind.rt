@@ -169,9 +169,9 @@ pub fn class_words() -> &'static [u16; 256]
 }
 
 // Whether a kind has the class of a bit.
-pub fn in_class(classes: &[u16; 256], kind: usize, class: Class) -> bool
-    requires { (classes.now ≡ class_words) × (kind < 256) }
+pub fn in_class(kind: usize, class: Class) -> bool
+    requires { kind < 256 }
     ensures { result ≡ in_class (bit_of class) kind }
 {
-    (classes[kind] >> class as usize) % 2 == 1
+    (class_words()[kind] >> class as usize) % 2 == 1
 }

@@ -6,7 +6,7 @@ use checks::check::{Fault, check};
 use lines::line::Out;
 use words::ahead::{FunctionStart, function_start, mapped_start, starter};
 use words::cursor::Cursor;
-use words::kind::{Class, class_words, in_class};
+use words::kind::{Class, in_class};
 use words::token;
 
 // 1 for yes, and 0 for no.
@@ -44,7 +44,7 @@ fn classes_of(out: &mut Out, kind: u8) {
         if class != Class::BindingWord {
             out.byte(b' ');
         }
-        bit(out, in_class(class_words(), usize::from(kind), class));
+        bit(out, in_class(usize::from(kind), class));
     }
 }
 
@@ -98,13 +98,12 @@ fn all_fields(out: &mut Out, words: &[u64]) {
 // A record's answer, without the line's end.
 pub fn answer(out: &mut Out, head: &Head, text: &[u8], words: &[u64]) {
     let at = head.a as usize;
-    let classes = class_words();
     match head.op {
         0 => checked(out, check(text, words, at)),
         1 => classes_of(out, (head.a % 256) as u8),
-        2 => bit(out, starter(words, classes, at)),
-        3 => function_case(out, function_start(words, classes, head.cursor())),
-        4 => bit(out, mapped_start(words, classes, at)),
+        2 => bit(out, starter(words, at)),
+        3 => function_case(out, function_start(words, head.cursor())),
+        4 => bit(out, mapped_start(words, at)),
         5 => cursor_facts(out, words, head.cursor()),
         _ => all_fields(out, words),
     }

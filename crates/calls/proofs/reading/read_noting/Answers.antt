@@ -1,9 +1,12 @@
 -- The ring reads from the first cursor on: a refusal of the rules, or a tree that is finished.
-use mathlib.Core.Path.{refl, ◌∙◌}
+use mathlib.Core.Path.{refl, ap, sym, ◌∙◌}
 use native.Mathlib.Omega.{arith}
 use lib.ListN.{length}
 use Rattle.key_out.proofs.KeyedLaws.{bytes_of_lem}
+use Rattle.words.specs.Refusal.{number_of}
+use Rattle.words.specs.declared.cursor.Cursor.{Cursor}
 use Rattle.rules.specs.Read.{lend}
+use Rattle.rules.specs.State.{refuse}
 use Rattle.rules.proofs.TokenLaws.{start_there}
 use Rattle.calls.proofs.Ruled.{sound_list, spelt_list, reading_from, same_lent, few_used, few_noted, held, reads_read, reads_refused}
 use Rattle.marks.proofs.ToldLaws.{refusal_some}
@@ -12,7 +15,6 @@ use Rattle.calls.proofs.reading.read_noting.Goals as goal
 pub ty-requires : goal.ty-requires
 ty-requires c =
     record {
-      classes_are = c.class_words-classes.ensures;
       sound = sound_list c.args.text.now c.args.tokens.now c.args.start c.requires.0;
       spelt = spelt_list c.args.text.now c.args.tokens.now c.args.start c.requires.0;
       room = omega (arith, c.well_formed);
@@ -21,7 +23,7 @@ ty-requires c =
 
 pub returns-in-Err : goal.returns-in-Err
 returns-in-Err c =
-    reads_refused c.args.text.now c.args.tokens.now c.args.start c.args.preserve_parens (lend (length c.args.nodes.now) (length c.args.names.now) (length c.args.notes.now) (length c.args.key.now)) c.requires.0 (reading_from _ _ c.args.noting.now c.requires.1 (refl, refl) ∙ c.in-Err.ensures.reads.refused (refusal_some c.in-Err.stop.why)) c.first_byte.ensures c.refuse.ensures (same_lent c.ty.auto.nodes c.ty.auto.names)
+    reads_refused c.args.text.now c.args.tokens.now c.args.start c.args.preserve_parens (lend (length c.args.nodes.now) (length c.args.names.now) (length c.args.notes.now) (length c.args.key.now)) c.requires.0 (reading_from _ _ c.args.noting.now c.requires.1 (refl, refl) ∙ c.in-Err.ensures.reads.refused (refusal_some c.in-Err.stop.why) ∙ ap (λ (x : Cursor). refuse (number_of c.in-Err.stop.why) x.at x.half) (sym c.cursor-place.ensures)) c.first_byte.ensures c.refuse.ensures (same_lent c.ty.auto.nodes c.ty.auto.names)
 
 pub finish-requires : goal.finish-requires
 finish-requires c =

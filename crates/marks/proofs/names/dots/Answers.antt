@@ -11,7 +11,7 @@ use Rattle.marks.proofs.names.dots.Goals as goal
 
 pub loop-names-init : goal.loop-names-init
 loop-names-init c =
-    (refl, along_same c.requires.2, λ text O given l w. dotting_none (given_of text c.args.words.now given) l c.args.m c.args.names.now O)
+    (refl, along_same c.requires.1, λ text O given l w. dotting_none (given_of text c.args.words.now given) l c.args.m c.args.names.now O)
 
 pub returns-in_err-p-clause-starts_dots : goal.returns-in_err-p-clause-starts_dots
 returns-in_err-p-clause-starts_dots c =

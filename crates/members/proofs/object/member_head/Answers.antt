@@ -35,14 +35,14 @@ pub returns-then-constructs-clause-along : goal.returns-then-constructs-clause-a
 returns-then-constructs-clause-along c =
     let begins = ap object.signs (sym c.kind_at.ensures.value) ∙ sym c.signs.ensures ∙ c.if-signs.false in
     let inside = kind_inside object.signs c.args.words.now (c.args.m.at + 1) 0 refl (both_true (eqb (kind_at c.args.words.now c.args.m.at c.args.m.half) New) (object.signs (whole_kind c.args.words.now (c.args.m.at + 1))) (sym (c.constructs.ensures c.args.text.now [] no_given) ∙ c.if-constructs.true)).1 in (
-      along_moved (moved_taken c.next.ensures c.requires.0.2 (omega (arith, inside))),
+      along_moved (moved_taken c.next.ensures c.requires.0.1 (omega (arith, inside))),
       record { some = omega (arith, inside, ap (λ (x : Mark). x.at) c.next.ensures); past = omega (arith, ap (λ (x : Mark). x.at) c.next.ensures); few = omega arith },
     )
 
 pub behind_readonly-requires : goal.behind_readonly-requires
 behind_readonly-requires c =
     let inside = kind_inside (λ k. eqb k Readonly) c.args.words.now c.args.m.at c.args.m.half refl (both_true (eqb (kind_at c.args.words.now c.args.m.at c.args.m.half) Readonly) (key_follows c.args.words.now c.args.m.at and same_line c.args.words.now (c.args.m.at + 1) 0) (sym (c.is_readonly.ensures c.args.text.now [] no_given) ∙ c.if-is_readonly.true)).0 in
-    ((c.requires.0.0, c.requires.0.1, inside_taken c.args.m c.next-then-is_readonly.ensures inside, omega (arith, c.requires.0.3, ap (λ (x : Mark). x.at) c.next-then-is_readonly.ensures, ap (λ (x : Mark). x.named) c.next-then-is_readonly.ensures)), c.requires.1)
+    ((c.requires.0.0, inside_taken c.args.m c.next-then-is_readonly.ensures inside, omega (arith, c.requires.0.2, ap (λ (x : Mark). x.at) c.next-then-is_readonly.ensures, ap (λ (x : Mark). x.named) c.next-then-is_readonly.ensures)), c.requires.1)
 
 pub returns-then-is_readonly-clause-starts_member : goal.returns-then-is_readonly-clause-starts_member
 returns-then-is_readonly-clause-starts_member c =

@@ -17,6 +17,3 @@ invariant-loop-i l =
     × (l.initial.r.m.used ≤ l.r.m.used) × (l.r.m.used ≤ l.given.room) × (l.r.high ≤ tallest)
     × ((text : List ℕ) (B : Was) (t : Placed) (M O : List ℕ) → Stands 0 B t l.initial.r.high l.initial.r.m l.initial.nodes M O → l.name ≡ B.named
     → Left (given_of text l.words l.given) l.from (l.to - l.from) (l.i - l.from) (read t (view l.initial.r.m O)) B l.r.high l.r.m l.nodes M O)
-
-abbrev pub decreases-loop-i : goal.decreases-loop-i
-decreases-loop-i l = l.i

@@ -13,7 +13,7 @@ use Rattle.parts.proofs.arguments.named_head.Goals as goal
 
 pub returns-then-kind-eq-TYPEOF-clause-starts_names : goal.returns-then-kind-eq-TYPEOF-clause-starts_names
 returns-then-kind-eq-TYPEOF-clause-starts_names c =
-    let moved : Moved (length c.args.words.now) c.args.m c.next.result = moved_taken c.next.ensures c.requires.2 (omega (arith, c.kind_at-kind.ensures.upper_bound, c.if-kind-eq-TYPEOF.true)) in
+    let moved : Moved (length c.args.words.now) c.args.m c.next.result = moved_taken c.next.ensures c.requires.1 (omega (arith, c.kind_at-kind.ensures.upper_bound, c.if-kind-eq-TYPEOF.true)) in
     λ text O given spelt.
     names_behind
     (naming_typeof (given_of text c.args.words.now given) (view c.args.m O) (is_here c.args.words.now c.args.m c.kind_at-kind.ensures.value c.if-kind-eq-TYPEOF.true) ∙ ap (λ (q : Mark). naming.query_head (given_of text c.args.words.now given) (view q O)) (sym c.next.ensures))
@@ -21,7 +21,7 @@ returns-then-kind-eq-TYPEOF-clause-starts_names c =
 
 pub returns-then-kind-eq-IMPORT-clause-starts_names : goal.returns-then-kind-eq-IMPORT-clause-starts_names
 returns-then-kind-eq-IMPORT-clause-starts_names c =
-    let moved : Moved (length c.args.words.now) c.args.m c.next-then-kind-eq-IMPORT.result = moved_taken c.next-then-kind-eq-IMPORT.ensures c.requires.2 (omega (arith, c.kind_at-kind.ensures.upper_bound, c.if-kind-eq-IMPORT.true)) in
+    let moved : Moved (length c.args.words.now) c.args.m c.next-then-kind-eq-IMPORT.result = moved_taken c.next-then-kind-eq-IMPORT.ensures c.requires.1 (omega (arith, c.kind_at-kind.ensures.upper_bound, c.if-kind-eq-IMPORT.true)) in
     λ text O given spelt.
     names_behind
     (naming_import (given_of text c.args.words.now given) (view c.args.m O) (is_not_here c.args.words.now c.args.m c.kind_at-kind.ensures.value c.if-kind-eq-TYPEOF.false) (is_here c.args.words.now c.args.m c.kind_at-kind.ensures.value c.if-kind-eq-IMPORT.true)

@@ -13,7 +13,7 @@ use Rattle.parts.proofs.arguments.query.Goals as goal
 
 pub returns-then-kind_at-eq-IMPORT-clause-starts_names : goal.returns-then-kind_at-eq-IMPORT-clause-starts_names
 returns-then-kind_at-eq-IMPORT-clause-starts_names c =
-    let moved : Moved (length c.args.words.now) c.args.m c.next.result = moved_taken c.next.ensures c.requires.2 (omega (arith, c.kind_at.ensures.upper_bound, c.if-kind_at-eq-IMPORT.true)) in
+    let moved : Moved (length c.args.words.now) c.args.m c.next.result = moved_taken c.next.ensures c.requires.1 (omega (arith, c.kind_at.ensures.upper_bound, c.if-kind_at-eq-IMPORT.true)) in
     λ text O given spelt.
     names_behind
     (query_import (given_of text c.args.words.now given) (view c.args.m O) (is_here c.args.words.now c.args.m c.kind_at.ensures.value c.if-kind_at-eq-IMPORT.true) ∙ ap (λ (q : Mark). naming.import_head (given_of text c.args.words.now given) true (view q O)) (sym c.next.ensures))

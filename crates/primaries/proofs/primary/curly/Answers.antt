@@ -9,11 +9,11 @@ returns-then-mapped_start-clause-starts_as c =
     λ text O given T.
     let g = given_of text c.args.words.now given in
     let s = view c.args.m O in
-    (enclosed_mapped g T s c.requires.2 (sym c.mapped_start.ensures ∙ c.if-mapped_start.true), c.requires.2)
+    (enclosed_mapped g T s c.requires.1 (sym c.mapped_start.ensures ∙ c.if-mapped_start.true), c.requires.1)
 
 pub returns-else-mapped_start-clause-starts_as : goal.returns-else-mapped_start-clause-starts_as
 returns-else-mapped_start-clause-starts_as c =
     λ text O given T.
     let g = given_of text c.args.words.now given in
     let s = view c.args.m O in
-    (enclosed_curly g T s c.requires.2 (sym c.mapped_start.ensures ∙ c.if-mapped_start.false), c.requires.2)
+    (enclosed_curly g T s c.requires.1 (sym c.mapped_start.ensures ∙ c.if-mapped_start.false), c.requires.1)

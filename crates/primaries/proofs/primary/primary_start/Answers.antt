@@ -2,6 +2,7 @@
 use mathlib.Core.Path.{refl, sym, ap, ◌∙◌}
 use mathlib.Core.List.{[]}
 use native.Mathlib.Omega.{arith}
+use Rattle.std.specs.Prelude.{Ok}
 use Rattle.words.specs.Test.{among}
 use Rattle.marks.specs.State.{given_of, view}
 use Rattle.primaries.proofs.PrimaryLaws.{eq_at, ne_at, keyword_inside, negative_inside, minus_off, no_given, start_from, primary_keyword, primary_this, primary_literal, primary_negative, primary_worded, literal_at_lem, negative_at, literal_here, negative_here}
@@ -25,7 +26,7 @@ returns-then-kind_at-eq-THIS-clause-by_index c =
     λ text O given T.
     let g = given_of text c.args.words.now given in
     let s = view c.args.m O in
-    start_from c.this_start.result g T s (primary_this g T s (sym (c.is_keyword.ensures text O given) ∙ c.if-is_keyword.false) (eq_at 102 c.kind_at.ensures.value c.if-kind_at-eq-THIS.true)) (c.this_start.ensures.starts_as text O given T)
+    start_from (Ok c.this_start.result) g T s (primary_this g T s (sym (c.is_keyword.ensures text O given) ∙ c.if-is_keyword.false) (eq_at 102 c.kind_at.ensures.value c.if-kind_at-eq-THIS.true)) (c.this_start.ensures.starts_as text O given T)
 
 pub returns-then-is_literal-clause-by_index : goal.returns-then-is_literal-clause-by_index
 returns-then-is_literal-clause-by_index c =
@@ -37,14 +38,8 @@ returns-then-is_literal-clause-by_index c =
 
 pub returns-then-is_literal-clause-start_has : goal.returns-then-is_literal-clause-start_has
 returns-then-is_literal-clause-start_has c =
-    (kind_inside (among rule.literals) c.args.words.now c.args.m.at c.args.m.half refl (ap (among rule.literals) (sym c.kind_at-2.ensures.value) ∙ sym c.is_literal.ensures ∙ c.if-is_literal.true), λ h. absurd (minus_off (among rule.literals) c.args.words.now c.args.m refl (ap (among rule.literals) (sym c.kind_at-2.ensures.value) ∙ sym c.is_literal.ensures ∙ c.if-is_literal.true) h))
-
-pub returns-clause-by_index : goal.returns-clause-by_index
-returns-clause-by_index c =
-    λ text O given T.
-    let g = given_of text c.args.words.now given in
-    let s = view c.args.m O in
-    start_from c.worded.result g T s (primary_worded g T s (sym (c.is_keyword.ensures text O given) ∙ c.if-is_keyword.false) (ne_at 102 c.kind_at.ensures.value c.if-kind_at-eq-THIS.false) (ap (among rule.literals) (sym c.kind_at-2.ensures.value) ∙ sym c.is_literal.ensures ∙ c.if-is_literal.false) (sym (c.is_negative.ensures text O given) ∙ c.if-is_negative.false)) (c.worded.ensures.starts_as text O given T)
+    let l = ap (among rule.literals) (sym c.kind_at-2.ensures.value) ∙ sym c.is_literal.ensures ∙ c.if-is_literal.true in
+    (kind_inside (among rule.literals) c.args.words.now c.args.m.at c.args.m.half refl l, λ h. absurd (minus_off (among rule.literals) c.args.words.now c.args.m refl l h))
 
 pub returns-then-is_negative-clause-by_index : goal.returns-then-is_negative-clause-by_index
 returns-then-is_negative-clause-by_index c =
@@ -56,4 +51,12 @@ returns-then-is_negative-clause-by_index c =
 
 pub returns-then-is_negative-clause-start_has : goal.returns-then-is_negative-clause-start_has
 returns-then-is_negative-clause-start_has c =
-    (omega (arith, negative_inside (given_of [] c.args.words.now no_given) (view c.args.m []) (sym (c.is_negative.ensures [] [] no_given) ∙ c.if-is_negative.true)), λ h. negative_inside (given_of [] c.args.words.now no_given) (view c.args.m []) (sym (c.is_negative.ensures [] [] no_given) ∙ c.if-is_negative.true))
+    let n = negative_inside (given_of [] c.args.words.now no_given) (view c.args.m []) (sym (c.is_negative.ensures [] [] no_given) ∙ c.if-is_negative.true) in
+    (omega (arith, n), λ h. n)
+
+pub returns-clause-by_index : goal.returns-clause-by_index
+returns-clause-by_index c =
+    λ text O given T.
+    let g = given_of text c.args.words.now given in
+    let s = view c.args.m O in
+    start_from c.worded.result g T s (primary_worded g T s (sym (c.is_keyword.ensures text O given) ∙ c.if-is_keyword.false) (ne_at 102 c.kind_at.ensures.value c.if-kind_at-eq-THIS.false) (ap (among rule.literals) (sym c.kind_at-2.ensures.value) ∙ sym c.is_literal.ensures ∙ c.if-is_literal.false) (sym (c.is_negative.ensures text O given) ∙ c.if-is_negative.false)) (c.worded.ensures.starts_as text O given T)

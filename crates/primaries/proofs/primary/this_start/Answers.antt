@@ -10,11 +10,11 @@ returns-then-predicates-clause-starts_as c =
     λ text O given T.
     let g = given_of text c.args.words.now given in
     let s = view c.args.m O in
-    this_predicate g T s (eq-eqb _ _ c.requires.3) (sym (c.predicates.ensures text O given) ∙ c.if-predicates.true)
+    this_predicate g T s (eq-eqb _ _ c.requires.2) (sym (c.predicates.ensures text O given) ∙ c.if-predicates.true)
 
 pub returns-else-predicates-clause-starts_as : goal.returns-else-predicates-clause-starts_as
 returns-else-predicates-clause-starts_as c =
     λ text O given T.
     let g = given_of text c.args.words.now given in
     let s = view c.args.m O in
-    this_alone g T s (eq-eqb _ _ c.requires.3) (sym (c.predicates.ensures text O given) ∙ c.if-predicates.false)
+    this_alone g T s (eq-eqb _ _ c.requires.2) (sym (c.predicates.ensures text O given) ∙ c.if-predicates.false)

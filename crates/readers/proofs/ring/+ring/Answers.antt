@@ -23,7 +23,8 @@ use mathlib.Core.Bool.{not, true}
 use lib.Dec.{eqb}
 use Rattle.members.specs.declared.object.IndexParams.{IndexParams}
 use Rattle.readers.proofs.ParamsLaws.{freed_low, freed_high, bit_low, params_refused, this_none, params_plain, params_this_refused, params_this_stops, params_this}
-use Rattle.readers.proofs.MemberLaws.{built_stepped, member_index, member_signature, member_property, property_content, property_typed, property_refused, property_shaped, construct_is, params_as, sign_is, behind_types, behind_params, behind_note, sign_plain, sign_returns, sign_stops, sign_untyped, sign_typed}
+use Rattle.members.specs.Told.{sort_number}
+use Rattle.readers.proofs.MemberLaws.{signature_sort, built_stepped, member_index, member_signature, member_property, property_content, property_typed, property_refused, property_shaped, construct_is, params_as, sign_is, behind_types, behind_params, behind_note, sign_plain, sign_returns, sign_stops, sign_untyped, sign_typed}
 use Rattle.readers.proofs.IndexTurns.{index_is, behind_index, index_begins, index_ended, index_unnamed, index_untyped, index_stops, index_again, under_type, index_content, index_shaped}
 use Rattle.operators.proofs.InferLaws.{infer_refused}
 use Rattle.readers.proofs.TrialLaws.{bare_put, trial_many, trial_refused, trial_put}
@@ -47,7 +48,7 @@ use Rattle.readers.proofs.SuffixLaws.{suffixed_inside, postfix_is, marks_begin, 
 use Rattle.primaries.specs.Onward.{subject_at}
 use Rattle.primaries.specs.Primary.{predicate_choices}
 use Rattle.readers.proofs.PredicateLaws.{predicate_starts, subject_this, predicates_inside}
-use Rattle.readers.proofs.StartLaws.{start_is, start_has}
+use Rattle.readers.proofs.StartLaws.{start_is}
 use Rattle.members.specs.Object.{signature_names}
 use borrow.Author.Tests.{not-true, not-false}
 use Rattle.marks.proofs.LeafLaws.{stands_on}
@@ -276,22 +277,22 @@ memb-returns-in_err-h-clause-reads t c =
     rw (handed_on c.from_residual.ensures.1)
     ((says_stop (refusal_some c.in_err-h.field-0.0.why) ((c.in_err-h.ensures.starts_member c.args.notes.now c.args.given).refused (refusal_some c.in_err-h.field-0.0.why) _)))
 
-pub memb-returns-then-h-eq-INDEX-clause-reads : goal.memb-returns-then-h-eq-INDEX-clause-reads
-memb-returns-then-h-eq-INDEX-clause-reads t c =
-    member_index c.args.text.now c.args.words.now c.args.given _ ((c.in_ok-h.ensures.starts_member c.args.notes.now c.args.given).done refl) c.at-b.ensures.first_value.0 c.if-h-eq-INDEX.true (λ readonly laid choices. c.index.ensures.reads_index _ readonly laid c.at-b.ensures.first_value.1 choices)
+pub memb-returns-in-Index-clause-reads : goal.memb-returns-in-Index-clause-reads
+memb-returns-in-Index-clause-reads t c =
+    member_index c.args.text.now c.args.words.now c.args.given _ ((c.in_ok-h.ensures.starts_member c.args.notes.now c.args.given).done refl) c.at-b.ensures.first_value.0 (ap sort_number c.in-Index.is) (λ readonly laid choices. c.index.ensures.reads_index _ readonly laid c.at-b.ensures.first_value.1 choices)
 
-pub memb-returns-then-h-ne-PROPERTY-clause-reads : goal.memb-returns-then-h-ne-PROPERTY-clause-reads
-memb-returns-then-h-ne-PROPERTY-clause-reads t c =
-    member_signature c.args.text.now c.args.words.now c.args.given _ ((c.in_ok-h.ensures.starts_member c.args.notes.now c.args.given).done refl) c.at-b.ensures.first_value.0 c.if-h-eq-INDEX.false c.if-h-ne-PROPERTY.true (λ x laid choices. c.sign.ensures.reads_signature _ x laid c.at-b.ensures.first_value.1 choices)
+pub memb-returns-in-Method-clause-reads : goal.memb-returns-in-Method-clause-reads
+memb-returns-in-Method-clause-reads t c =
+    member_signature c.args.text.now c.args.words.now c.args.given _ ((c.in_ok-h.ensures.starts_member c.args.notes.now c.args.given).done refl) c.at-b.ensures.first_value.0 (signature_sort _ c.in-Method.is).0 (signature_sort _ c.in-Method.is).1 (λ x laid choices. c.sign.ensures.reads_signature _ x laid c.at-b.ensures.first_value.1 choices)
 
-pub memb-returns-in_err-t-clause-reads : goal.memb-returns-in_err-t-clause-reads
-memb-returns-in_err-t-clause-reads t c =
-    rw (handed_on c.from_residual-in_err-t.ensures.1)
-    (member_property c.args.text.now c.args.words.now c.args.given _ ((c.in_ok-h.ensures.starts_member c.args.notes.now c.args.given).done refl) c.at-b.ensures.first_value.0 c.if-h-ne-PROPERTY.false (λ readonly k question laid choices. (says_stop (refusal_some c.in_err-t.field-0.0.why) (property_refused _ _ _ readonly k question _ ((c.in_err-t.ensures.option _ _ (built_as c.none.ensures (built_names (k.spelling ∷ []) laid))).refused (refusal_some c.in_err-t.field-0.0.why))))))
+pub memb-returns-in_err-t-in-Property-clause-reads : goal.memb-returns-in_err-t-in-Property-clause-reads
+memb-returns-in_err-t-in-Property-clause-reads t c =
+    rw (handed_on c.from_residual-in_err-t-in-Property.ensures.1)
+    (member_property c.args.text.now c.args.words.now c.args.given _ ((c.in_ok-h.ensures.starts_member c.args.notes.now c.args.given).done refl) c.at-b.ensures.first_value.0 (ap sort_number c.in-Property.is) (λ readonly k question laid choices. (says_stop (refusal_some c.in_err-t-in-Property.field-0.0.why) (property_refused _ _ _ readonly k question _ ((c.in_err-t-in-Property.ensures.option _ _ (built_as c.none.ensures (built_names (k.spelling ∷ []) laid))).refused (refusal_some c.in_err-t-in-Property.field-0.0.why))))))
 
-pub memb-returns-clause-reads : goal.memb-returns-clause-reads
-memb-returns-clause-reads t c =
-    member_property c.args.text.now c.args.words.now c.args.given _ ((c.in_ok-h.ensures.starts_member c.args.notes.now c.args.given).done refl) c.at-b.ensures.first_value.0 c.if-h-ne-PROPERTY.false (λ readonly k question laid choices. let o = (c.in_ok-t.ensures.option _ _ (built_as c.none.ensures (built_names (k.spelling ∷ []) laid))).done refl in says_same (property_typed _ _ _ readonly k question _ o.is) (c.member_node.ensures.makes_member c.args.text.now _ _ 0 (property_content readonly k question o.tree) _ _ o.built c.at-b.ensures.first_value.1 (property_shaped readonly k question o.tree c.in_ok-t.t.there o.is_opt choices c.property_choices-all.ensures o.there_is)))
+pub memb-returns-in_ok-t-in-Property-clause-reads : goal.memb-returns-in_ok-t-in-Property-clause-reads
+memb-returns-in_ok-t-in-Property-clause-reads t c =
+    member_property c.args.text.now c.args.words.now c.args.given _ ((c.in_ok-h.ensures.starts_member c.args.notes.now c.args.given).done refl) c.at-b.ensures.first_value.0 (ap sort_number c.in-Property.is) (λ readonly k question laid choices. let o = (c.in_ok-t-in-Property.ensures.option _ _ (built_as c.none.ensures (built_names (k.spelling ∷ []) laid))).done refl in says_same (property_typed _ _ _ readonly k question _ o.is) (c.member_node.ensures.makes_member c.args.text.now _ _ 0 (property_content readonly k question o.tree) _ _ o.built c.at-b.ensures.first_value.1 (property_shaped readonly k question o.tree c.in_ok-t-in-Property.t.there o.is_opt choices c.property_choices-all.ensures o.there_is)))
 
 pub named-returns-in_err-n-clause-reads : goal.named-returns-in_err-n-clause-reads
 named-returns-in_err-n-clause-reads t c =
@@ -555,72 +556,65 @@ pub pred-returns-clause-reads : goal.pred-returns-clause-reads
 pred-returns-clause-reads t c =
     let begins = predicate_starts _ _ c.args.asserts c.args.m c.subject-h.result.m c.args.notes.now c.subject-h.ensures.at_value in let x = (c.in_ok-a.ensures.option _ _ (built_spoken c.none.ensures (c.subject-h.ensures.speaks_subject c.args.text.now c.args.notes.now c.args.given c.requires.0.spelt))).done refl in let about = function.subject (given_of c.args.text.now c.args.words.now c.args.given) (subject_at c.args.asserts (view c.args.m c.args.notes.now)) in let this_is = subject_this c.args.text.now c.args.words.now c.args.given c.args.asserts c.args.m c.args.notes.now in says_same (begins ∙ then_read_lem _ x.is ∙ make_first _ _ _ _ _ c.at.ensures.first_value.0) (c.put.ensures.makes c.args.text.now 0 _ _ 16 _ _ _ x.built c.at.ensures.first_value.1 (shape_as (omega (arith, ap (predicate_choices c.args.asserts) this_is, c.subject-h.ensures.at_value, (c.from.ensures ∙ bit_is c.in_ok-a.a.there), x.there_is)) (shape_predicate c.args.asserts about x.tree x.is_opt)))
 
-pub primary-returns-in-Keyword-clause-reads : goal.primary-returns-in-Keyword-clause-reads
-primary-returns-in-Keyword-clause-reads t c =
-    says_same (start_is c.args.words.now c.args.m c.in-Keyword.is c.primary_start-o.ensures.by_index c.args.text.now c.args.notes.now
+pub primary-returns-in-Ok-Keyword-clause-reads : goal.primary-returns-in-Ok-Keyword-clause-reads
+primary-returns-in-Ok-Keyword-clause-reads t c =
+    says_same (start_is c.args.words.now c.args.m c.in-Ok-Keyword.is c.in-Ok-Keyword.field-0-is c.primary_start.ensures.by_index c.args.text.now c.args.notes.now
     c.args.given _)
     (c.keyword.ensures.by_index c.args.text.now _ _)
 
-pub primary-returns-in-Literal-clause-reads : goal.primary-returns-in-Literal-clause-reads
-primary-returns-in-Literal-clause-reads t c =
-    let is = start_is c.args.words.now c.args.m c.in-Literal.is c.primary_start-o.ensures.by_index c.args.text.now c.args.notes.now
+pub primary-returns-in-Ok-Literal-clause-reads : goal.primary-returns-in-Ok-Literal-clause-reads
+primary-returns-in-Ok-Literal-clause-reads t c =
+    let is = start_is c.args.words.now c.args.m c.in-Ok-Literal.is c.in-Ok-Literal.field-0-is c.primary_start.ensures.by_index c.args.text.now c.args.notes.now
     c.args.given _ in
     says_same is.0 (c.literal.ensures.says_literal c.args.text.now _ c.requires.spelt is.1)
 
-pub primary-returns-in-This-clause-reads : goal.primary-returns-in-This-clause-reads
-primary-returns-in-This-clause-reads t c =
-    says_same (start_is c.args.words.now c.args.m c.in-This.is c.primary_start-o.ensures.by_index c.args.text.now c.args.notes.now
+pub primary-returns-in-Ok-This-clause-reads : goal.primary-returns-in-Ok-This-clause-reads
+primary-returns-in-Ok-This-clause-reads t c =
+    says_same (start_is c.args.words.now c.args.m c.in-Ok-This.is c.in-Ok-This.field-0-is c.primary_start.ensures.by_index c.args.text.now c.args.notes.now
     c.args.given _)
     c.pred.ensures.reads
 
-pub primary-returns-in-Asserts-clause-reads : goal.primary-returns-in-Asserts-clause-reads
-primary-returns-in-Asserts-clause-reads t c =
-    says_same (start_is c.args.words.now c.args.m c.in-Asserts.is c.primary_start-o.ensures.by_index c.args.text.now c.args.notes.now
+pub primary-returns-in-Ok-Asserts-clause-reads : goal.primary-returns-in-Ok-Asserts-clause-reads
+primary-returns-in-Ok-Asserts-clause-reads t c =
+    says_same (start_is c.args.words.now c.args.m c.in-Ok-Asserts.is c.in-Ok-Asserts.field-0-is c.primary_start.ensures.by_index c.args.text.now c.args.notes.now
     c.args.given _)
-    c.pred-in-Asserts.ensures.reads
+    c.pred-in-Ok-Asserts.ensures.reads
 
-pub primary-returns-in-Name-clause-reads : goal.primary-returns-in-Name-clause-reads
-primary-returns-in-Name-clause-reads t c =
-    says_same (start_is c.args.words.now c.args.m c.in-Name.is c.primary_start-o.ensures.by_index c.args.text.now c.args.notes.now
+pub primary-returns-in-Ok-Name-clause-reads : goal.primary-returns-in-Ok-Name-clause-reads
+primary-returns-in-Ok-Name-clause-reads t c =
+    says_same (start_is c.args.words.now c.args.m c.in-Ok-Name.is c.in-Ok-Name.field-0-is c.primary_start.ensures.by_index c.args.text.now c.args.notes.now
     c.args.given _)
     c.named.ensures.reads
 
-pub primary-returns-in-Mapped-clause-reads : goal.primary-returns-in-Mapped-clause-reads
-primary-returns-in-Mapped-clause-reads t c =
-    let is = start_is c.args.words.now c.args.m c.in-Mapped.is c.primary_start-o.ensures.by_index c.args.text.now c.args.notes.now
+pub primary-returns-in-Ok-Mapped-clause-reads : goal.primary-returns-in-Ok-Mapped-clause-reads
+primary-returns-in-Ok-Mapped-clause-reads t c =
+    let is = start_is c.args.words.now c.args.m c.in-Ok-Mapped.is c.in-Ok-Mapped.field-0-is c.primary_start.ensures.by_index c.args.text.now c.args.notes.now
     c.args.given _ in
     says_same is.0 (c.mapped.ensures.reads is.1)
 
-pub primary-returns-in-Object-clause-reads : goal.primary-returns-in-Object-clause-reads
-primary-returns-in-Object-clause-reads t c =
-    let is = start_is c.args.words.now c.args.m c.in-Object.is c.primary_start-o.ensures.by_index c.args.text.now c.args.notes.now
+pub primary-returns-in-Ok-Object-clause-reads : goal.primary-returns-in-Ok-Object-clause-reads
+primary-returns-in-Ok-Object-clause-reads t c =
+    let is = start_is c.args.words.now c.args.m c.in-Ok-Object.is c.in-Ok-Object.field-0-is c.primary_start.ensures.by_index c.args.text.now c.args.notes.now
     c.args.given _ in
     says_same is.0 (c.object.ensures.reads is.1)
 
-pub primary-returns-in-Tuple-clause-reads : goal.primary-returns-in-Tuple-clause-reads
-primary-returns-in-Tuple-clause-reads t c =
-    let is = start_is c.args.words.now c.args.m c.in-Tuple.is c.primary_start-o.ensures.by_index c.args.text.now c.args.notes.now
+pub primary-returns-in-Ok-Tuple-clause-reads : goal.primary-returns-in-Ok-Tuple-clause-reads
+primary-returns-in-Ok-Tuple-clause-reads t c =
+    let is = start_is c.args.words.now c.args.m c.in-Ok-Tuple.is c.in-Ok-Tuple.field-0-is c.primary_start.ensures.by_index c.args.text.now c.args.notes.now
     c.args.given _ in
     says_same is.0 (c.tuple.ensures.reads is.1)
 
-pub primary-returns-in-Parens-clause-reads : goal.primary-returns-in-Parens-clause-reads
-primary-returns-in-Parens-clause-reads t c =
-    says_same (start_is c.args.words.now c.args.m c.in-Parens.is c.primary_start-o.ensures.by_index c.args.text.now c.args.notes.now
+pub primary-returns-in-Ok-Parens-clause-reads : goal.primary-returns-in-Ok-Parens-clause-reads
+primary-returns-in-Ok-Parens-clause-reads t c =
+    says_same (start_is c.args.words.now c.args.m c.in-Ok-Parens.is c.in-Ok-Parens.field-0-is c.primary_start.ensures.by_index c.args.text.now c.args.notes.now
     c.args.given _)
     c.parens.ensures.reads
 
-pub primary-returns-in-Template-clause-reads : goal.primary-returns-in-Template-clause-reads
-primary-returns-in-Template-clause-reads t c =
-    let is = start_is c.args.words.now c.args.m c.in-Template.is c.primary_start-o.ensures.by_index c.args.text.now c.args.notes.now
+pub primary-returns-in-Ok-Template-clause-reads : goal.primary-returns-in-Ok-Template-clause-reads
+primary-returns-in-Ok-Template-clause-reads t c =
+    let is = start_is c.args.words.now c.args.m c.in-Ok-Template.is c.in-Ok-Template.field-0-is c.primary_start.ensures.by_index c.args.text.now c.args.notes.now
     c.args.given _ in
     says_same is.0 (c.template.ensures.reads is.1)
-
-pub primary-returns-in-Nothing-clause-reads : goal.primary-returns-in-Nothing-clause-reads
-primary-returns-in-Nothing-clause-reads t c =
-    let has = start_has c.args.words.now c.args.m c.in-Nothing.is c.primary_start-o.ensures.start_has in
-    says_as refl
-    (says_stop (λ z. omega arith) (start_is c.args.words.now c.args.m c.in-Nothing.is c.primary_start-o.ensures.by_index c.args.text.now c.args.notes.now
-    c.args.given _))
 
 pub ret-returns-then-predicates-clause-reads : goal.ret-returns-then-predicates-clause-reads
 ret-returns-then-predicates-clause-reads t c =

@@ -19,4 +19,4 @@ tag_is Other = refl
 
 pub returns : goal.returns
 returns c =
-    rw (tag_is c.args.class) (class_read c.args.classes.now c.args.kind (bit_of c.args.class) c.requires.0 c.requires.1)
+    rw (tag_is c.args.class) (class_read _ c.args.kind (bit_of c.args.class) c.class_words.ensures c.requires)
