@@ -1,12 +1,12 @@
 -- Walking a node by its form in line: what a walk puts out, its steps, and what its functions answer, whatever the output is.
 use Rattle.std.specs.Prelude.{◌≡◌, List, [], ◌++◌, ℕ, ◌+◌, ◌-◌, ◌*◌, ◌/◌, ◌^◌, ◌≤◌, ◌<◌, length}
-use Rattle.keys.specs.Limits.{half_word, widest}
+use Rattle.keys.specs.Limits.{half_word, widest, count_width}
 use Rattle.keys.specs.Form.{Form, Grammar, width, branch, left, right, class}
 use Rattle.keys.specs.Store.{Run, done, chose, name, kid, called}
 use Rattle.keys.specs.Lines.{tagged, Of, levels}
 use Rattle.keys.specs.Holds.{word_at, child_at, next_at, Cursor, cursor, HoldsBy}
 use Rattle.fields.specs.Put.{far}
-use Rattle.node_table.specs.Forms.{spelling_if, form_of, grammar_of, table_most}
+use Rattle.node_table.specs.Forms.{spelling_if, form_of, grammar_of, table_words, table_most}
 use Rattle.node_table.specs.declared.moves.Mark.{Mark}
 use Rattle.node_table.specs.declared.moves.Walk.{Walk}
 
@@ -112,6 +112,11 @@ pub record Ready (most : ℕ) (k : List ℕ) (s : Walk) : Type 0 where
 -- Items may be put at a place: the numbers are small.
 abbrev pub MayPut : (k : List ℕ) (to : ℕ) → Type 0
 MayPut k to = (length k * 8 ≤ far) × (to ≤ far)
+
+-- A node whose class and word say all is put out, whatever store holds it and however much room is above it.
+abbrev pub NodedOnce : (O : Output) (P : ℕ → List ℕ → Type 0) (most d class word : ℕ) (o : Mark) (k : List ℕ) (q : Mark) (k' : List ℕ) → Type 0
+NodedOnce O P most d class word o k q k' =
+    (N : List ℕ) (left at : ℕ) → word_at N at ≡ word → Noded O (grammar_of (table_words count_width)) N P left d most class at o.name o.to k q.name q.to k'
 
 -- A walk may go on behind a child: there is one, and the numbers are small.
 abbrev pub MayGoOn : (most : ℕ) (k : List ℕ) (w : ℕ) (s : Walk) (o : Mark) → Type 0

@@ -1,10 +1,9 @@
 // The walk of a tree that stands in the store, node by node and by the node table, whatever it puts out.
 ghost use Rattle.std.specs.Prelude.{◌≡◌, List, ℕ, ◌+◌, ◌*◌, ◌≤◌, ◌<◌, ◌^◌, length, Bool, true};
 ghost use Rattle.keys.specs.Limits.{widest, half_word, count_width};
-ghost use Rattle.keys.specs.Holds.{word_at};
 ghost use Rattle.fields.specs.Put.{far};
 ghost use Rattle.node_table.specs.Forms.{entry_at, IsRow, Narrow, grammar_of, table_words, table_most};
-ghost use Rattle.node_table.specs.Moves.{Output, Sound, Spelled, Noded, Ready, OwnStep, After, Begun, MayPut, MayGoOn};
+ghost use Rattle.node_table.specs.Moves.{Output, Sound, Spelled, Noded, NodedOnce, Ready, OwnStep, After, Begun, MayPut, MayGoOn};
 
 use crate::forms::{Row, TABLE};
 use crate::moves::{Mark, Walk};
@@ -67,7 +66,7 @@ pub trait Sink: Copy {
         o: Mark,
     ) -> Mark
         requires { MayPut (seen items.old) o.to × (o.name ≤ most self) }
-        ensures { known class word ≡ true → (N : List ℕ) (left at : ℕ) → word_at N at ≡ word → Noded out (grammar_of (table_words count_width)) N (asks self) left depth (most self) class at o.name o.to (seen items.old) result.name result.to (seen items.new) };
+        ensures { known class word ≡ true → NodedOnce out (asks self) (most self) depth class word o (seen items.old) result (seen items.new) };
 
     ghost sound: { Sound out };
 }
