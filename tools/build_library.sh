@@ -1,7 +1,9 @@
 #!/bin/sh
 # build_library.sh [--unproved] [OUT]: the library for other languages, in OUT (target/lib): libtypekey.a, libtypekey.so, typekey.wasm.
-# It proves crates/typekey_c and all below it by `rt lib`, keeps the one LLVM module behind that archive (typekey.ll), whose tables
-# become constants (constants.py), and compiles all three from it. With --unproved nothing is proved: for trying things out only. It needs rt, gcc and python3.
+# It proves crates/typekey_c and all below it by `rt lib`, keeps the one LLVM module behind that archive, whose tables become constants
+# (constants.py), and compiles the first two from it (typekey.ll). For the third, where pointers have 32 bits, flat.py writes some lines of
+# the module otherwise; nothing rests on flat.py: check_ir.py goes through each line, and compiled for this machine the object has to be
+# the same. With --unproved nothing is proved: for trying things out only. It needs rt, gcc and python3.
 set -eu
 root=$(cd "$(dirname "$0")/.." && pwd -P)
 proved=yes out=$root/target/lib
@@ -69,31 +71,40 @@ END
     python3 "$root/tools/exports.py" "$work/try/typekey_try.ll" "$work/module.ll" typekey_try
 }
 
-# FILE for a target: the module without the words that name another processor, under the words by which the kit keeps LLVM from its known
+# FILE for a target, from a module: without the words that name another processor, under the words by which the kit keeps LLVM from its known
 # faults. Much is inlined, so that structs stay in registers: it takes less time, and less stack than LLVM's own measure. All is optimised
 # twice: what the first time finds out of a table counts in the second.
-compile() { # FILE TARGET FLAGS..
-    to=$1 target=$2; shift 2
+compile() { # FILE MODULE TARGET FLAGS..
+    to=$1 module=$2 target=$3; shift 3
     { "$clang" --target="$target" -S -emit-llvm -x c /dev/null -o - | grep '^target '
-      sed -e '/^target /d' -e 's/"target-cpu"="[^"]*"//; s/"probe-stack"="[^"]*"//' "$work/module.ll"; } >"$work/target.ll"
+      sed -e '/^target /d' -e 's/"target-cpu"="[^"]*"//; s/"probe-stack"="[^"]*"//' "$module"; } >"$work/target.ll"
     set -- $(grep -A 1 -xe -mllvm "$work/flags" | grep -vxe --) -Werror --target="$target" -O3 -mllvm -inline-threshold=1000 -mllvm -jump-threading-threshold=20 "$@"
     "$clang" "$@" -S -emit-llvm -x ir "$work/target.ll" -o "$work/once.ll"
     "$clang" "$@" -c -x ir "$work/once.ll" -o "$to"
 }
 
 if [ $proved = yes ]; then proved_module; else unproved_module; fi
-mv "$work/module.ll" "$work/wide.ll"; python3 "$root/tools/flat.py" "$work/wide.ll" "$work/module.ll"
-printf 'check_ir: '; python3 "$root/tools/check_ir.py" "$work/module.ll"
-mv "$work/module.ll" "$work/written.ll"; python3 "$root/tools/constants.py" "$work/written.ll" "$work/module.ll"
-
-compile "$work/typekey.o" "$machine-unknown-linux-gnu" -fPIC -ffunction-sections
+python3 "$root/tools/constants.py" "$work/module.ll" "$work/constant.ll"
+native() { compile "$1" "$2" "$machine-unknown-linux-gnu" -fPIC -ffunction-sections; }
+native "$work/typekey.o" "$work/constant.ll"
 cp "$work/target.ll" "$out/typekey.ll"
+
+# The module for 32 bits. check_ir.py is tried first, on modules that it has to refuse. Compiled for this machine, with the addresses as they
+# were, it has to give the object above.
+python3 "$root/tests/ir/run.py" "$clang"
+python3 "$root/tools/flat.py" "$work/module.ll" "$work/flat.ll"
+printf 'check_ir: '; python3 "$root/tools/check_ir.py" "$work/flat.ll" "$work/module.ll"
+python3 "$root/tools/constants.py" "$work/flat.ll" "$work/narrow.ll" >"$work/say"
+sed 's/^\(  %[A-Za-z0-9_.]* = \)ptrtoint \(ptr %[A-Za-z0-9_.]* to i64\)$/\1ptrtoaddr \2/' "$work/narrow.ll" >"$work/back.ll"
+native "$work/back.o" "$work/back.ll"
+cmp "$work/typekey.o" "$work/back.o" || { echo "build_library.sh: for this machine the module that flat.py wrote gives another object than the one that it was given" >&2; exit 1; }
+
 ar rcs "$out/libtypekey.a" "$work/typekey.o"
 echo '{ global: typekey_*; local: *; };' >"$work/exports"
 gcc -shared -s "$work/typekey.o" -Wl,--gc-sections -Wl,--no-undefined -Wl,--version-script="$work/exports" -o "$out/libtypekey.so"
 
 # The stack stands first in the memory, so that running out of it is a trap. Pointers have 32 bits: the memory stays below 2 GiB.
-compile "$work/wasm.o" wasm32-unknown-unknown -mbulk-memory
+compile "$work/wasm.o" "$work/narrow.ll" wasm32-unknown-unknown -mbulk-memory
 ln -s "$clang" "$work/wasm-ld"
 "$work/wasm-ld" -mwasm32 --no-entry --export=typekey_read --export=typekey_take_back --export=typekey_differ --export=__heap_base \
     --stack-first -z stack-size=1048576 --initial-memory=4194304 --max-memory=1073741824 --strip-all "$work/wasm.o" -o "$out/typekey.wasm"
