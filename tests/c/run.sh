@@ -10,6 +10,9 @@ build() { # TO FROM FLAGS..
     to=$1 from=$2; shift 2
     gcc -std=c99 -O2 -Wall -Wextra -Werror "$@" -I "$root/include" "$root/$from" "$lib/libtypekey.a" -o "$work/$to"
 }
+# What the archive asks of its callers: two names, and no more.
+needs=$(nm -u "$lib/libtypekey.a" | sed -n 's/^ *U //p' | sort -u | tr '\n' ' ')
+[ "$needs" = "memcpy memset " ] || { echo "the archive needs $needs from outside, not memcpy and memset alone"; exit 1; }
 python3 "$root/tests/c/check_header.py"
 for t in vectors edges members fuzz; do build $t tests/c/$t.c; done
 build example examples/c/read.c -pedantic

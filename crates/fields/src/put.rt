@@ -94,7 +94,7 @@ fn put_whole(bytes: &[u8], key: &mut [u8], at: usize)
     requires { (length key.old * 8 ≤ far) × (at + length bytes.now ≤ length key.old) }
     ensures { bits_of_bytes key.new ≡ sets (bits_of_bytes key.old) (at * 8) (bits_of_bytes bytes.now) }
 {
-    key[at..at + bytes.len()].copy_from_slice(bytes);
+    take::copy(bytes, &mut key[at..at + bytes.len()]);
 }
 
 // Bytes that stand across bytes of the key, behind `skip` bits.

@@ -81,12 +81,22 @@ pub(crate) fn between(first: u8, second: u8, behind: usize) -> u8
     (((u32::from(first) * 256 + u32::from(second)) >> behind) % 256) as u8
 }
 
+// Bytes one by one: for a copy of a whole slice C would have to bring `memmove` too.
+pub(crate) fn copy(from: &[u8], to: &mut [u8])
+    requires { length from.now ≡ length to.old }
+    ensures { to.new ≡ from.now }
+{
+    for (i, byte) in to.iter_mut().enumerate() {
+        *byte = from[i];
+    }
+}
+
 // The bytes of a spelling that begins with a byte.
 fn copy_whole(key: &[u8], from: usize, to: &mut [u8])
     requires { (length key.now ≤ longest_key) × (from + length to.old ≤ length key.now) }
     ensures { Copied (bits_of_bytes key.now) (from * 8) to.old 0 (length to.old) to.new }
 {
-    to.copy_from_slice(&key[from..from + to.len()]);
+    copy(&key[from..from + to.len()], to);
 }
 
 // The bytes of a spelling that begins inside a byte, behind `skip` bits.

@@ -9,5 +9,5 @@ use Rattle.fields.proofs.put.put_whole.Goals as goal
 
 pub returns : goal.returns
 returns c =
-    mid_put c.args.key.now c.copy_from_slice.new.self c.args.at _ (omega (arith, ap length c.copy_from_slice.ensures.after)) (omega (arith, ap length c.copy_from_slice.ensures.after))
-    ∙ ap (λ x. sets (bits_of_bytes c.args.key.now) (c.args.at * 8) (bits_of_bytes x)) c.copy_from_slice.ensures.after
+    mid_put c.args.key.now c.copy.new.to c.args.at _ (omega (arith, ap length c.copy.ensures)) (omega (arith, ap length c.copy.ensures))
+    ∙ ap (λ x. sets (bits_of_bytes c.args.key.now) (c.args.at * 8) (bits_of_bytes x)) c.copy.ensures
