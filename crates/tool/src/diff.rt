@@ -54,8 +54,8 @@ fn show_trees(
     form: Form,
 ) -> Result<(), AllocError> {
     let alloc = *room.key.allocator();
-    let mut others = vec![in alloc; 0; room.names.len()]?;
-    let mut marks = vec![in alloc; 0; room.letters.len()]?;
+    let mut others = vec![in alloc; 0; right.len().min(room.names.len())]?;
+    let mut marks = vec![in alloc; 0; right.len().min(room.letters.len())]?;
     let Room {
         nodes,
         names,
