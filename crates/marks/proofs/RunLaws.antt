@@ -10,7 +10,7 @@ use Rattle.keys.specs.Table.{times}
 use Rattle.keys.specs.Placed.{Placed, void, said, pick, join, tree, bare, Spelling, entries}
 use Rattle.keys.specs.Store.{Run, done, chose, name, kid, plant, under, called, first_kid, records, names_in, ◌⊕◌}
 use Rattle.keys.proofs.StoreLaws.{join_done, join_join, plant_join}
-use Rattle.marks.specs.Laid.{heights, skeleton, run_in, runs, names_run}
+use Rattle.marks.specs.Laid.{heights, skeleton, run_in, runs, names_run, IsNode, node}
 
 -- ---- Without choices
 
@@ -96,6 +96,9 @@ no_nodes done h = refl
 no_nodes (chose w k a) h = no_nodes a h
 no_nodes (name x s a) h = no_nodes a h
 no_nodes (kid first end b a) h = absurd (omega arith)
+
+pub node_high : {c : ℕ} {t : Placed} → IsNode c t → 0 < heights (run_in c t)
+node_high (node a) = omega arith
 
 -- ---- Names alone
 

@@ -33,3 +33,7 @@ module _ {A : Type 0} {step : (State → Result A) → Result A} {m : Mark} {O :
         kept = λ z B t N M d. laid_reported r k (laid_at m p u n o d);
         refused = λ z on. f on ∙ reports_refused text W on r z;
       }
+
+  -- The same step under another name.
+  pub step_same : {other : (State → Result A) → Result A} {a : Answer} {O' : List ℕ} → ((on : State → Result A) → other on ≡ step on) → SaysStep step m O a O' → SaysStep other m O a O'
+  step_same e w = record { done = λ z on. e on ∙ w.done z on; kept = w.kept; refused = λ z on. e on ∙ w.refused z on }

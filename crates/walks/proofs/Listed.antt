@@ -25,6 +25,10 @@ words_append : (l m : List Pair) → words_of (l ++ m) ≡ words_of l ++ words_o
 words_append [] m = refl
 words_append (x ∷ l) m = ap (λ (y : List ℕ). x.0 ∷ x.1 ∷ y) (words_append l m)
 
+pub words_length : (l : List Pair) → length (words_of l) ≡ length l * 2
+words_length [] = refl
+words_length (x ∷ l) = let i = words_length l in omega arith
+
 kept_prefix : (m : List ℕ) (ps new : List Pair) → Begins m (ps ++ new) → Begins m ps
 kept_prefix m ps new K k h l = K k (omega (arith, length-append ps new)) l ∙ ap words_of (take_prefix k ps new h)
 
