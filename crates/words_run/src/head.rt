@@ -1,5 +1,5 @@
 // A record's head.
-ghost use Rattle.std.specs.Prelude.{◌<◌, ◌≤◌, ◌^◌};
+ghost use Rattle.std.specs.Prelude.{◌≡◌, ◌<◌, ◌≤◌, ◌^◌};
 
 use lines::record::four;
 use words::cursor::Cursor;
@@ -29,7 +29,7 @@ impl From<[u8; 17]> for Head {
 impl Head {
     // A cursor at a token, or at its second half.
     pub fn cursor(&self) -> Cursor
-        ensures { (result.at < 2 ^ 32) × (result.half ≤ 1) }
+        ensures { (result.at ≡ self.now.a) × (result.at < 2 ^ 32) × (result.half ≤ 1) }
     {
         Cursor {
             at: self.a as usize,
