@@ -68,19 +68,25 @@ impl Out {
         }
     }
 
-    // What is gathered goes out, to an open file.
-    pub fn flush_to(&mut self, fd: i32) {
+    // What is gathered goes out, to an open file; nothing is then left to go out.
+    pub fn flush_to(&mut self, fd: i32)
+        ensures { self.new.len ≡ 0 }
+    {
         io::write_all(fd, &self.buffer[..self.len]);
         self.len = 0;
     }
 
-    // What is gathered goes out.
-    pub fn flush(&mut self) {
+    // The same, to standard output.
+    pub fn flush(&mut self)
+        ensures { self.new.len ≡ 0 }
+    {
         self.flush_to(1);
     }
 
     // The last line, of a record that is cut.
-    pub fn cut(&mut self) {
+    pub fn cut(&mut self)
+        ensures { self.new.len ≡ 0 }
+    {
         self.bytes(b"cut\n");
         self.flush();
     }

@@ -125,7 +125,9 @@ pub fn opened<R: Env + Files>(rt: &R) -> Option<R::File> {
 }
 
 // What is gathered goes out at the end of a run, after a line where a record is cut.
-pub fn ended(out: &mut Out, run: Result<(), Cut>) {
+pub fn ended(out: &mut Out, run: Result<(), Cut>)
+    ensures { out.new.len ≡ 0 }
+{
     match run {
         Ok(()) => out.flush(),
         Err(Cut) => out.cut(),
