@@ -1,5 +1,5 @@
 // What a program is given: its arguments, and the files that they name. What is not to be had is said on standard error.
-ghost use Rattle.std.specs.Prelude.{◌≡◌, ◌-◌, ◌<◌, ◌≤◌, length};
+ghost use Rattle.std.specs.Prelude.{◌≡◌, ◌-◌, ◌<◌, ◌≤◌, length, take};
 ghost use Rattle.io.specs.Counts.{IsPrefixLen};
 
 use std::fs;
@@ -23,7 +23,10 @@ pub fn complain(what: &[u8], why: &[u8]) {
 }
 
 // Of an error's text, all but the system's number: what comes before the last `(` and the blank there.
-fn message(text: &[u8]) -> &[u8] {
+fn message(text: &[u8]) -> &[u8]
+    ensures len { length result.now ≤ length text.now }
+    ensures value { result.now ≡ take (length result.now) text.now }
+{
     match text.iter().rposition(|b| *b == b'(') {
         Some(i) if 0 < i => &text[..i - 1],
         _ => text,
