@@ -36,7 +36,15 @@ impl Summed for u64 {
 impl Sum {
     // No number yet.
     pub fn new() -> Sum {
-        Sum { value: 1 }
+        Sum::begun(1)
+    }
+
+    // The sum that a word tells: what comes next goes on from there.
+    pub fn begun(value: u64) -> Sum
+        requires { value < 4294967291 }
+        ensures { result.value ≡ value }
+    {
+        Sum { value }
     }
 
     // With one number more: 1,000,003 times the sum, and the number.
@@ -57,7 +65,8 @@ impl Sum {
 
     // The sum as a word.
     pub fn word(self) -> u64
-        ensures { result < 4294967291 }
+        ensures below { result < 4294967291 }
+        ensures value { result ≡ self.value }
     {
         self.value
     }
