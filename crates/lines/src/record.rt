@@ -10,6 +10,9 @@ use std::env::FillError;
 use std::io::{BufReader, Read};
 use std::rt::{Env, Files};
 
+// How many words are read at once.
+const AT_ONCE: usize = 128;
+
 // A record that the file cuts short, or that is too large.
 #[derive(Clone, Copy)]
 pub struct Cut;
@@ -67,22 +70,40 @@ fn word_of(eight: [u8; 8]) -> u64
     u64::from_le_bytes(eight)
 }
 
-// The next word of a reader.
-fn load_word<R: Read>(from: &mut R) -> Result<u64, Cut>
-    ensures { IfOk result (λ word. Consumes (R.remaining from.old) (R.remaining from.new) (to_le_bytes w64 word)) }
+// Words out of their bytes.
+fn put_words(bytes: &[u8], words: &mut [u64])
+    requires { length bytes.now ≡ 8 * length words.old }
+    ensures { flat_map (to_le_bytes w64) words.new ≡ bytes.now }
 {
-    let mut eight = [0u8; 8];
-    load(from, &mut eight)?;
-    Ok(word_of(eight))
+    let (eights, _) = bytes.as_chunks::<8>();
+    for (i, word) in words.iter_mut().enumerate() {
+        *word = word_of(eights[i]);
+    }
 }
 
-// The next words of a reader.
+// The next words of a reader, no more than are read at once.
+fn load_part<R: Read>(from: &mut R, words: &mut [u64]) -> Result<(), Cut>
+    requires { length words.old ≤ 128 }
+    ensures len { length words.new ≡ length words.old }
+    ensures read { OnOk result (Consumes (R.remaining from.old) (R.remaining from.new) (flat_map (to_le_bytes w64) words.new)) }
+{
+    let mut buffer = [0u8; 8 * AT_ONCE];
+    let bytes = &mut buffer[..8 * words.len()];
+    load(from, bytes)?;
+    put_words(bytes, words);
+    Ok(())
+}
+
+// The next words of a reader. The last part may be shorter.
 pub fn load_words<R: Read>(from: &mut R, words: &mut [u64]) -> Result<(), Cut>
     ensures len { length words.new ≡ length words.old }
     ensures read { OnOk result (Consumes (R.remaining from.old) (R.remaining from.new) (flat_map (to_le_bytes w64) words.new)) }
 {
-    for word in words {
-        *word = load_word(from)?;
+    let mut done = 0;
+    while done < words.len() {
+        let end = words.len().min(done + AT_ONCE);
+        load_part(from, &mut words[done..end])?;
+        done = end;
     }
     Ok(())
 }

@@ -1,22 +1,23 @@
--- `record::load_words` goes on: the eight bytes that were read are the next word's.
-use Rattle.std.proofs.Common.{ℕ, ◌+◌, ◌<◌, List, [], ◌∷◌, ◌++◌, arith, length, take, slice_set, sym, ap, ◌∙◌, subst}
-use Rattle.std.specs.Prelude.{flat_map}
+-- `record::load_words` goes on: the bytes that were read are those of the next words.
+use Rattle.std.proofs.Common.{◌≡◌, ℕ, ◌+◌, ◌≤◌, List, rules, arith, length, take, sym, ap, ◌∙◌, subst}
+use Rattle.std.specs.Prelude.{flat_map, Option}
 use Rattle.std.specs.Int.{to_le_bytes, w64}
 use Rattle.std.specs.Io.KnownBytes.{Consumes}
-use Rattle.std.specs.Prelude.{Option}
 use Rattle.std.proofs.KnownBytes.{Consumes-trans}
 use Rattle.std.proofs.lemmas.Grind.{flat_map-append}
-use Rattle.std.proofs.lemmas.List.{append-nil, length-set, take_more_set}
+use Rattle.std.proofs.lemmas.Slice.{take-put_mid}
+use borrow.Rule.Slice.PartMut.{put_mid}
 use Rattle.lines.proofs.record.load_words.Goals as goal
 
-word_read : (a b d : Option (List ℕ)) (xs : List ℕ) (i w : ℕ) → i < length xs → Consumes a b (flat_map (to_le_bytes w64) (take i xs)) → Consumes b d (to_le_bytes w64 w) → Consumes a d (flat_map (to_le_bytes w64) (take (i + 1) (slice_set xs i w)))
-word_read a b d xs i w lt before now =
+part_read : (a b d : Option (List ℕ)) (xs ys : List ℕ) (i n k : ℕ) → i ≤ length xs → n ≡ i + length ys → Consumes a b (flat_map (to_le_bytes w64) (take i xs)) → Consumes b d (flat_map (to_le_bytes w64) ys) → Consumes a d (flat_map (to_le_bytes w64) (take n (put_mid i k xs ys)))
+part_read a b d xs ys i n k within end before now =
     let f = to_le_bytes w64 in
-    let more = ap (flat_map f) (take_more_set xs i w lt) ∙ flat_map-append f (take i xs) (w ∷ []) ∙ ap (λ l. flat_map f (take i xs) ++ l) (append-nil (f w)) in
-    subst (Consumes a d) (sym more) (Consumes-trans a b d _ _ before now)
+    let joined = sym (flat_map-append f (take i xs) ys) ∙ ap (flat_map f) (sym (take-put_mid i k xs ys n end within)) in
+    subst (Consumes a d) joined (Consumes-trans a b d _ _ before now)
 
-pub loop-word-preserved : goal.loop-word-preserved
-loop-word-preserved g c = record {
-  same = length-set _ _ _ ∙ c.loop-word.invariant.same;
-  read = word_read _ _ _ c.loop-word.word-items _ _ (omega arith) c.loop-word.invariant.read c.in_ok-word.ensures;
+pub loop-done-preserved : goal.loop-done-preserved
+loop-done-preserved g c = record {
+  same = search rules;
+  within = search rules;
+  read = part_read _ _ _ c.loop-done.words c.load_part.new.words c.loop-done.done _ _ c.loop-done.invariant.within (omega arith) c.loop-done.invariant.read c.in_ok-load_part.ensures.read;
 }
