@@ -1,6 +1,7 @@
 // The text or the key that an argument names.
-ghost use Rattle.std.specs.Prelude.{◌≤◌, length, IfSome};
+ghost use Rattle.std.specs.Prelude.{◌≤◌, ℕ, length, take, IfSome};
 ghost use Rattle.io.specs.Counts.{IsPrefixLen};
+ghost use Rattle.std.specs.Io.KnownBytes.{Consumes};
 
 use lines::given::{argument, file};
 use lines::record::filled;
@@ -18,9 +19,10 @@ fn trimmed(text: &[u8]) -> usize
     }
 }
 
-// What a reader has left, as far as there is room; its length.
+// What a reader has left, as far as there is room; its length, which is no more than was read.
 fn read_all<R: Read>(from: &mut R, text: &mut [u8]) -> usize
-    ensures { IsPrefixLen result text.new }
+    ensures in_bounds { IsPrefixLen result text.new }
+    ensures read { (n : ℕ) × (result ≤ n) × IsPrefixLen n text.new × Consumes (R.remaining from.old) (R.remaining from.new) (take n text.new) }
 {
     let n = filled(from, text);
     trimmed(&text[..n])
