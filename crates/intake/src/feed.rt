@@ -1,10 +1,11 @@
 // Lines of a reader, and what is said around each.
-ghost use Rattle.std.specs.Prelude.{◌≤◌, length, IfSome};
+ghost use Rattle.std.specs.Prelude.{◌≡◌, ◌≤◌, ⊤, length, IfSome};
 ghost use Rattle.io.specs.Counts.{IsPrefixLen};
 
 use lines::line::Out;
 use speech::ask::{Form, Job};
 use speech::put::{Shape, copy, numbered};
+use std::alloc::AllocError;
 use std::io::Read;
 
 // A reader, and its input that is at hand: the next byte and the end of it.
@@ -17,6 +18,19 @@ pub struct Feed<R> {
     ghost in_order: { at ≤ end },
     ghost in_bounds: { end ≤ 65536 },
 }
+
+// Where its reader may be copied, it may be.
+impl<R: Copy> Clone for Feed<R> {
+    ghost is_clone = { λ feed copy. copy ≡ feed };
+
+    ghost is_infallible = { λ _. ⊤ };
+
+    fn clone(&self) -> Result<Feed<R>, AllocError> {
+        Ok(*self)
+    }
+}
+
+impl<R: Copy> Copy for Feed<R> {}
 
 // Bytes behind those that a text has already, as far as there is room; how many it has then.
 fn kept(text: &mut [u8], size: usize, bytes: &[u8]) -> usize
