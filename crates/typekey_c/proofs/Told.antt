@@ -2,6 +2,8 @@
 use mathlib.Core.Path.{◌≡◌, ap, ◌∙◌}
 use mathlib.Core.List.{List}
 use Prim.Native.Nat.{ℕ}
+use Rattle.std.specs.Prelude.{Result, Ok, Err, MatchResult, IsErrAnd}
+use Rattle.std.proofs.lemmas.Result.{err_from_is_err_and}
 use Rattle.keys.specs.Store as store
 use Rattle.keys.specs.Store.{TakenBack}
 use Rattle.rules.specs.Read as rules
@@ -10,6 +12,12 @@ use Rattle.differs.specs.Differ as differs
 use Rattle.differs.specs.Differ.{Differed}
 use Rattle.told.specs.Answer.{told, told_back, told_difference}
 use Rattle.typekey_c.specs.Words.{TellsIn, TellsBackIn, TellsDifferenceIn}
+
+-- What a refusal is told by comes to the same answer, if it does for each.
+pub told_by : {T E D A : Type 0} (of : Result T E → A) (by : Result T D → A) (number : E → D) → ((x : T) → by (Ok x) ≡ of (Ok x)) → ((e : E) → by (Err (number e)) ≡ of (Err e))
+    → (r : Result T E) (d : Result T D) → MatchResult r (λ x. d ≡ Ok x) (λ e. IsErrAnd d (λ y. y ≡ number e)) → by d ≡ of r
+told_by of by number read refused (Ok x) d is = ap by is ∙ read x
+told_by of by number read refused (Err e) d is = let found = err_from_is_err_and d is in ap by found.1 ∙ ap (λ y. by (Err y)) found.2 ∙ refused e
 
 pub tells : {c : Called} {a : rules.Answer} {A N M O K : List ℕ} → record { answer = a; node_words = N; name_words = M; note_words = O; key = K } ≡ c → A ≡ told a
     → TellsIn c A N M O K

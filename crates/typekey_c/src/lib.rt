@@ -3,7 +3,9 @@
 
 ghost use Rattle.typekey_c.specs.Words.{Tells, TellsBack, TellsDifference};
 
-use told::answer::{tell_difference, tell_reading, tell_taking};
+use told::answer::{
+    Denied, DeniedBack, DeniedDifference, tell_difference, tell_reading, tell_taking,
+};
 use told::options::preserve_parens;
 use typekey::differing::differ;
 use typekey::reading::read;
@@ -27,7 +29,7 @@ pub extern "C" fn typekey_read(
 {
     let parens = preserve_parens(options);
     let r = read(text, tokens, start, parens, nodes, names, notes, key);
-    tell_reading(r, answer);
+    tell_reading(r.map_err(Denied::from), answer);
 }
 
 // Takes a key back. The answer is 0, then nodes, names and bytes of text; or the refusal's number and bit. The other words are 0.
@@ -42,7 +44,7 @@ pub extern "C" fn typekey_take_back(
     ensures { TellsBack key nodes names text answer }
 {
     let r = take_back(key, nodes, names, text);
-    tell_taking(r, answer);
+    tell_taking(r.map_err(DeniedBack::from), answer);
 }
 
 // Says what differs between two keys. The answer is 0 and how many pairs there are; or the refusal's number, side and bit. The other words are 0.
@@ -51,5 +53,5 @@ pub extern "C" fn typekey_differ(left: &[u8], right: &[u8], list: &mut [u64], an
     ensures { TellsDifference left right list answer }
 {
     let r = differ(left, right, list);
-    tell_difference(r, answer);
+    tell_difference(r.map_err(DeniedDifference::from), answer);
 }
