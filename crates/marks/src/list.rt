@@ -1,11 +1,10 @@
 // Lists: what stands between entries, and their end.
 ghost use Rattle.std.specs.Prelude.{◌*◌, ◌≤◌, ◌<◌, length};
 ghost use Rattle.marks.specs.State.{Sound, Inside, Fine, Moved, Under};
-ghost use Rattle.marks.specs.Number.{number_of};
 ghost use Rattle.marks.specs.Told.{told_mark, told_list};
 ghost use Rattle.marks.specs.List.{Follows, Ends, EndsAt};
 
-use crate::notes::{Note, Noting, report_if};
+use crate::notes::{Noting, report_if};
 use crate::state::{Entries, Given, Kids, Mark, Stop, end_byte, kind_at, next};
 use words::kind::Kind;
 use words::refusal::Refusal;
@@ -29,18 +28,18 @@ pub fn past_comma(words: &[u64], close: usize, m: Mark) -> Result<Mark, Stop>
     Ok(next(m))
 }
 
-// At the closing mark: a diagnostic from byte `first` on if nothing is in the list.
+// At the closing mark: a diagnostic, whose number is any, from byte `first` on if nothing is in the list.
 pub fn list_end(
     words: &[u64],
     notes: &mut [u64; Noting::WORDS],
     given: Given,
-    n: Note,
+    number: usize,
     first: usize,
     k: Kids,
     m: Mark,
 ) -> Result<Entries, Stop>
     requires { Sound words.now × Fine (length words.now) given m × (m.at < length words.now) × Under m.used k }
-    ensures ends { Ends words.now given (number_of n) first k m notes.old (told_list result) notes.new }
+    ensures ends { Ends words.now given number first k m notes.old (told_list result) notes.new }
     ensures ends_at { EndsAt given m (told_list result) }
 {
     let p = next(m);
@@ -48,7 +47,7 @@ pub fn list_end(
         k.count == 0,
         notes,
         given,
-        n.number(),
+        number,
         first,
         end_byte(words, p),
         p,

@@ -307,7 +307,15 @@ fn tparams(
         p = past_comma(words, Kind::R_ANGLE, q)?;
     }
     let first = first_byte(words, m);
-    list_end(words, notes, given, Note::EmptyTypeParameters, first, k, p)
+    list_end(
+        words,
+        notes,
+        given,
+        Note::EmptyTypeParameters as usize,
+        first,
+        k,
+        p,
+    )
 }
 
 // Type parameters: a name, its constraint and its default, if they stand there.
@@ -860,7 +868,15 @@ fn targs(
         p = past_comma(words, Kind::R_ANGLE, a.m)?;
     }
     let first = first_byte(words, m);
-    list_end(words, notes, given, Note::EmptyArguments, first, k, p)
+    list_end(
+        words,
+        notes,
+        given,
+        Note::EmptyArguments as usize,
+        first,
+        k,
+        p,
+    )
 }
 
 // Primary: brackets, which are a node of their own if asked for.
