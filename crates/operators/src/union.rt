@@ -16,7 +16,17 @@ fn alone(words: &[u64], mark: usize, k: Kids, m: Mark) -> bool
     k.count == 0 && kind_at(words, m) != mark
 }
 
-// The last part was read: alone it is just that, unless a mark stood before it, else it ends the list of a node, whose tag is any number: docs/PROMISES names `joined`.
+// A part as one that was read: a refused one has no height.
+fn as_read(a: Result<Read, Stop>) -> Read
+    ensures { result ≡ record { high = (told a).high; m = (told a).m } }
+{
+    match a {
+        Ok(r) => r,
+        Err(e) => Read { high: 0, m: e.m },
+    }
+}
+
+// The last part: alone it is just that, a refused one too, unless a mark stood before it; else it ends the list of a node, whose tag is any number: docs/PROMISES names `joined`.
 pub fn joined(
     words: &[u64],
     nodes: &mut [u64],
@@ -26,16 +36,17 @@ pub fn joined(
     k: Kids,
     before: usize,
     m: Mark,
-    a: Read,
+    a: Result<Read, Stop>,
 ) -> Result<Read, Stop>
-    requires sound { Sound words.now × (given.room * record_words ≤ length nodes.old) × Fine (length words.now) given a.m × Under before k × (before < a.m.used) }
-    requires high_le_tallest { (a.high ≤ tallest) × (m.half ≤ 1) × (m.named ≤ most_tokens) × (tag < 64) }
-    ensures joins { Joins words.now given mark tag k before m nodes.old (told (Ok a)) (told result) nodes.new }
-    ensures joined_at { JoinedAt given (told (Ok a)) (told result) }
+    requires sound { Sound words.now × (given.room * record_words ≤ length nodes.old) × Fine (length words.now) given (told a).m × Under before k × (before < (told a).m.used) }
+    requires high_le_tallest { ((told a).high ≤ tallest) × (m.half ≤ 1) × (m.named ≤ most_tokens) × (tag < 64) }
+    ensures joins { Joins words.now given mark tag k before m nodes.old (told a) (told result) nodes.new }
+    ensures joined_at { JoinedAt given (told a) (told result) }
 {
     if alone(words, mark, k, m) {
-        return Ok(a);
+        return a;
     }
-    let l = link(nodes, k, before, a.m.used, a.high);
-    put_list(words, nodes, given, Begin::at(words, m), tag, l, a.m)
+    let r = as_read(a);
+    let l = link(nodes, k, before, r.m.used, r.high);
+    put_list(words, nodes, given, Begin::at(words, m), tag, l, r.m)
 }

@@ -587,7 +587,7 @@ fn union(
                 k,
                 p.used,
                 m,
-                a,
+                Ok(a),
             );
         }
         k = link(nodes, k, p.used, q.used, a.high);
@@ -634,7 +634,7 @@ fn inter(
                 k,
                 p.used,
                 m,
-                a,
+                Ok(a),
             );
         }
         k = link(nodes, k, p.used, q.used, a.high);
