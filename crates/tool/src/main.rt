@@ -10,18 +10,38 @@ mod work;
 
 use crate::work::Work;
 use intake::source::sought;
+use lines::line::Out;
 use lines::room::letter_room;
 use speech::ask::{Asked, Source, all_arguments, complain};
 use speech::help::{help, version};
 use std::alloc::AllocError;
 use std::io::Input;
 
+// Prints the help or the version, which need no room for a reading; whether one of them is asked for.
+fn printed(source: Source) -> bool {
+    match source {
+        Source::Help => {
+            let mut out = Out::new();
+            help(&mut out);
+            out.flush();
+            true
+        }
+        Source::Version => {
+            let mut out = Out::new();
+            version(&mut out);
+            out.flush();
+            true
+        }
+        _ => false,
+    }
+}
+
 // Answers what is asked for; a text or an argument has room in a buffer.
 fn answer(rt: &HostRuntime, asked: Asked, text: &mut [u8]) -> Result<(), AllocError> {
     let mut work = Work::new(rt.alloc(), asked.job)?;
     match asked.source {
-        Source::Help => help(&mut work.out),
-        Source::Version => version(&mut work.out),
+        // printed already, before any room was made
+        Source::Help | Source::Version => {}
         Source::Type(place) => {
             if let Some(n) = sought(rt, place, text) {
                 work.show(&text[..n]);
@@ -47,6 +67,7 @@ fn answer(rt: &HostRuntime, asked: Asked, text: &mut [u8]) -> Result<(), AllocEr
 fn main(rt: HostRuntime) {
     let mut text = letter_room();
     match all_arguments(&rt, &mut text) {
+        Ok(Asked { source, .. }) if printed(source) => {}
         Ok(asked) => {
             if answer(&rt, asked, &mut text).is_err() {
                 io::write_all(2, b"typekey: there is too little memory\n");
